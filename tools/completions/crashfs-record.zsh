@@ -3,16 +3,16 @@
 _arguments -S \
     '(-h --help)'{-h,--help}'[show this help message and exit]' \
     '--version[show program’s version number and exit]' \
-    '--mapped[follow what is stored through shared mappings too]' \
-    '--ignore[leave out what matches, by the rules of .gitignore]:GLOB:_files' \
-    '--say-fd[acknowledged are the lines of COMMAND’s descriptor N, not those of standard output]:N:_files' \
+    '--mapped[also record stores through shared mappings]' \
+    '--ignore[leave out files that match, by the rules of .gitignore]:GLOB:_files' \
+    '--say-fd[take the acknowledged lines from COMMAND’s descriptor N, not from standard output]:N:_files' \
     '--no-say[do not warn if no line is acknowledged, or all are in one write]' \
     '--stacks[note at each operation which of COMMAND’s functions made it]' \
-    '--begin-after[begin the trace after the acknowledged line of that number, or the first that matches]:LINE:_files' \
+    '--begin-after[begin the trace after the acknowledged line with this number, or after the first that matches]:LINE:_files' \
     '--profile[which directory operations the file system keeps in order]:PROFILE:(blocks ordered)' \
-    '--block[the size of what the disk writes whole]:BLOCK:(512 1024 2048 4096)' \
-    '--crashfs[the program that gives the last state]:PATH:_files' \
+    '--block[how many bytes the disk writes whole]:BLOCK:(512 1024 2048 4096)' \
+    '--crashfs[the program crashfs, for the comparison at the end]:PATH:_files' \
     '--keep-log[keep strace’s log]:FILE:_files' \
-    '--from-log[run nothing]:FILE:_files' \
+    '--from-log[run nothing, but convert the log of an earlier run]:FILE:_files' \
     '--log-dir[with --from-log]:PATH:_files' \
     '*:file:_files'

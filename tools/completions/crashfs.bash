@@ -17,17 +17,17 @@ _crashfs() {
                             -h --help --lines --same --json --holes --picks --trace' ;;
                     tar)
                         words='
-                            -h --help --state --states --holes --picks --trace' ;;
+                            -h --help --changes --state --states --holes --picks --trace' ;;
                     picks)
                         words='
                             -h --help --lost --files --trace' ;;
                     script)
                         words='
-                            -h --help --verbose --holes --picks --trace --users' ;;
+                            -h --help --verbose --users --holes --picks --trace' ;;
                     serve)
                         words='
-                            -h --help --again --ready --reload --verbose --client --listen
-                            --workers --connections --users --holes --picks --trace' ;;
+                            -h --help --again --ready --reload --verbose --client --users
+                            --listen --workers --connections --holes --picks --trace' ;;
                 esac
             fi
             ;;

@@ -28,6 +28,7 @@ else
         tar)
             _arguments \
                 '(-h --help)'{-h,--help}'[Prints the help]' \
+                '--changes[Only what differs from the start tree\: new and changed files below N/, and a file N.missing of the paths that are gone, each with a NUL after it]' \
                 '--state[The state of that number]:N:_files' \
                 '--states[The states of a list, as 3,7-9, each below a directory of its number]:LIST:_files' \
                 '--holes[Adds the states of prefixes with a hole]' \
@@ -45,10 +46,10 @@ else
             _arguments \
                 '(-h --help)'{-h,--help}'[Prints the help]' \
                 '--verbose[Prints each message and its reply as text on standard error]' \
+                '--users[The users file, as users(6) has it]:FILE:_files' \
                 '--holes[Adds the states of prefixes with a hole]' \
                 '--picks[Adds the states of these sets, one JSON array of places a line]:FILE:_files' \
                 '--trace[The same as TRACE]:FILE:_files' \
-                '--users[The users file, as users(6) has it]:FILE:_files' \
                 '1:TRACE:_files' ;;
         serve)
             _arguments \
@@ -58,10 +59,10 @@ else
                 '--reload[Reads the users file again for each connection\: later runs have its users]' \
                 '--verbose[Prints connections, messages with their replies, and attaches on standard error]' \
                 '--client[Whose clients connect\: Linux’s own needs other texts of errors]:CLIENT:(plan9 linux)' \
+                '--users[The users file, as users(6) has it; default\: the owners and groups of the trace]:FILE:_files' \
                 '--listen[The address and port to listen on; port 0 lets the system choose one]:ADDR:_files' \
                 '--workers[How many threads make the states, 1 to 64; default\: one a processor]:N:_files' \
                 '--connections[How many connections are served\: before the end, or at once; 1 to 64, default 64]:N:_files' \
-                '--users[The users file, as users(6) has it]:FILE:_files' \
                 '--holes[Adds the states of prefixes with a hole]' \
                 '--picks[Adds the states of these sets, one JSON array of places a line]:FILE:_files' \
                 '--trace[The same as TRACE]:FILE:_files' \

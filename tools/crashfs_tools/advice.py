@@ -13,14 +13,16 @@ ATOMIC = 'write a new file, sync it, rename it, sync the directory'
 @dataclass
 class Tried:
     """What came of advice that was tried on a copy of the trace: how many of the group's states
-    are left, of how many; how many other states fail, and how many of them are new."""
+    are left, of how many; how many other states fail, and how many of them failed before too."""
 
     left: int
     total: int
     others: int
+    still: int = 0
 
     def __add__(self, other: Tried) -> Tried:
-        return Tried(self.left + other.left, self.total + other.total, self.others + other.others)
+        return Tried(self.left + other.left, self.total + other.total, self.others + other.others,
+                     self.still + other.still)
 
     def text(self, syncs: int) -> str:
         that = 'that sync' if syncs == 1 else f'those {syncs:,} syncs'
@@ -32,7 +34,9 @@ class Tried:
             line += f', so {"one sync is" if syncs == 1 else "they are"} not enough'
         if self.others == 0:
             return f'{line}, and no other fails'
-        return f'{line}, and {self.others:,} other{"s fail" if self.others > 1 else " fails"}'
+        still = ' still' if self.still == self.others else ''
+        return (f'{line}, and {self.others:,} other{"s" if self.others > 1 else ""}{still} '
+                f'fail{"" if self.others > 1 else "s"}')
 
 
 @dataclass
@@ -56,7 +60,7 @@ def advice_of(kept: Optional[TraceLine], lost: Optional[TraceLine], is_span: boo
     assert kept is not None and lost is not None
     if kept == lost:
         torn = f'line {lost.number} ({lost.text}) was torn: a crash kept a part of it'
-        return Advice([torn, 'no sync comes between: a record that recovery may drop needs a '
+        return Advice([torn, 'no sync helps: a record that recovery may drop needs a '
                        f'checksum; for all else, {ATOMIC}'])
     path = lost.synced_by
     text = [f'line {lost.number} ({lost.text}) was not durable when {when(kept)}'

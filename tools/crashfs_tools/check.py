@@ -7,16 +7,16 @@ import tempfile
 from typing import List, Optional
 
 from .check_options import NAME, Options, read_options
-from .checking import Checking, Run, report_of
+from .checking import Checking, Run
 from .command import Refused, folder_of, found, standard_output, tell, write_whole
 from .guard import Guard, Stopped, stop_by_exception
-from .junit import junit_lines
+from .merging import merged_report
 from .nested import Recorder
-from .page import page
 from .plan import PlanError
 from .program import Crashfs, ProgramFault
 from .report import NOT_ALL_TRIED, Report
 from .results import merged, read_json
+from .runner import keep_descriptors
 from .show_state import show
 from .trace import TraceError
 
@@ -29,11 +29,13 @@ def check(options: Options) -> int:
             folder_of(path)
     if options.merge is not None:
         results = merged([read_json(path) for path in options.merge])
-        return finish(options, report_of(results, options.json is not None,
-                                         options.html is not None))
+        if options.trace is not None:
+            readable(options.trace)
+        return finish(options, merged_report(options, results))
     options.trace = readable(options.trace or '')
     program = Crashfs.find_or_read(options.crashfs, options.unproved)
     options.command = found(options.command)
+    keep_descriptors()
     with Guard('crashfs-check-') as guard:
         checking = Checking(options, program, guard)
         try:
@@ -76,11 +78,14 @@ def finish(options: Options, report: Report) -> int:
 
 
 def write_files(options: Options, report: Report) -> None:
+    """What few checks ask for is loaded only then: it takes as long as many states."""
     if options.json is not None:
         write_whole(options.json, report.json_pieces())
     if options.junit is not None:
+        from .junit import junit_lines
         write_whole(options.junit, junit_lines(report))
     if options.html is not None:
+        from .page import page
         write_whole(options.html, page(report))
 
 

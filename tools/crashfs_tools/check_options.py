@@ -17,19 +17,20 @@ NAME = 'crashfs-check'
 DESCRIPTION = """\
 Runs COMMAND in the crash states of a trace, and reports in which states it fails, and why.
 
-COMMAND runs in a directory that has the files as the crash left them; it may change them. Its
-variable CRASHFS_STATE is the state's number, CRASHFS_SAYS how many lines the recorded program had
-printed by then (exactly so many), and these lines are its standard input. Exit status 0 means that
-the state is good; any other that it isn't, and the last line that COMMAND printed is the cause: the
-word before a colon in it is counted in the report's first line.
+COMMAND runs in a directory that has the files as the crash left them; it may change them. The
+variable CRASHFS_STATE is the state's number. CRASHFS_SAYS is the number of lines that the recorded
+program had printed before the crash, no more and no less; these lines are COMMAND's standard input.
+Exit status 0 means that the state is good, any other status that it is bad. The last line that
+COMMAND printed is then the cause; the report counts failures by the word before a colon in it.
 
-COMMAND is first run in the tree at the session's end and in the start tree: it must find both good.
-The states are all prefixes of the session, those with one hole, and the families --lost and
---files."""
+COMMAND is first run in the tree at the session's end and in the start tree, and must find both
+good. The states are all prefixes of the session, all prefixes with one hole (without one change and
+what needs it), and the families --lost and --files."""
 
 EPILOG = """\
 status: 0 none fails; 1 some fail; 2 bad input, or COMMAND fails though nothing is lost; 3 a command
-gave no answer, or states were not tried; 130 or 143 it was stopped: the report has what was tried.
+gave no answer, or states were not tried; 130 or 143 the check was stopped, and the report has what
+was tried.
 
 example: crashfs-check --jobs 4 store.trace -- ./recover.sh"""
 
@@ -119,23 +120,23 @@ def add_states(made: argparse.ArgumentParser) -> None:
                       help='the prefixes and those with one hole; --lost and --files only if given')
     made.add_argument('--window', metavar='N', type=positive, help=argparse.SUPPRESS)
     made.add_argument('--lost', action='store_true',
-                      help='for each operation the smallest disk that still has it '
+                      help='for each change, the state with it and as few others as possible '
                            '(default, except with --prefixes, --quick or --serve)')
     made.add_argument('--files', action='store_true',
-                      help='for each file the disk without any of its changes that were not synced '
-                           '(default as for --lost)')
+                      help='for each file, the states without its unsynced changes (default as '
+                           'for --lost)')
     made.add_argument('--nested', metavar='N', type=positive, default=0,
                       help='crash the recovery too: record COMMAND in N states, and try each crash '
                            'state of that recovery by a second run of COMMAND (needs strace)')
     made.add_argument('--state', metavar='N', type=state,
-                      help='try the state N only, and leave it laid out as the crash left it; N/M '
-                           'is the state M of the recovery of state N')
+                      help='try only state N, and leave it laid out as the crash left it; N/M is '
+                           'state M of the recovery of state N')
     made.add_argument('--fail-fast', action='store_true', help='stop at the first failing state')
     made.add_argument('--time-limit', metavar='S', type=seconds,
-                      help='stop after so many seconds, and report what was tried')
+                      help='stop after S seconds, and report what was tried')
     made.add_argument('--resume', metavar='FILE',
-                      help='go on from the --json file of a check that was stopped; if there is no '
-                           'such file, begin')
+                      help='continue a check that was stopped, from its --json file; if there is '
+                           'no such file, start from the beginning')
 
 
 def add_files(made: argparse.ArgumentParser) -> None:
@@ -151,29 +152,32 @@ def parser() -> argparse.ArgumentParser:
     made = argparse.ArgumentParser(
         prog=NAME, description=DESCRIPTION, epilog=EPILOG,
         usage='crashfs-check [OPTION].. TRACE -- COMMAND [ARG]..\n'
-              '       crashfs-check --merge REPORT.json.. [--json FILE] [--junit FILE] '
+              '       crashfs-check [TRACE] --merge REPORT.json.. [--json FILE] [--junit FILE] '
               '[--html FILE]',
         formatter_class=argparse.RawDescriptionHelpFormatter)
     made.add_argument('--version', action='version', version=version_of(NAME))
     made.add_argument('trace', metavar='TRACE', nargs='?', help='the trace')
     made.add_argument('--jobs', metavar='N', type=positive, default=len(os.sched_getaffinity(0)),
-                      help='run N commands at once (default: one a processor, %(default)s)')
+                      help='run N commands at once (default: one per processor, %(default)s)')
     made.add_argument('--shard', metavar='I/N', type=shard, default=Shard(),
-                      help='try the part I of N only; --merge puts the reports together')
+                      help='try only part I of N; --merge merges the reports')
     add_states(made)
     add_files(made)
     made.add_argument('--timeout', metavar='S', type=seconds, default=10,
-                      help='end a command after so many seconds (default 10)')
-    made.add_argument('--crashfs', metavar='PATH', help='the program (else that of PATH)')
+                      help='kill a command after S seconds (default 10)')
+    made.add_argument('--crashfs', metavar='PATH',
+                      help='the program crashfs (default: the one on PATH)')
     made.add_argument('--unproved', action='store_true',
-                      help='use the second reading of the tools, as if there is no crashfs')
+                      help='use the second implementation, in Python, even if there is a crashfs')
     made.add_argument('--serve', metavar='ADDR', type=address,
                       help='mount each state from the `crashfs serve --again --client linux` that '
                            'listens at this host and port, with the same trace and plan (as root)')
     made.add_argument('--uname', metavar='NAME',
                       help="with --serve: the user who attaches (default: the root's owner)")
     made.add_argument('--merge', metavar='FILE', nargs='+',
-                      help='try nothing: the report of all shards from their --json files')
+                      help='try nothing, but report on all shards from their --json files; with '
+                           'TRACE before it, and the options of the shards, --html and --json '
+                           'also show how files differ')
     return made
 
 

@@ -16,6 +16,7 @@ from .nested import Nested
 from .plan import Before, Planned
 from .planning import Planner, TooLarge
 from .program import Crashfs
+from .progress import Progress
 from .report import Report
 from .results import AllResults, Head, Results, known_states, read_json
 from .runner import Outcome, Says
@@ -37,6 +38,7 @@ class Checking:
         assert options.trace is not None
         self.options, self.program, self.guard = options, program, guard
         self.planner = Planner(options, program, guard)
+        self.progress = Progress()
         self.path = os.path.abspath(options.trace)
         with open(self.path, **TEXT) as file:
             self.text = file.read()
@@ -61,7 +63,7 @@ class Checking:
         return Says(told_texts(self.text), self.guard.directory)
 
     def trying(self, planned: Planned) -> Trying:
-        return Trying(self.options, planned, self.program, self.guard, self.says)
+        return Trying(self.options, planned, self.program, self.guard, self.says, self.progress)
 
     def trying_of(self, number: int) -> Trying:
         """Where a state is; Refused if there is none of the number."""
@@ -168,14 +170,3 @@ class Run:
 
 
 ANOTHER = '--resume: that is a report of another check'
-
-
-def report_of(results: AllResults, keep: bool, draw: bool) -> Report:
-    """The report of results that were read."""
-    report = Report(results.head, keep, draw)
-    outcomes: Dict[int, Outcome] = {}
-    for window in results.windows:
-        findings = Findings(results.head, window, outcomes)
-        outcomes = findings.by_state
-        report.add(findings)
-    return report

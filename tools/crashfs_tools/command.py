@@ -15,6 +15,10 @@ from typing import Any, Dict, Iterable, Iterator, List, Tuple
 TEXT: Dict[str, Any] = {'encoding': 'utf-8', 'errors': 'surrogateescape', 'newline': '\n'}
 
 
+# The status of a text that could not be printed.
+NOT_PRINTED = 3
+
+
 class Refused(Exception):
     """Bad input: one line that says what is wrong."""
 
@@ -31,12 +35,26 @@ def parse(parser: argparse.ArgumentParser,
           words: List[str]) -> Tuple[argparse.Namespace, List[str]]:
     """The options and arguments before the first `--`, and COMMAND."""
     before, command = halves(words)
-    values, more = parser.parse_known_args(before)
+    try:
+        values, more = parser.parse_known_args(before)
+    except SystemExit:
+        print_rest(parser.prog)
+        raise
     if more and not command and not more[0].startswith('-'):
         parser.error(f'put -- before COMMAND ({more[0]})')
     if more:
         parser.error(f'unrecognized arguments: {" ".join(more)}')
     return values, command
+
+
+def print_rest(program: str) -> None:
+    """What --help prints is written now, and not as Python ends."""
+    try:
+        with standard_output():
+            pass
+    except OSError as error:
+        tell(program, f'{error.filename}: {error.strerror}')
+        raise SystemExit(NOT_PRINTED) from error
 
 
 def found(command: List[str]) -> List[str]:
@@ -45,7 +63,8 @@ def found(command: List[str]) -> List[str]:
     path = shutil.which(name)
     if path is None:
         there = '/' in name and os.path.exists(name)
-        raise Refused(f'{name}: ' + ('not executable' if there else 'command not found'))
+        hint = f' (use ./{name})' if os.path.isfile(name) else ''
+        raise Refused(f'{name}: ' + ('not executable' if there else f'command not found{hint}'))
     return [os.path.abspath(path)] + command[1:]
 
 
@@ -111,14 +130,16 @@ def mode_of(path: str) -> int:
 
 @contextmanager
 def standard_output() -> Iterator[None]:
-    """What is printed within this is written at its end; an OSError has the stream's name."""
+    """What is printed within this is written at its end; an OSError has the stream's name. A reader
+    that reads no more, as `head`, is no fault: the rest goes nowhere."""
     try:
         yield
         sys.stdout.flush()
     except OSError as error:
         # What is left in the buffer is written as Python ends, and has to go somewhere.
         os.dup2(os.open(os.devnull, os.O_WRONLY), sys.stdout.fileno())
-        raise OSError(error.errno, error.strerror, 'standard output') from error
+        if not isinstance(error, BrokenPipeError):
+            raise OSError(error.errno, error.strerror, 'standard output') from error
 
 
 def ended(status: int) -> str:

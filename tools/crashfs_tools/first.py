@@ -40,9 +40,10 @@ class First:
         outcome = outcomes.get(number) or self.trying.try_one(first)
         if number in self.trying.wanted(self.results):
             outcomes[number] = outcome
-        look = [f'look at it by --state {number}']
+        look = [f'inspect it with --state {number}']
         if outcome.result == BAD and state.numbers[0] == 0 and self.trying.tree(number):
-            look.insert(0, 'had the directory files of an earlier session when it was recorded?')
+            look.insert(0, 'did the directory have files of an earlier session when it was '
+                           'recorded?')
         self.judge(outcome, f'{tree}, where nothing is lost (state {number}, says {state.says})',
                    look)
 
@@ -55,8 +56,8 @@ class First:
         """What to look at."""
         relative = relative_arguments(self.trying.options.command)
         if relative:
-            return [f'{word} is no absolute path, and COMMAND runs in the directory of a state: '
-                    f'name it as {os.path.abspath(word)}' for word in relative]
+            return [f'{word} is a relative path, but COMMAND runs in the directory of a state: '
+                    f'use {os.path.abspath(word)}' for word in relative]
         if 'not found' in cause or 'No such file' in cause or cause == 'status 127':
-            return ['is there all that COMMAND runs, by absolute paths or on PATH?']
+            return ['does COMMAND run something that is neither on PATH nor an absolute path?']
         return ['is COMMAND stricter than the session, or does it look for files elsewhere?']

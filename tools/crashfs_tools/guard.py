@@ -147,10 +147,26 @@ def unmount_all(folder: str) -> bool:
 def remove_tree(path: str) -> None:
     """Removes a directory, also where modes forbid it."""
     try:
-        shutil.rmtree(path)
+        remove_plain(path)
     except OSError:
         open_up(path)
         shutil.rmtree(path, ignore_errors=True)
+
+
+def remove_plain(path: str, at: Optional[int] = None) -> None:
+    """Removes a directory whose modes allow it, in fewer calls than `shutil.rmtree` makes."""
+    below = os.open(path, os.O_RDONLY | os.O_DIRECTORY | os.O_NOFOLLOW | os.O_CLOEXEC, dir_fd=at)
+    try:
+        with os.scandir(below) as entries:
+            found = [(entry.name, entry.is_dir(follow_symlinks=False)) for entry in entries]
+        for name, is_directory in found:
+            if is_directory:
+                remove_plain(name, below)
+            else:
+                os.unlink(name, dir_fd=below)
+    finally:
+        os.close(below)
+    os.rmdir(path, dir_fd=at)
 
 
 def open_up(path: str) -> None:

@@ -3,15 +3,19 @@
 from __future__ import annotations
 
 import os
-import shutil
-import tarfile
 from abc import ABC, abstractmethod
 from contextlib import contextmanager
-from typing import ContextManager, Dict, Iterator, Set, Tuple
+from itertools import groupby
+from typing import ContextManager, Dict, Iterable, Iterator, List, Set, Tuple
 
+from .archive import Member
 from .guard import remove_tree
 from .plan import Planned
-from .program import Crashfs, ProgramFault, path_of
+from .program import Crashfs, ProgramFault
+
+NEW_FILE = os.O_WRONLY | os.O_CREAT | os.O_EXCL | os.O_CLOEXEC
+# A directory's mode while it is filled.
+FILLED_MODE = 0o700
 
 
 class Layout(ABC):
@@ -47,48 +51,59 @@ class Archive(Layout):
         words = [*self.planned.words, '--states', self.planned.list_of(wanted)]
         left = set(wanted)
         with self.program.archive(words, self.environment) as members:
-            for number, path in self.lay_out(members, wanted):
+            for top, tree in groupby(members, top_of):
+                number = int(top) + self.planned.plan.first
+                if number not in left:
+                    continue
                 left.remove(number)
-                yield number, path
+                directory = os.path.join(self.folder, str(number))
+                lay_out(directory, (one._replace(path=one.path[len(top) + 1:]) for one in tree))
+                yield number, directory
         if left:
             raise ProgramFault(0, f'crashfs tar wrote no state {min(left)}'.encode())
 
-    def lay_out(self, members: tarfile.TarFile, wanted: Set[int]) -> Iterator[Tuple[int, str]]:
-        number = -1
-        modes: Dict[str, int] = {}
-        for member in members:
-            top, _, below = path_of(member)[1:].partition('/')
-            if int(top) + self.planned.plan.first != number:
-                if number in wanted:
-                    yield number, self.finish(number, modes)
-                number, modes = int(top) + self.planned.plan.first, {}
-                if number in wanted:
-                    os.mkdir(self.path(number))
-            if number in wanted:
-                self.put(members, member, os.path.join(self.path(number), below), modes)
-        if number in wanted:
-            yield number, self.finish(number, modes)
 
-    def path(self, number: int) -> str:
-        return os.path.join(self.folder, str(number))
+def top_of(member: Member) -> str:
+    return member.path.partition('/')[0]
 
-    def finish(self, number: int, modes: Dict[str, int]) -> str:
-        """Directories get their modes last, and inner ones before outer ones, since modes may
-        forbid what is done below."""
-        for path, mode in reversed(list(modes.items())):
-            os.chmod(path, mode)
-        return self.path(number)
 
-    @staticmethod
-    def put(members: tarfile.TarFile, member: tarfile.TarInfo, path: str,
-            modes: Dict[str, int]) -> None:
-        if member.isdir():
-            os.makedirs(path, exist_ok=True)
-            modes[path] = member.mode
-            return
-        source = members.extractfile(member)
-        if source is None:
-            return
-        with open(path, 'wb') as file:
-            shutil.copyfileobj(source, file)
-        os.chmod(path, member.mode)
+def lay_out(directory: str, tree: Iterable[Member]) -> None:
+    """Makes a directory that has the tree. Directories get their modes last, and inner ones before
+    outer ones, since modes may forbid what is done below."""
+    os.mkdir(directory, FILLED_MODE)
+    umask = os.umask(0)
+    try:
+        at = os.open(directory, os.O_RDONLY | os.O_DIRECTORY)
+        try:
+            modes: List[Tuple[str, int]] = []
+            for one in tree:
+                if one.data is None:
+                    modes.append((one.path, one.mode))
+                put(one, at)
+            for path, mode in reversed(modes):
+                os.chmod(path or '.', mode, dir_fd=at)
+        finally:
+            os.close(at)
+    finally:
+        os.umask(umask)
+
+
+def put(one: Member, at: int) -> None:
+    if one.data is not None:
+        write_file(one.path, one.mode, one.data, at)
+    elif one.path:
+        os.mkdir(one.path, FILLED_MODE, dir_fd=at)
+
+
+def write_file(path: str, mode: int, data: bytes, at: int) -> None:
+    file = os.open(path, NEW_FILE, mode, dir_fd=at)
+    try:
+        write_all(file, data)
+    finally:
+        os.close(file)
+
+
+def write_all(file: int, data: bytes) -> None:
+    left = memoryview(data)
+    while left:
+        left = left[os.write(file, left):]

@@ -57,7 +57,7 @@ def outcome(session: Session, options: Options, ending: Optional[str]) -> Outcom
 
 def relative_hints(options: Options) -> List[str]:
     """The likely cause if COMMAND failed: an argument that names a file elsewhere."""
-    return [f'{word} is no absolute path, and COMMAND runs in {options.directory}: name it as '
+    return [f'{word} is a relative path, but COMMAND runs in {options.directory}: use '
             f'{os.path.abspath(word)}' for word in relative_arguments(options.command)
             if not os.path.exists(os.path.join(options.directory, word))]
 
@@ -82,10 +82,10 @@ def silence(session: Session) -> List[str]:
         where = f', and {counted(errors, "line")} on standard error' if errors else ''
         hint = ' (--say-fd 2 takes these)' if errors else ''
         return [f'no line was acknowledged{where}: no loss can be seen{hint}; --no-say if that is '
-                'meant']
+                'intended']
     if lines > 1 and writes == 1:
         return [f'all {lines:,} acknowledged lines came in one write: is standard output flushed '
-                'after each? (--no-say if that is meant)']
+                'after each? (--no-say if that is intended)']
     return []
 
 

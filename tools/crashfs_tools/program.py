@@ -7,10 +7,11 @@ import os
 import shutil
 import subprocess
 import sys
-import tarfile
 from contextlib import contextmanager
+from functools import cached_property
 from typing import Dict, Iterator, List, Optional
 
+from .archive import ArchiveFault, Member, members
 from .command import Refused, ended
 from .tree import Entries, Entry
 
@@ -22,6 +23,8 @@ READING = os.path.join(PACKAGE, 'reading', '__main__.py')
 # The status of a command line that the program doesn't know.
 UNKNOWN_OPTION = 2
 PIECE_BYTES = 1 << 16
+# So much of an archive is read at once.
+ARCHIVE_BYTES = 1 << 18
 # A shell's status for a program that can't be started.
 NOT_STARTED = 126
 
@@ -66,6 +69,14 @@ class Crashfs:
         path = shutil.which('crashfs') or program_beside(LIBRARY)
         return None if path is None else Crashfs(path)
 
+    @cached_property
+    def has_changes(self) -> bool:
+        """Whether it has `tar --changes`."""
+        try:
+            return '--changes' in self.text(['tar', '--help'])
+        except ProgramFault:
+            return False
+
     def text(self, words: List[str], environment: Optional[Dict[str, str]] = None) -> str:
         """What a command prints; ProgramFault where its status isn't 0."""
         child = self.start(words, environment)
@@ -87,14 +98,14 @@ class Crashfs:
 
     @contextmanager
     def archive(self, words: List[str],
-                environment: Optional[Dict[str, str]] = None) -> Iterator[tarfile.TarFile]:
+                environment: Optional[Dict[str, str]] = None) -> Iterator[Iterator[Member]]:
         """The archive that `crashfs tar` writes, as a stream that is read once."""
         child = self.start(['tar', *words], environment)
         assert child.stdout is not None and child.stderr is not None
         try:
-            with tarfile.open(fileobj=child.stdout, mode='r|', encoding='utf-8') as members:
-                yield members
-        except tarfile.ReadError as error:
+            with open(child.stdout.fileno(), 'rb', ARCHIVE_BYTES, closefd=False) as stream:
+                yield members(stream)
+        except ArchiveFault as error:
             fault: Optional[str] = f'what it wrote is no archive: {error}'
         except BaseException:
             child.kill()
@@ -130,8 +141,8 @@ class Crashfs:
 
     def whole_tree(self, words: List[str],
                    environment: Optional[Dict[str, str]] = None) -> Entries:
-        with self.archive(words, environment) as members:
-            return {path_of(member): entry_of(members, member) for member in members}
+        with self.archive(words, environment) as archive:
+            return {'/' + member.path: entry_of(member) for member in archive}
 
 
 def program_beside(library: str) -> Optional[str]:
@@ -159,12 +170,6 @@ def last_line(output: str) -> str:
     return lines[-1] if lines else ''
 
 
-def path_of(member: tarfile.TarInfo) -> str:
-    """A member's path as a trace has it."""
-    return os.path.normpath('/' + member.name)
-
-
-def entry_of(members: tarfile.TarFile, member: tarfile.TarInfo) -> Entry:
-    file = members.extractfile(member) if member.isreg() else None
-    data = None if file is None else bytearray(file.read())
-    return Entry(member.uname, member.gname, member.mode & 0o777, data)
+def entry_of(member: Member) -> Entry:
+    data = None if member.data is None else bytearray(member.data)
+    return Entry(member.owner, member.group, member.mode & 0o777, data)

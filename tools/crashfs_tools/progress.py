@@ -14,16 +14,22 @@ TERMINAL_SECONDS = 0.1
 
 
 class Progress:
+    """Counts the states of one part of a check after the other; the time of the last line goes on
+    through all of them."""
 
-    def __init__(self, total: int, stream: TextIO = sys.stderr,
-                 clock: Callable[[], float] = time.monotonic, part: str = '') -> None:
+    def __init__(self, stream: TextIO = sys.stderr,
+                 clock: Callable[[], float] = time.monotonic) -> None:
+        self.stream = stream
+        self.clock = clock
+        self.told = clock()
+        self.terminal = stream.isatty()
+        self.begin(0)
+
+    def begin(self, total: int, part: str = '') -> None:
         self.total = total
         self.part = part
         self.tried = self.failed = 0
-        self.stream = stream
-        self.clock = clock
-        self.begun = self.told = clock()
-        self.terminal = stream.isatty()
+        self.begun = self.clock()
 
     def step(self, outcome: Outcome) -> None:
         self.tried += 1

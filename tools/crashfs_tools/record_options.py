@@ -18,15 +18,16 @@ NAME = 'crashfs-record'
 DESCRIPTION = """\
 Records what COMMAND does to the directory DIR, as a trace that crashfs reads.
 
-COMMAND runs in DIR under strace. The tree that DIR has before becomes the start lines, each call
-that changes something below DIR an operation, and each line that COMMAND writes to its standard
-output a `say`: what it acknowledged to its user. COMMAND changes DIR as it would without this."""
+COMMAND runs in DIR under strace, and changes DIR as it would without crashfs-record. The content of
+DIR before the run becomes the start lines. Each call that changes something below DIR becomes an
+operation. Each line that COMMAND writes to its standard output becomes a `say`: COMMAND
+acknowledged it to its user."""
 
 EPILOG = """\
-status: 0 the trace is complete; 4 except for things that change no verdict (each is printed);
-3 it is written, and something happened that it can't say, or no loss can be seen (each is printed);
-1 nothing is written; 2 the command line is refused. Ctrl-C and SIGTERM are passed to COMMAND, and
-what was recorded is written; a second one kills COMMAND.
+status: 0 the trace is complete; 4 it is complete except for things that can't make a state good or
+bad (each is printed); 3 it is written, but can't say all that happened, or no loss can be seen
+(each is printed); 1 nothing is written; 2 the command line is refused. Ctrl-C and SIGTERM are
+passed to COMMAND, and what was recorded is written; a second one kills COMMAND.
 
 example: crashfs-record store.d store.trace -- sqlite3 test.db ".read session.sql" """
 
@@ -63,7 +64,7 @@ def parser() -> argparse.ArgumentParser:
     made.add_argument('--version', action='version', version=version_of(NAME))
     made.add_argument('directory', metavar='DIR', help='the directory that COMMAND changes')
     made.add_argument('out', metavar='OUT.trace',
-                      help='the trace that is written; - is standard output')
+                      help='the trace to write; - is standard output')
     add_what_is_recorded(made)
     add_the_trace(made)
     add_logs(made)
@@ -72,14 +73,15 @@ def parser() -> argparse.ArgumentParser:
 
 def add_what_is_recorded(made: argparse.ArgumentParser) -> None:
     made.add_argument('--mapped', action='store_true',
-                      help='follow what is stored through shared mappings too: COMMAND is stopped '
-                           'at each call that syncs, writes or prints (slower)')
+                      help='also record stores through shared mappings: COMMAND is stopped at each '
+                           'call that syncs, writes, maps or changes a name (slower)')
     made.add_argument('--ignore', metavar='GLOB', action='append', default=[],
-                      help='leave out what matches, by the rules of .gitignore (may be repeated)')
+                      help='leave out files that match, by the rules of .gitignore (may be '
+                           'repeated)')
     made.add_argument('--say-fd', metavar='N', action='append', default=[], dest='said',
                       type=descriptor,
-                      help="acknowledged are the lines of COMMAND's descriptor N, not those of "
-                           f"standard output; `{SOCKETS}`: of each connection that it accepts "
+                      help="take the acknowledged lines from COMMAND's descriptor N, not from "
+                           f"standard output; `{SOCKETS}`: from each connection that it accepts "
                            '(may be repeated)')
     made.add_argument('--no-say', action='store_true',
                       help='do not warn if no line is acknowledged, or all are in one write')
@@ -89,23 +91,24 @@ def add_what_is_recorded(made: argparse.ArgumentParser) -> None:
 
 def add_the_trace(made: argparse.ArgumentParser) -> None:
     made.add_argument('--begin-after', metavar='LINE',
-                      help='begin the trace after the acknowledged line of that number, or the '
-                           'first that matches: what was done before belongs to the start tree')
+                      help='begin the trace after the acknowledged line with this number, or after '
+                           'the first that matches; earlier changes belong to the start tree')
     made.add_argument('--profile', choices=PROFILES, default=BLOCKS,
                       help='which directory operations the file system keeps in order: only those '
                            'of the same names (blocks, the default), or all (ordered)')
     made.add_argument('--block', type=int, choices=BLOCK_SIZES, default=BLOCK_SIZES[-1],
-                      help='the size of what the disk writes whole; 512 tears records inside a '
-                           'page (default: 4096)')
+                      help='how many bytes the disk writes whole; with 512, records inside a page '
+                           'may be torn (default: 4096)')
     made.add_argument('--crashfs', metavar='PATH',
-                      help='the program that gives the last state (default: that of PATH)')
+                      help='the program crashfs, for the comparison at the end (default: the one '
+                           'on PATH)')
 
 
 def add_logs(made: argparse.ArgumentParser) -> None:
     made.add_argument('--keep-log', metavar='FILE', help="keep strace's log")
     made.add_argument('--from-log', metavar='FILE',
-                      help='run nothing: convert the log of an earlier run, with DIR as it was '
-                           'before that run')
+                      help='run nothing, but convert the log of an earlier run; DIR must be as it '
+                           'was before that run')
     made.add_argument('--log-dir', metavar='PATH', dest='log_directory',
                       help="with --from-log: DIR's path where the log was written")
 

@@ -23,8 +23,8 @@ DRAWN = 8
 WIDTH = 100
 CAUSE_WIDTH = 52
 NONE_FAILS, SOME_FAIL, NOT_ALL_TRIED = 0, 1, 3
-UNPROVED = ('unproved: these states are of a second reading in Python, not of crashfs '
-            '(tools/build makes it)')
+UNPROVED = ('unproved: a Python program computed these states, not crashfs '
+            '(tools/build builds crashfs)')
 
 
 class Report:

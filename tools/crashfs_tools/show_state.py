@@ -2,15 +2,16 @@
 
 from __future__ import annotations
 
+import os
 import shlex
 import tempfile
 from typing import Tuple
 
-from .command import Refused, standard_output
+from .command import TEXT, Refused, standard_output
 from .guard import remove_tree
 from .plan import State
 from .report import NONE_FAILS, NOT_ALL_TRIED, SOME_FAIL
-from .runner import BAD, GOOD, NO_ANSWER, Says
+from .runner import BAD, GOOD, NO_ANSWER
 from .trying import Trying
 
 STATUSES = {GOOD: NONE_FAILS, BAD: SOME_FAIL, NO_ANSWER: NOT_ALL_TRIED}
@@ -39,7 +40,10 @@ def leave(trying: Trying, state: State) -> Tuple[str, str]:
     folder = tempfile.mkdtemp(prefix=f'crashfs-state-{state.number}-')
     try:
         (_, directory), = trying.archive(folder).states({state.number})
-        return directory, Says(trying.checker().says.texts, folder).path(state.says)
+        told = os.path.join(folder, f'says-{state.says}')
+        with open(told, 'w', **TEXT) as file:
+            file.write(trying.says.text(state.says))
+        return directory, told
     except BaseException:
         remove_tree(folder)
         raise

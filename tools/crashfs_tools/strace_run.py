@@ -10,7 +10,7 @@ import signal
 import subprocess
 import sys
 import time
-from typing import Callable, List, Optional
+from typing import List, Optional
 
 from . import frames
 from .command import Refused, standard_output
@@ -102,7 +102,6 @@ class Running:
         so that COMMAND isn't disturbed. A signal ends the wait, whichever thread takes it."""
         waiting, wake = os.pipe2(os.O_NONBLOCK | os.O_CLOEXEC)
         signal.set_wakeup_fd(wake, warn_on_full_buffer=False)
-        write: Callable[[bytes], object] = sys.stdout.buffer.write
         while True:
             seconds = None if self.wanted is None else 0.1
             ready = select.select([source, waiting], [], [], seconds)[0]
@@ -112,11 +111,8 @@ class Running:
             piece = os.read(source, 65_536) if source in ready else None
             if piece == b'':
                 break
-            try:
-                with standard_output():
-                    write(piece or b'')
-            except BrokenPipeError:
-                write = len
+            with standard_output():
+                sys.stdout.buffer.write(piece or b'')
         signal.set_wakeup_fd(-1)
         os.close(waiting)
         os.close(wake)

@@ -45,6 +45,9 @@ class Translator:
         self.mapped: Dict[int, Node] = {}
         # What copies show of files before the calls that mapped them are in the trace.
         self.early: Dict[int, bytes] = {}
+        # The newest copy of each file: two processes' copies may come in the order of their calls.
+        self.newest: Dict[int, Copy] = {}
+        self.places = {id(copy): place for place, copy in enumerate(self.copies.taken)}
         self.parents: Dict[int, List[Call]] = {}
         for call in log.calls:
             if call.name in FORKS and call.result > 0:
@@ -145,10 +148,20 @@ class Translator:
         """What a copy shows of the call's own file, or of all others."""
         for number, data in copy.files.items():
             node = self.mapped.get(number)
+            if self.is_outdated(copy, number):
+                continue
             if node is None:
                 self.early[number] = data
             elif (node is own) == is_own:
                 stores.stored(self.session, node, data, copy.is_sure(number))
+
+    def is_outdated(self, copy: Copy, number: int) -> bool:
+        """Whether a newer copy of the file is in the trace already."""
+        newest = self.newest.setdefault(number, copy)
+        if self.places[id(newest)] > self.places[id(copy)]:
+            return True
+        self.newest[number] = copy
+        return False
 
     def process(self, number: int, moment: int) -> Process:
         """The process of a call. A child may call before its parent's fork has returned."""

@@ -7,6 +7,7 @@ from typing import Callable, Set
 from .check_options import Options
 from .command import TEXT, Refused
 from .guard import Guard
+from .kept_layout import KeptLayout, has_much
 from .layout import Archive, Layout
 from .limits import RUNS
 from .mounts import Mounts
@@ -24,16 +25,17 @@ class Trying:
     """One window of a check: the program, the trace, and where its states are laid out."""
 
     def __init__(self, options: Options, planned: Planned, program: Crashfs, guard: Guard,
-                 says: Says) -> None:
+                 says: Says, progress: Progress) -> None:
         self.options = options
         self.planned = planned
         self.plan = planned.plan
         self.program = program
         self.guard = guard
         self.says = says
+        self.progress = progress
 
     def with_plan(self, planned: Planned) -> Trying:
-        return Trying(self.options, planned, self.program, self.guard, self.says)
+        return Trying(self.options, planned, self.program, self.guard, self.says, self.progress)
 
     def checker(self) -> Checker:
         return Checker(self.options.command, self.options.timeout, self.guard.environment,
@@ -42,9 +44,13 @@ class Trying:
     def archive(self, folder: str) -> Archive:
         return Archive(self.program, self.planned, folder, self.guard.environment)
 
-    def layout(self) -> Layout:
-        """Where a state is tried; nothing of it is there any more when the guard has ended."""
+    def layout(self, many: bool = False) -> Layout:
+        """Where states are tried; nothing of it is there any more when the guard has ended. many
+        says whether it is worth the while to keep what they have in common."""
         if self.options.serve is None:
+            if many and has_much(self.planned.trace) and self.program.has_changes:
+                return KeptLayout(self.program, self.planned, self.guard.directory,
+                                  self.guard.environment)
             return self.archive(self.guard.directory)
         with open(self.planned.trace, **TEXT) as file:
             uname = self.options.uname or root_owner(file.read())
@@ -62,13 +68,14 @@ class Trying:
 
     def try_states(self, wanted: Set[int], told: Callable[[int, Outcome], None]) -> None:
         """Tries states; a stop may come meanwhile."""
-        progress = Progress(len(wanted), part=self.planned.part())
+        progress = self.progress
+        progress.begin(len(wanted), self.planned.part())
 
         def step(number: int, outcome: Outcome) -> None:
             told(number, outcome)
             progress.step(outcome)
 
-        workers = Workers(self.checker(), self.layout(), self.options.jobs, step,
+        workers = Workers(self.checker(), self.layout(many=True), self.options.jobs, step,
                           self.options.fail_fast)
         try:
             workers.run(wanted, {state.number: state.says for state in self.plan.listed})

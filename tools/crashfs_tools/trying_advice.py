@@ -3,7 +3,7 @@
 from __future__ import annotations
 
 import os
-from typing import Dict, Set
+from typing import Dict, Set, Tuple
 
 from .advice import Tried
 from .command import TEXT
@@ -47,8 +47,8 @@ class Copy:
         copy = self.trying.with_plan(planned)
         outcomes = self.outcomes(copy)
         masks = [self.before.kept[state.number] for state in group.states]
-        return Tried(left=sum(map(planned.plan.needs.allow, masks)), total=len(masks),
-                     others=count_others(planned.plan, outcomes, set(masks)))
+        return Tried(sum(map(planned.plan.needs.allow, masks)), len(masks),
+                     *count_others(planned.plan, outcomes, set(masks), self.known))
 
     def outcomes(self, copy: Trying) -> Dict[Trial, Outcome]:
         """The outcomes of the copy's states."""
@@ -67,8 +67,13 @@ class Copy:
         return found
 
 
-def count_others(plan: Plan, outcomes: Dict[Trial, Outcome], masks: Set[int]) -> int:
-    """The failing states of the copy that the group hasn't."""
-    found = (outcomes.get(Trial(state.same, state.says)) for state in plan.states
-             if plan.kept[state.number] not in masks)
-    return sum(one is not None and one.result != GOOD for one in found)
+def count_others(plan: Plan, outcomes: Dict[Trial, Outcome], masks: Set[int],
+                 known: Dict[int, Outcome]) -> Tuple[int, int]:
+    """The failing states of the copy that the group hasn't, and how many failed before too."""
+    others = still = 0
+    for state in plan.states:
+        kept, one = plan.kept[state.number], outcomes.get(Trial(state.same, state.says))
+        if kept not in masks and one is not None and one.result != GOOD:
+            others += 1
+            still += kept in known and known[kept].result != GOOD
+    return others, still

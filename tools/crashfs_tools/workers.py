@@ -2,22 +2,25 @@
 
 from __future__ import annotations
 
+import gc
 import json
 import os
 import select
 import signal
 import time
 from dataclasses import astuple, replace
-from typing import Any, Callable, Dict, List, NoReturn, Set
+from typing import Any, Callable, Dict, List, NoReturn, Optional, Set
 
 from .command import Refused, ended
 from .guard import STOPS
 from .layout import Layout
 from .program import ProgramFault
-from .runner import BAD, TURN_SECONDS, Checker, Outcome, Over
+from .runner import BAD, GOOD, GOOD_OUTCOME, TURN_SECONDS, Checker, Outcome, Over
 
 ENDING_SECONDS = 5
 PIECE_BYTES = 1 << 16
+# A process says what it knows after so long.
+SENT_SECONDS = 0.05
 
 Told = Callable[[int, Outcome], None]
 
@@ -30,11 +33,39 @@ class Worker:
         self.pipe = pipe
         self.rest = b''
 
-    def lines(self) -> List[bytes]:
-        """What it says next: nothing if it has ended."""
+    def lines(self) -> Optional[List[bytes]]:
+        """The lines that it says next; None if it says no more."""
         piece = os.read(self.pipe, PIECE_BYTES)
         *lines, self.rest = (self.rest + piece).split(b'\n')
-        return lines if piece else [b'']
+        return lines if piece else None
+
+
+class Outbox:
+    """What a process says, some of it at a time: a line has the number of a state that is good, or
+    the fields of anything else."""
+
+    def __init__(self, pipe: int) -> None:
+        self.pipe = pipe
+        self.lines: List[str] = []
+        self.sent = time.monotonic()
+
+    def add(self, number: int, outcome: Outcome) -> None:
+        if outcome.result == GOOD:
+            self.lines.append(f'{number}\n')
+        else:
+            self.add_fields({'state': number, 'outcome': astuple(outcome)})
+        if time.monotonic() - self.sent >= SENT_SECONDS:
+            self.send()
+
+    def add_fields(self, fields: Dict[str, Any]) -> None:
+        self.lines.append(json.dumps(fields) + '\n')
+
+    def send(self) -> None:
+        text = ''.join(self.lines).encode()
+        self.lines = []
+        while text:
+            text = text[os.write(self.pipe, text):]
+        self.sent = time.monotonic()
 
 
 class Workers:
@@ -69,12 +100,11 @@ class Workers:
                     self.reap(left.pop(pipe))
 
     def hear(self, worker: Worker) -> bool:
-        """Takes what a process says; False if it has ended."""
-        for line in worker.lines():
-            if not line:
-                return False
-            self.take(json.loads(line))
-        return True
+        """Takes what a process says; False if it says no more."""
+        lines = worker.lines()
+        for line in lines or []:
+            self.take(line)
+        return lines is not None
 
     def start(self, share: List[int], says_of: Dict[int, int]) -> None:
         reading, writing = os.pipe()
@@ -94,25 +124,30 @@ class Workers:
 
     def work(self, share: List[int], says_of: Dict[int, int], pipe: int) -> NoReturn:
         """The new process: it never returns."""
-        checker = replace(self.checker, life=self.life)
+        gc.freeze()
+        outbox = Outbox(pipe)
+        checker = replace(self.checker, life=self.life, when_slow=outbox.send)
         try:
             for number, directory in self.layout.states(set(share)):
-                if select.select([self.life], [], [], 0)[0]:
-                    break
                 with self.layout.laid_out(number, directory):
                     outcome = checker.run(number, says_of[number], directory)
-                os.unlink(f'{directory}.out')
-                say(pipe, {'state': number, 'outcome': astuple(outcome)})
+                outbox.add(number, outcome)
                 if self.fail_fast and outcome.result == BAD:
                     break
         except Over:
             pass
         except BaseException as fault:
-            say(pipe, as_fields(fault))
+            outbox.add_fields(as_fields(fault))
         finally:
+            outbox.send()
             os._exit(0)
 
-    def take(self, said: Dict[str, Any]) -> None:
+    def take(self, line: bytes) -> None:
+        """Takes an outcome; raises what another process can't do."""
+        if line.isdigit():
+            self.told(int(line), GOOD_OUTCOME)
+            return
+        said = json.loads(line)
         if 'state' not in said:
             raise as_fault(said)
         outcome = Outcome(*said['outcome'])
@@ -128,7 +163,7 @@ class Workers:
 
     def end(self, end_processes: Callable[[], None]) -> None:
         """Ends all: first the commands, by what is handed over. It waits a moment for processes
-        that have to undo what they laid out."""
+        that have to undo what they laid out, and takes what they still say."""
         self.ending = True
         os.close(self.alive)
         deadline = time.monotonic() + ENDING_SECONDS
@@ -143,15 +178,20 @@ class Workers:
     def end_one(self, worker: Worker, is_late: bool) -> None:
         if is_late:
             os.kill(worker.process, signal.SIGKILL)
-        if os.waitpid(worker.process, 0 if is_late else os.WNOHANG)[0]:
+        has_ended = os.waitpid(worker.process, 0 if is_late else os.WNOHANG)[0]
+        self.hear_last(worker)
+        if has_ended:
             os.close(worker.pipe)
             self.workers.remove(worker)
 
-
-def say(pipe: int, fields: Dict[str, Any]) -> None:
-    line = json.dumps(fields).encode() + b'\n'
-    while line:
-        line = line[os.write(pipe, line):]
+    def hear_last(self, worker: Worker) -> None:
+        """Takes the outcomes that a process has said by now; faults are known or late."""
+        os.set_blocking(worker.pipe, False)
+        try:
+            while self.hear(worker):
+                pass
+        except (BlockingIOError, OSError, Refused, ProgramFault, RuntimeError):
+            return
 
 
 def as_fields(fault: BaseException) -> Dict[str, Any]:

@@ -1,7 +1,7 @@
 """Prints the rows of all benchmark programs that are built, and whether each is within its bound.
 
-What isn't built is named, and nothing is built here. `serve_bench` and the rows of memory need
-`crashfs` too, which serves them; servers and clients have processors of their own, half of them
+What isn't built is named, and nothing is built here. `serve_bench` and the rows of memory and of
+`crashfs-check`'s states need `crashfs` too, which serves the first two; servers and clients have processors of their own, half of them
 each. For figures that count nothing else is to be at work on the machine. Status 0: no row is past
 its bound, and no program failed.
 """
@@ -16,14 +16,16 @@ from typing import Callable, Dict, List, Optional
 from .memory import memory_rows
 from .programs import Programs, Tally
 from .serving import serving_rows
+from .states import states_rows
 
 TOP = Path(__file__).resolve().parents[2]
 # The rows that `crashfs` serves.
 SERVED: Dict[str, Callable[[Programs, Tally], None]] = {
     'serve_bench': serving_rows,
     'memory': memory_rows,
+    'states': states_rows,
 }
-NEEDED = {'serve_bench': ['serve_bench', 'crashfs'], 'memory': ['crashfs']}
+NEEDED = {'serve_bench': ['serve_bench', 'crashfs'], 'memory': ['crashfs'], 'states': ['crashfs']}
 
 
 def words_of(given: Optional[List[str]]) -> argparse.Namespace:
@@ -32,7 +34,7 @@ def words_of(given: Optional[List[str]]) -> argparse.Namespace:
     words.add_argument('--top', type=Path, default=TOP, metavar='DIR',
                        help='the repository (this one)')
     words.add_argument('names', nargs='*', metavar='NAME',
-                       help='a benchmark program, or `memory` (all)')
+                       help='a benchmark program, `memory` or `states` (all)')
     return words.parse_args(given)
 
 
@@ -52,7 +54,7 @@ def measure(programs: Programs, name: str, tally: Tally) -> None:
 def main(given: Optional[List[str]] = None) -> int:
     words = words_of(given)
     programs = Programs(words.top)
-    known = [*programs.benchmarks(), 'memory']
+    known = [*programs.benchmarks(), 'memory', 'states']
     unknown = [it for it in words.names if it not in known]
     if unknown:
         print(f'measure: {unknown[0]} is none of {", ".join(known)}', file=sys.stderr)

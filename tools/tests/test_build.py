@@ -3,7 +3,9 @@
 from __future__ import annotations
 
 import importlib.util
+import os
 import sys
+import tempfile
 import unittest
 from importlib.machinery import SourceFileLoader
 from pathlib import Path
@@ -79,6 +81,22 @@ class Order(unittest.TestCase):
         work.end(name, False)
         self.assertIsNone(work.next())
         self.assertEqual(work.failed, 'a')
+
+    def test_a_library_that_is_older_than_its_text_is_made_again(self) -> None:
+        with tempfile.TemporaryDirectory() as room:
+            crate = Path(room) / 'crates' / 'a'
+            (crate / 'src').mkdir(parents=True)
+            (crate / 'out' / 'rlib').mkdir(parents=True)
+            text, library = crate / 'src' / 'lib.rt', crate / 'out' / 'rlib' / 'stamp'
+            text.write_text('fn f() {}')
+            self.assertFalse(BUILD.has_library(Path(room), 'a'))
+            library.write_text('')
+            os.utime(crate / 'src', (100, 100))
+            os.utime(text, (100, 100))
+            os.utime(library, (200, 200))
+            self.assertTrue(BUILD.has_library(Path(room), 'a'))
+            os.utime(text, (300, 300))
+            self.assertFalse(BUILD.has_library(Path(room), 'a'))
 
     def test_the_libraries_are_all_that_the_program_stands_on(self) -> None:
         below = BUILD.libraries()

@@ -152,10 +152,27 @@ class Checks(InStore):
         merged = json.loads(self.read('all.json'))['windows'][0]['outcomes']
         self.assertEqual(merged, {**parts[0], **parts[1]})
         self.assertEqual(len(merged), sum(map(len, parts)))
+        self.merged_with_trace(whole.stdout, files)
         for given, told in [((1, 1), 'shard 1/2 is missing'), ((0,), 'shard 2/2 is missing'),
                             ((0, 1, 0), 'shard 1/2 was given 2 times')]:
             ran = self.run_tool('crashfs-check', '--merge', *(files[one] for one in given))
             self.assertEqual((ran.returncode, ran.stderr), (2, f'crashfs-check: {told}\n'))
+
+    def merged_with_trace(self, whole, files):
+        """The trace gives a merged report the differences of files."""
+        words = ['--crashfs', FAKE, '--json', 'all.json', '--html', 'all.html']
+        ran = self.run_tool('crashfs-check', *words, self.bad, '--merge', *files)
+        self.assertEqual((ran.returncode, ran.stdout), (1, re.sub(' *tried: .*\n', '', whole)))
+        group, = json.loads(self.read('all.json'))['groups']
+        self.assertIn('/log has 0 bytes, there 4 bytes', group['differences'][0])
+        self.assertIn('class="differences"', self.read('all.html'))
+        for more, told in [((self.good,), f'{self.good}: that is not the trace of the reports'),
+                           (('--quick', self.bad), 'the trace has other states than the reports'),
+                           (('none',), 'none: No such file or directory')]:
+            ran = self.run_tool('crashfs-check', *words, *more, '--merge', *files)
+            self.assertEqual(ran.returncode, 2)
+            self.assertIn(told, ran.stderr)
+        self.assert_nothing_left()
 
     def test_causes_are_last_lines_signals_and_statuses(self):
         for script, told in [('echo a; echo "b: c"; echo', 'b: c'), ('true', 'status 7'),
@@ -167,14 +184,14 @@ class Checks(InStore):
                 self.assertEqual(ran.returncode, 1)
 
     def test_a_command_that_hangs_is_ended_and_has_no_answer(self):
-        ran = self.check('--prefixes', '--timeout', '0.3', '--jobs', '4', '--json', 'r.json',
+        ran = self.check('--prefixes', '--timeout', '1.5', '--jobs', '4', '--json', 'r.json',
                          self.good, command=['sh', '-c', 'test $CRASHFS_STATE != 3 || '
                                              '{ echo begun; sleep 60; }'])
         self.assertEqual(ran.returncode, 3, ran.stderr)
         self.assertIn(' gave no answer', ran.stdout)
         # On a machine that is loaded others may be ended too.
         self.assertEqual(json.loads(self.read('r.json'))['windows'][0]['outcomes']['3'],
-                         ['no answer', 'it had not ended after 0.3 seconds', 'begun\n'])
+                         ['no answer', 'it had not ended after 1.5 seconds', 'begun\n'])
         self.assert_nothing_left()
 
     def test_what_a_command_leaves_running_is_ended(self):
@@ -289,6 +306,8 @@ class Refuses(InStore):
         for told, *words in [
                 ('none: No such file or directory', '--crashfs', FAKE, 'none', '--', 'true'),
                 ('no-such: command not found', '--crashfs', FAKE, self.good, '--', 'no-such'),
+                ('recover.sh: command not found (use ./recover.sh)', '--crashfs', FAKE, self.good,
+                 '--', 'recover.sh'),
                 ('--crashfs /none: no such program', '--crashfs', '/none', self.good, '--', 'true'),
                 ('no such state: 99', '--crashfs', FAKE, '--state', '99', self.good, '--', 'true'),
                 ('x/r.json: its directory is not there', '--json', 'x/r.json', '--crashfs', FAKE,

@@ -10,7 +10,7 @@ from crashfs_tools import progress
 from crashfs_tools.results import read_json
 from crashfs_tools.runner import BAD, GOOD, NO_ANSWER, Outcome
 
-from .support import FAKE, PATIENCE
+from .support import FAKE, PATIENCE, PROGRESS
 from .test_check_command import InStore
 
 # Writes down each state that it is run in.
@@ -45,7 +45,7 @@ class First(InCounted):
             '(state 11, says 1): old: ./x',
             'crashfs-check: is COMMAND stricter than the session, or does it look for files '
             'elsewhere?',
-            'crashfs-check: look at it by --state 11'])
+            'crashfs-check: inspect it with --state 11'])
         self.assertEqual(self.ran(), [11])
         lines = self.refusal(self.counted('test $CRASHFS_STATE != 0'))
         self.assertIn('in the start tree, where nothing is lost (state 0, says 0): status 1',
@@ -55,12 +55,12 @@ class First(InCounted):
     def test_what_to_look_at_is_said(self):
         self.write('check.py', '')
         lines = self.refusal(['sh', 'check.py'])
-        self.assertIn(f'name it as {self.path("check.py")}', lines[1])
-        self.assertIn('is there all that COMMAND runs', self.refusal(['sh', '-c', 'nosuch'])[1])
+        self.assertIn(f'use {self.path("check.py")}', lines[1])
+        self.assertIn('does COMMAND run something', self.refusal(['sh', '-c', 'nosuch'])[1])
 
     def test_files_of_an_earlier_session_are_asked_for(self):
         rights = '"owner":"u","group":"u","mode":"755"'
-        question = 'crashfs-check: had the directory files of an earlier session when it was '
+        question = 'crashfs-check: did the directory have files of an earlier session when it was '
         for start, asked in (f'{{"start":"file","path":"/log",{rights},"bytes":"61"}}\n', True), (
                 '', False):
             trace = self.write('old.trace', f'{{"trace":1,{rights}}}\n{start}'
@@ -141,6 +141,16 @@ class Stops(InCounted):
         self.assertEqual(ran.stdout.partition(': ')[2], '11 micro-operations, 20 states, '
                          '13 different: none fails\n')
 
+    def test_a_reader_that_reads_no_more_is_no_fault(self):
+        for words, status in [((self.bad, '--', './recover.sh'), 1), (('--help',), 0),
+                              (('--state', '3', self.bad, '--', 'true'), 0)]:
+            reading, writing = os.pipe()
+            os.close(reading)
+            child = self.start('crashfs-check', '--crashfs', FAKE, *words, output=writing)
+            os.close(writing)
+            _, err = child.communicate(timeout=PATIENCE)
+            self.assertEqual((child.returncode, PROGRESS.sub('', err)), (status, ''))
+
     def test_the_json_is_there_though_nobody_reads_the_report(self):
         ran = self.run_tool('crashfs-check', '--crashfs', FAKE, '--json', 'r.json', self.bad, '--',
                             './recover.sh', output='/dev/full')
@@ -157,7 +167,8 @@ class Archives(InStore):
 
     def test_an_archive_that_ends_early_is_told_with_what_ended_its_program(self):
         for end, told in [('kill $$', 'was ended by SIGTERM'), ('exit 5', 'ended with status 5'),
-                          ('exit 0', 'wrote no state ')]:
+                          ('exit 0', 'ended with status 0; what it wrote is no archive: it ends '
+                                     'early')]:
             cut = self.write('cut', f'#!/bin/sh\ntest $1 = tar || exec {FAKE} "$@"\n'
                                     f'{FAKE} "$@" | head -c 3000\n{end}\n', 0o755)
             ran = self.run_tool('crashfs-check', '--crashfs', cut, self.good, '--', 'true')
@@ -177,7 +188,8 @@ class Progress(unittest.TestCase):
 
     def test_without_a_terminal_a_line_comes_every_half_minute(self):
         stream, now = io.StringIO(), [0.0]
-        shown = progress.Progress(100, stream, lambda: now[0])
+        shown = progress.Progress(stream, lambda: now[0])
+        shown.begin(100)
         for step in range(1, 66):
             now[0] = step
             shown.step(Outcome(BAD if step == 2 else GOOD))
@@ -185,6 +197,18 @@ class Progress(unittest.TestCase):
         self.assertEqual(stream.getvalue().splitlines(), [
             'crashfs-check: 30 of 100 tried, 1 fail, about 1 minute left',
             'crashfs-check: 60 of 100 tried, 1 fail, about 40 seconds left'])
+
+    def test_the_half_minute_goes_on_through_windows(self):
+        stream, now = io.StringIO(), [0.0]
+        shown = progress.Progress(stream, lambda: now[0])
+        for window in range(4):
+            shown.begin(10, f'part {window}: ')
+            for _ in range(10):
+                now[0] += 1
+                shown.step(Outcome(GOOD))
+            shown.end()
+        self.assertEqual(stream.getvalue().splitlines(), [
+            'crashfs-check: part 2: 10 of 10 tried, 0 fail, about 0 seconds left'])
 
     def test_durations_are_rounded(self):
         for seconds, shown in [(0.4, '0 seconds'), (59, '59 seconds'), (100, '2 minutes'),

@@ -188,7 +188,7 @@ class Groups(unittest.TestCase):
         self.assertEqual([one.strip() for one in empty.lines()[2:4]], ['line 2: a', 'line 4: b'])
         torn = report_of(text, lambda files, says: 'torn' if b'\0' in files.get('/f', b'') else '')
         self.assertEqual([one.strip()[:9] for one in torn.lines()[2:5]],
-                         ['line 4: b', 'line 4 (w', 'no sync c'])
+                         ['line 4: b', 'line 4 (w', 'no sync h'])
 
     def test_a_torn_line_and_a_change_in_two_lines_are_told_as_such(self):
         text = HEADER + line('creat', '/f') + line('fsync', '/') + write('/f', 'x' * 5000)
@@ -252,6 +252,10 @@ class Texts(unittest.TestCase):
                                      'fails'),
                 (Tried(0, 52, 2), 3, 'with those 3 syncs 0 of these 52 states are left, and 2 '
                                      'others fail'),
+                (Tried(0, 52, 2, 2), 1, 'with that sync 0 of these 52 states are left, and 2 '
+                                        'others still fail'),
+                (Tried(0, 52, 1, 1), 1, 'with that sync 0 of these 52 states are left, and 1 '
+                                        'other still fails'),
                 (Tried(5, 52, 0), 1, 'with that sync 5 of these 52 states are left, so one sync is '
                                      'not enough, and no other fails'),
                 (Tried(0, 1, 0), 1, 'with that sync this state is not left, and no other fails')]:
@@ -285,7 +289,7 @@ class Tries(InStore):
         lines = [one.strip() for one in ran.stdout.splitlines()]
         first = lines.index('fsync /a between them')
         self.assertRegex(lines[first + 1], 'tried: with that sync 0 of these [0-9]+ states are '
-                                           'left, and [0-9]+ others fail')
+                                           'left, and [0-9]+ others still fail')
         self.assert_nothing_left()
 
 

@@ -3,6 +3,7 @@
 from __future__ import annotations
 
 import os
+import shutil
 import subprocess
 import sys
 from typing import List
@@ -11,7 +12,8 @@ from measuring.memory import crowd, growth, idle, journal
 from measuring.programs import Programs
 from measuring.servers import free_address, halves, listening
 
-from .support import TOOLS, InFolder
+from .support import FAKE as READING
+from .support import TOOLS, InFolder, needed
 
 CRATES = """# Each crate with the libraries that it stands on.
 cs_bench:
@@ -58,8 +60,10 @@ class Measure(InFolder):
             '== second_bench: not built: second_bench',
             '== serve_bench: not built: serve_bench, crashfs',
             '== memory: not built: crashfs',
+            '== states: not built: crashfs',
             'past: first_bench: kept: 41.200 MB, past (at most 40)',
-            '1 rows within, 1 past; not built: second_bench, serve_bench, memory',
+            '1 rows within, 1 past; not built: second_bench, serve_bench, memory, '
+            'states',
         ])
         self.assertEqual((told.returncode, told.stderr), (1, ''))
 
@@ -79,8 +83,8 @@ class Measure(InFolder):
     def test_a_name_that_is_no_benchmark_is_refused(self) -> None:
         told = self.measure('cs_bench')
         self.assertEqual(told.returncode, 2)
-        self.assertIn('cs_bench is none of first_bench, second_bench, serve_bench, memory',
-                      told.stderr)
+        self.assertIn('cs_bench is none of first_bench, second_bench, serve_bench, memory, '
+                      'states\n', told.stderr)
 
     def test_clients_get_the_served_address_and_those_of_three_bare_servers(self) -> None:
         self.program('crashfs', ['#!/bin/sh', f'exec {FAKE} "$@"'])
@@ -97,6 +101,20 @@ class Measure(InFolder):
         told = self.measure('memory')
         self.assertEqual(told.returncode, 1)
         self.assertEqual(told.stdout.count('memory failed: '), 3)
+
+
+class States(Measure):
+
+    @needed(shutil.which('cc') is not None, 'cc is not there')
+    def test_states_are_measured_beside_a_c_program(self) -> None:
+        self.program('crashfs', ['#!/bin/sh', f'exec {READING} "$@"'])
+        told = self.measure('states').stdout
+        self.assertRegex(told, r'\n295 states by \d+ jobs: \d+ a second, by one \d+; the C program')
+        self.assertRegex(told, r'\na state beside the C program: [\d.]+ times, (within|past) ')
+
+    def test_a_check_that_fails_is_told(self) -> None:
+        self.program('crashfs', ['#!/bin/sh', 'exit 4'])
+        self.assertIn('states failed: ', self.measure('states').stdout)
 
 
 class Memory(InFolder):

@@ -124,7 +124,15 @@ class Digests(unittest.TestCase):
     def test_states_have_the_same_digest_just_if_their_trees_are_equal(self):
         write = '{"op":"write","path":"/a","offset":%d,"text":"aaaa"}\n'
         hidden = HEADERS[3] + A + write % 0 + write % 4
-        for text in [hidden, *(RandomTrace(3, seed).text() for seed in range(40))]:
+        # Two files of the same bytes: of several blocks each, of which one shrinks on the way.
+        alike = HEADERS[3] + A + B + ''.join(
+            f'{{"op":"write","path":"/{name}","offset":0,"text":"{"x" * 5000}"}}\n'
+            for name in 'ab') + ('{"op":"truncate","path":"/b","length":100}\n'
+                                 '{"op":"truncate","path":"/b","length":5000}\n'
+                                 '{"op":"write","path":"/b","offset":100,"text":"'
+                                 + 'x' * 4900 + '"}\n{"op":"sync"}\n'
+                                 '{"op":"rename","from":"/b","to":"/a"}\n')
+        for text in [hidden, alike, *(RandomTrace(3, seed).text() for seed in range(60))]:
             try:
                 plan = plan_of(read(text.encode()), True)
             except ReadingFault:

@@ -266,12 +266,12 @@ class Records(InRecordings):
         ran = self.run_tool('crashfs-record', '--no-say', 'd', 'out.trace', '--',
                             sys.executable, 'save.py')
         self.assertEqual(ran.returncode, 3)
-        self.assertIn(f'save.py is no absolute path, and COMMAND runs in {self.path("d")}: name '
-                      f'it as {self.path("save.py")}\n', ran.stderr)
+        self.assertIn(f'save.py is a relative path, but COMMAND runs in {self.path("d")}: use '
+                      f'{self.path("save.py")}\n', ran.stderr)
         self.assertIn('its last state equals the directory (by', ran.stderr)
         ran = self.run_tool('crashfs-record', '--no-say', 'd', 'out.trace', '--',
                             sys.executable, 'here.py')
-        self.assertNotIn('no absolute path', ran.stderr)
+        self.assertNotIn('a relative path', ran.stderr)
 
     def test_a_command_that_cannot_be_started_is_told(self):
         odd = self.write('odd', 'true\n', 0o755)

@@ -62,6 +62,15 @@ class Stores(unittest.TestCase):
                          ['write /f 0 parent', 'fsyncrange /f 0 4096'])
         self.assertEqual(len(session.troubles.values()), 1)
 
+    def test_an_older_copy_doesn_t_undo_a_newer_one(self):
+        # The parent's copy comes first, but the parent's call is after the child's in the trace.
+        for older in (bytes(8), b'old\0\0\0\0\0'):
+            session = session_of([Copy(6, 1, True, {0: older}),
+                                  Copy(7, 2, True, {0: b'parent\0\0'}, {0})])
+            self.assertEqual([short(one) for one in session.trace.operations],
+                             ['write /f 0 parent', 'fsyncrange /f 0 4096'])
+            self.assertEqual(len(session.troubles.values()), 1)
+
     def test_a_copy_after_a_call_that_failed_counts(self):
         session = session_of([Copy(3, 1, True, {0: b'row' + bytes(5)})], FAILED)
         self.assertEqual([short(one) for one in session.trace.operations],

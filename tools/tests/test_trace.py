@@ -211,7 +211,7 @@ class Fake(InFolder):
                               (8, {'b': ('ann', 0o600)})]:
             words = ['--trace', trace, '--holes', '--state', str(state)]
             with self.subTest(state), Crashfs(FAKE).archive(words) as members:
-                found = {one.name: (one.uname, one.mode) for one in members if one.name != '.'}
+                found = {one.path: (one.owner, one.mode) for one in members if one.path}
                 self.assertEqual(found, wanted)
 
     def test_ordered_takes_states_away(self):

@@ -1,11 +1,14 @@
 """Command lines that are wrong: each has its lines on standard error and its status."""
 
 import os
+import signal
 import socket
+import struct
 import subprocess
 import sys
 import unittest
-from typing import Dict, List, Tuple
+from contextlib import contextmanager
+from typing import Dict, Iterator, List, Tuple
 
 from crashfs_tools import VERSION
 from crashfs_tools.program import Crashfs
@@ -81,9 +84,11 @@ HEADER = '{"trace":1,"owner":"u","group":"u","mode":"755"}\n'
 CREAT = '{"op":"creat","path":"/%s","owner":"u","group":"u","mode":"644"}\n'
 # Files that the rows below name.
 FILES: Dict[str, str] = {
+    'alone': '[0]\n[5]\n',
     'bom': '\ufeff' + HEADER,
     'crlf': HEADER.replace('\n', '\r\n'),
     'empty': '',
+    'far': '[99]\n',
     'key': HEADER.replace('}', ',"comment":"x"}'),
     'kind': HEADER + '{"start":"pipe","path":"/a"}\n',
     'list': '[1]\n',
@@ -94,6 +99,7 @@ FILES: Dict[str, str] = {
     'pick': '[1,0]\n',
     'text': 'hello\n',
     'users': '0:u:u:\n',
+    'users-crlf': '\r\n0:u:u:\r\n',
     'version': HEADER.replace('1', '4'),
     'word': HEADER + '{"op":"wirte","path":"/a"}\n',
 }
@@ -102,6 +108,8 @@ SERVE = 'serve STORE --users users --workers 1 --connections 1 --listen'
 PROGRAM: List[Tuple[str, int, List[str]]] = [
     (f'{SERVE} localhost', 1, ['cannot listen', 'localhost: invalid socket address']),
     (f'{SERVE} 5640', 1, ['cannot listen', '5640: invalid socket address']),
+    ('serve STORE --users users-crlf --listen 5640', 1,
+     ['cannot listen', '5640: invalid socket address']),
     (f'{SERVE} localhost:99999', 1, ['cannot listen', 'localhost:99999: invalid port value']),
     (f'{SERVE} unix:/tmp/x', 1, ['cannot listen', 'unix:/tmp/x: invalid port value']),
     (f'{SERVE} 192.0.2.1:5640', 1,
@@ -126,8 +134,16 @@ PROGRAM: List[Tuple[str, int, List[str]]] = [
     ('tar STORE --state 13', 1, ['no such state', 'there are 12 states; with --holes 19']),
     ('tar STORE --states 0,13-14 --holes', 0, []),
     ('tar STORE --states 19 --holes', 1, ['no such state', 'there are 19 states']),
-    ('list many --holes', 1, ['plan too large', 'a plan has at most 16384 states: ']),
-    ('list STORE --picks pick', 1, ['pick 0 not allowed', 'a pick must ']),
+    ('list many --holes', 1, ['plan too large', 'a plan has at most 16384 states: this trace has 201 '
+                              'without holes, and 19900 holes; ']),
+    ('list STORE --picks pick', 1,
+     ['pick 0 not allowed', 'pick 0: its operations do not ascend']),
+    ('list STORE --picks far', 1,
+     ['pick 0 not allowed', 'pick 0: there are 11 operations, and no 99']),
+    ('list STORE --picks alone', 1,
+     ['pick 1 not allowed', 'pick 1: operation 5 needs operation 0']),
+    ('tar STORE --states 13 --changes', 1, ['no such state', 'there are 12 states; with ']),
+    ('tar STORE --state 11 --changes', 0, []),
     ('list many', 0, []),
     ('list crlf', 0, []),
     ('list -', 1, ['trace line 1: Syntax', '-:1: the file has no line']),
@@ -231,13 +247,88 @@ class Programs(InFolder):
         self.assertIn('For each operation the smallest disk that still has it', ran.stdout)
 
     @needs_program
-    def test_serve_ends_with_its_input_and_has_defaults(self) -> None:
+    def test_a_closed_pipe_is_silent(self) -> None:
         assert FOUND is not None
-        ran = subprocess.run([FOUND.path, 'serve', STORE, '--users', 'users', '--again', '--listen',
-                              '127.0.0.1:0'], cwd=self.folder, capture_output=True, text=True,
-                             stdin=subprocess.DEVNULL, timeout=PATIENCE)
-        self.assertEqual((ran.returncode, ran.stderr), (0, ''))
-        self.assertRegex(ran.stdout, r'^listening 127\.0\.0\.1:\d+\n')
+        for words in (['tar', '--states', '0-11'], ['list'], ['picks', '--lost']):
+            reader, writer = os.pipe()
+            os.close(reader)
+            with os.fdopen(writer, 'wb') as out:
+                ran = subprocess.run([FOUND.path, words[0], STORE, *words[1:]], stdout=out,
+                                     stderr=subprocess.PIPE)
+            self.assertEqual((ran.stderr, ran.returncode), (b'', 1), words)
+
+    @needs_program
+    def test_a_full_device_is_named(self) -> None:
+        assert FOUND is not None
+        for words in (['tar', '--states', '0-11'], ['list'], ['picks', '--lost']):
+            with open('/dev/full', 'w', encoding='utf-8') as full:
+                ran = subprocess.run([FOUND.path, words[0], STORE, *words[1:]], stdout=full,
+                                     stderr=subprocess.PIPE, text=True)
+            self.assertEqual((ran.returncode, ran.stderr.splitlines()), (1, [
+                'crashfs: output failed',
+                'crashfs: standard output: No space left on device (os error 28)']), words)
+
+
+class Served(InFolder):
+    """The command `serve` of the program."""
+
+    @contextmanager
+    def serving(self, *words: str) -> Iterator[Tuple[subprocess.Popen[str], int]]:
+        """A server of the store's trace, and its port. It ends with its standard input."""
+        assert FOUND is not None
+        with subprocess.Popen([FOUND.path, 'serve', STORE, '--again', '--ready', '--listen',
+                               '127.0.0.1:0', *words], stdin=subprocess.PIPE, text=True,
+                              stdout=subprocess.PIPE, stderr=subprocess.PIPE) as child:
+            assert child.stdout is not None and child.stdin is not None
+            yield child, int(child.stdout.readline().rpartition(':')[2])
+            child.stdin.close()
+            child.wait(PATIENCE)
+
+    @staticmethod
+    def replies(port: int, *requests: bytes) -> List[int]:
+        """The type of the reply to each request."""
+        with socket.create_connection(('127.0.0.1', port), PATIENCE) as client:
+            found = []
+            for request in requests:
+                client.sendall(struct.pack('<I', len(request) + 4) + request)
+                size = struct.unpack('<I', client.recv(4, socket.MSG_WAITALL))[0]
+                found.append(client.recv(size - 4, socket.MSG_WAITALL)[0])
+            return found
+
+    @needs_program
+    def test_serve_ends_with_its_input_and_has_defaults(self) -> None:
+        with self.serving() as (child, _):
+            pass
+        assert child.stderr is not None
+        self.assertEqual(child.returncode, 0)
+
+    @needs_program
+    def test_without_users_the_owners_of_the_trace_attach(self) -> None:
+        version = b'\x64\xff\xff' + struct.pack('<IH', 8192, 6) + b'9P2000'
+        with self.serving() as (_, port):
+            for user, reply in ((b'kv', 105), (b'nobody', 107)):
+                attach = (b'\x68\0\0' + struct.pack('<II', 0, 0xffffffff)
+                          + struct.pack('<H', len(user)) + user + b'\x03\x000/x')
+                self.assertEqual(self.replies(port, version, attach), [101, reply], user)
+
+    @needs_program
+    def test_a_client_of_another_protocol_gets_a_line(self) -> None:
+        with self.serving() as (child, port):
+            with socket.create_connection(('127.0.0.1', port), PATIENCE) as client:
+                client.sendall(b'GET / HTTP/1.0\r\n\r\n')
+                self.assertEqual(client.recv(1), b'')
+            assert child.stderr is not None
+            self.assertEqual(child.stderr.readline(), "crashfs: connection 0 is no 9P2000: "
+                             "a message's size is above 65536\n")
+
+    @needs_program
+    def test_signals_end_it_at_once(self) -> None:
+        for number in (signal.SIGTERM, signal.SIGINT):
+            if signal.getsignal(number) is signal.SIG_IGN:
+                continue  # as a shell starts what runs in its background
+            with self.serving() as (child, _):
+                child.send_signal(number)
+                self.assertEqual(child.wait(PATIENCE), -number)
 
 
 if __name__ == '__main__':

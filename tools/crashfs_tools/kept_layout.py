@@ -1,0 +1,82 @@
+"""Lays states out by what they change: each process has one directory that it brings from state to
+state."""
+
+from __future__ import annotations
+
+import os
+from contextlib import contextmanager
+from typing import Dict, Iterator, Optional, Set, Tuple
+
+from .changes import Tree, read_changes
+from .descendants import NoDescendants, adopt, children, left_since
+from .kept_tree import KeptTree
+from .layout import Archive
+from .plan import Planned
+from .program import Crashfs, ProgramFault
+
+# Start trees of so many entries, or so many bytes of their lines, are kept from state to state.
+MUCH_ENTRIES, MUCH_BYTES = 32, 1 << 20
+
+
+class KeptLayout(Archive):
+
+    def __init__(self, program: Crashfs, planned: Planned, folder: str,
+                 environment: Dict[str, str]) -> None:
+        super().__init__(program, planned, folder, environment)
+        with program.archive([*planned.words, '--state', '0'], environment) as members:
+            self.start: Tree = {one.path: one for one in members}
+        self.kept: Optional[KeptTree] = None
+
+    def states(self, wanted: Set[int]) -> Iterator[Tuple[int, str]]:
+        """As its base, unless the system says whether COMMAND left processes: these could change a
+        tree that stays."""
+        try:
+            adopt()
+            children()
+        except NoDescendants:
+            yield from super().states(wanted)
+            return
+        self.kept = KeptTree(os.path.join(self.folder, f'kept-{os.getpid()}'))
+        try:
+            for number, tree in self.trees(wanted):
+                self.kept.bring(tree)
+                yield number, self.kept.directory
+        finally:
+            self.kept.remove()
+
+    @contextmanager
+    def laid_out(self, number: int, directory: str) -> Iterator[None]:
+        if self.kept is None:
+            with super().laid_out(number, directory):
+                yield
+            return
+        before = children()
+        self.kept.begin()
+        yield
+        if left_since(before):
+            self.kept.abandon()
+
+    def trees(self, wanted: Set[int]) -> Iterator[Tuple[int, Tree]]:
+        left = set(wanted)
+        words = [*self.planned.words, '--states', self.planned.list_of(wanted), '--changes']
+        with self.program.archive(words, self.environment) as members:
+            for changes in read_changes(members):
+                number = changes.number + self.planned.plan.first
+                left.discard(number)
+                yield number, changes.applied(self.start)
+        if left:
+            raise ProgramFault(0, f'crashfs tar wrote no state {min(left)}'.encode())
+
+
+def has_much(trace: str) -> bool:
+    """Whether a trace's start tree takes longer to be laid out than to be looked at."""
+    entries = size = 0
+    with open(trace, 'rb') as lines:
+        next(lines, b'')
+        for line in lines:
+            if not line.startswith(b'{"start":'):
+                break
+            entries, size = entries + 1, size + len(line)
+            if entries >= MUCH_ENTRIES or size >= MUCH_BYTES:
+                return True
+    return False

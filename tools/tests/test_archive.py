@@ -1,0 +1,72 @@
+"""Reads archives as `crashfs tar` writes them, and refuses what is none."""
+
+import io
+import tarfile
+import unittest
+
+from crashfs_tools.archive import ArchiveFault, Member, members
+
+LONG = 'n' * 255
+TREE = [
+    Member('', 0o755, 'u', 'g', None),
+    Member('d', 0o700, 'u', 'g', None),
+    Member('d/empty', 0, 'u', 'g', b''),
+    Member('d/ä "o"\n', 0o644, 'ü', 'g' * 40, bytes(range(256)) * 3),
+    Member('/'.join([LONG] * 3), 0o644, 'u', 'g', b'long'),
+    Member('/'.join(['m' * 60] * 3), 0o644, 'u', 'g', 512 * b'x'),
+]
+
+
+def archive_of(tree, form=tarfile.PAX_FORMAT) -> bytes:
+    out = io.BytesIO()
+    with tarfile.open(fileobj=out, mode='w', format=form) as archive:
+        for one in tree:
+            info = tarfile.TarInfo(one.path or '.')
+            info.type = tarfile.DIRTYPE if one.data is None else tarfile.REGTYPE
+            info.mode, info.uname, info.gname = one.mode, one.owner, one.group
+            info.size = len(one.data or b'')
+            archive.addfile(info, io.BytesIO(one.data or b''))
+    return out.getvalue()
+
+
+def read(data: bytes):
+    return list(members(io.BytesIO(data)))
+
+
+class Archives(unittest.TestCase):
+
+    def test_entries_are_read_with_all_that_they_have(self):
+        self.assertEqual(read(archive_of(TREE)), TREE)
+        self.assertEqual(read(archive_of(TREE[:3] + TREE[5:], tarfile.USTAR_FORMAT)),
+                         TREE[:3] + TREE[5:])
+
+    def test_an_archive_without_its_end_is_refused(self):
+        data = archive_of(TREE[:1])
+        self.assertEqual(read(data[:1024]), TREE[:1])
+        for size in (0, 100, 512, 1023):
+            with self.assertRaisesRegex(ArchiveFault, 'ends early'):
+                read(data[:size])
+
+    def test_what_is_no_archive_is_refused(self):
+        header = bytearray(archive_of(TREE[2:3])[:512])
+        for place, byte, why in [(0, b'D', 'another sum'), (156, b'2', 'another sum')]:
+            changed = bytearray(header)
+            changed[place:place + 1] = byte
+            with self.assertRaisesRegex(ArchiveFault, why):
+                read(bytes(changed) + bytes(1024))
+        for path in ('../up', 'd/../up', 'd//f', '/top', './d'):
+            with self.assertRaisesRegex(ArchiveFault, 'an entry of the path'):
+                read(archive_of([Member(path, 0o644, 'u', 'g', b'')]))
+
+    def test_other_kinds_of_entries_are_refused(self):
+        out = io.BytesIO()
+        with tarfile.open(fileobj=out, mode='w') as archive:
+            info = tarfile.TarInfo('link')
+            info.type, info.linkname = tarfile.SYMTYPE, 'target'
+            archive.addfile(info)
+        with self.assertRaisesRegex(ArchiveFault, 'unknown type'):
+            read(out.getvalue())
+
+
+if __name__ == '__main__':
+    unittest.main()

@@ -1,0 +1,206 @@
+"""Trees that stay from state to state: what COMMAND did to them is undone."""
+
+import os
+import subprocess
+import unittest
+from unittest import mock
+
+from crashfs_tools import kept_tree
+from crashfs_tools.archive import Member
+from crashfs_tools.kept_tree import KeptTree
+
+from .support import FAKE, InFolder
+from .test_check_command import InStore
+
+RIGHTS = '"owner":"u","group":"u","mode"'
+
+
+def file(text: str, mode: int = 0o644) -> Member:
+    return Member('', mode, 'u', 'g', text.encode())
+
+
+def folder(mode: int = 0o755) -> Member:
+    return Member('', mode, 'u', 'g', None)
+
+
+TREE = {'': folder(), 'a': file('one'), 'b': file('two', 0o600), 'd': folder(0o750),
+        'd/c': file('three'), 'd/e': folder(), 'd/e/f': file('')}
+# What COMMAND may do, in a shell, to a tree that is to be kept.
+DEEDS = [
+    'echo more >> a', 'printf eno > a', 'printf xxx | dd of=b conv=notrunc 2>/dev/null',
+    'cp -p a old; printf xxx > a; touch -r old a; rm old', 'mv a b', 'ln a g', 'ln -f a ../outside',
+    'rm -r d', 'rm d/c; mkdir d/c', 'rm a; ln -s b a', 'chmod 000 a', 'chmod 000 d d/e',
+    'chmod 0 .', 'mkdir -p x/y; echo > x/y/z', 'mv d dd; mkdir d', 'chmod 4755 b',
+    'cp -p a n; mv n a', 'echo > "new\nline"', 'chmod 600 d/e; chmod 755 d/e', 'mkfifo p', 'true',
+]
+STORE = """
+import mmap
+with open('a', 'r+b') as file, mmap.mmap(file.fileno(), 0) as m:
+    m[0]
+    m[0:1] = b'X'
+"""
+
+
+def listing(directory: str):
+    """All that a tree has, by path."""
+    found = {}
+    for path, names, files in os.walk(directory):
+        for name in names + files + ([''] if path == directory else []):
+            full = os.path.join(path, name).rstrip('/')
+            status = os.lstat(full)
+            data = None
+            if os.path.isfile(full) and not os.path.islink(full):
+                with open(full, 'rb') as file_read:
+                    data = file_read.read()
+            found[os.path.relpath(full, directory)] = status.st_mode, status.st_nlink * (
+                data is not None), data
+    return found
+
+
+def fresh(tree, directory):
+    one = KeptTree(directory)
+    one.bring(tree)
+    found = listing(directory)
+    one.remove()
+    return found
+
+
+class Kept(InFolder):
+
+    def setUp(self):
+        super().setUp()
+        self.place = self.path('kept')
+        patched = mock.patch.object(kept_tree, 'TICK_SECONDS', 0.02)
+        patched.start()
+        self.addCleanup(patched.stop)
+
+    def times(self):
+        return {path: os.lstat(os.path.join(self.place, path)).st_ctime_ns for path in TREE
+                if TREE[path].data is not None}
+
+    def test_whatever_was_done_to_it_the_next_tree_is_right(self):
+        for has_times in (True, False):
+            kept, wanted = KeptTree(self.place), fresh(TREE, self.path('fresh'))
+            for deed in DEEDS:
+                with self.subTest(deed):
+                    kept.bring(TREE)
+                    self.assertEqual(listing(self.place), wanted)
+                    kept.has_times = has_times
+                    kept.begin()
+                    subprocess.run(['sh', '-c', deed], cwd=self.place, check=True)
+            kept.bring(TREE)
+            self.assertEqual(listing(self.place), wanted)
+            kept.remove()
+            self.assertFalse(os.path.exists(self.place))
+
+    def test_a_store_through_a_mapping_is_seen(self):
+        kept = KeptTree(self.place)
+        for place in (self.place, '/dev/shm/' + os.path.basename(self.folder)):
+            kept = KeptTree(place)
+            kept.bring(TREE)
+            self.addCleanup(kept.remove)
+            kept.begin()
+            subprocess.run(['python3', '-S', '-c', STORE], cwd=place, check=True)
+            self.assertEqual(listing(place)['a'][2], b'Xne')
+            kept.bring(TREE)
+            self.assertEqual(listing(place)['a'][2], b'one')
+
+    def test_what_nobody_changed_stays(self):
+        kept = KeptTree(self.place)
+        kept.bring(TREE)
+        before = self.times()
+        kept.begin()
+        kept.bring(TREE)
+        self.assertEqual(self.times(), before)
+        kept.begin()
+        subprocess.run(['sh', '-c', 'echo >> a; rm b'], cwd=self.place, check=True)
+        kept.bring(TREE)
+        self.assertEqual([path for path in before if self.times()[path] == before[path]],
+                         ['d/c', 'd/e/f'])
+
+    def test_a_file_that_was_written_in_the_same_tick_is_written_again(self):
+        kept = KeptTree(self.place)
+        kept.bring(TREE)
+        kept.begin()
+        changed = {**TREE, 'a': file('new')}
+        kept.bring(changed)
+        kept.started = os.stat(self.path('kept', 'a')).st_ctime_ns
+        before = self.times()
+        kept.bring(changed)
+        self.assertNotEqual(self.times()['a'], before['a'])
+        self.assertEqual(self.times()['d/c'], before['d/c'])
+
+    def test_a_file_that_is_another_one_is_written_again(self):
+        """Also if its times say nothing."""
+        kept = KeptTree(self.place)
+        kept.bring(TREE)
+        kept.begin()
+        before = self.times()
+        kept.files['a'] = kept.files['a']._replace(signature=(0,))
+        kept.bring(TREE)
+        self.assertEqual([path for path in before if self.times()[path] != before[path]], ['a'])
+
+    def test_one_tree_after_another(self):
+        trees = [TREE, {'': folder(0o700)}, {'': folder(), 'a': folder(0), 'a/x': file('y')},
+                 {**TREE, 'd/e': file('now a file')}, TREE, {**TREE, 'a': file('one', 0o400)}]
+        trees[3].pop('d/e/f')
+        kept = KeptTree(self.place)
+        for tree in trees:
+            kept.bring(tree)
+            self.assertEqual(listing(self.place), fresh(tree, self.path('fresh')))
+            kept.begin()
+
+
+class Checks(InStore):
+    """The same states by what they change as by whole archives."""
+
+    def trace_of_many(self, count: int) -> str:
+        start = ''.join(f'{{"start":"file","path":"/f{number}",{RIGHTS}:"644","text":"{number}"}}\n'
+                        for number in range(count))
+        return self.write('many.trace', f'{{"trace":3,"profile":"blocks","block":4096,{RIGHTS}:'
+                          f'"755"}}\n{start}'
+                          '{"op":"write","path":"/f1","offset":0,"text":"changed"}\n'
+                          f'{{"op":"mkdir","path":"/d",{RIGHTS}:"750"}}\n'
+                          '{"op":"rename","from":"/f2","to":"/d/g"}\n'
+                          '{"op":"unlink","path":"/f3"}\n'
+                          '{"op":"chmod","path":"/f4","mode":"600"}\n'
+                          '{"op":"say","text":"done"}\n')
+
+    def states(self, program: str, trace: str, script: str):
+        """What COMMAND found in each state."""
+        log = self.path('log')
+        os.makedirs(log)
+        listed = (f'find . -printf "%P %y %m %s %n\\n" | sort > {log}/$CRASHFS_STATE; find . -type f '
+                  f'| sort | xargs cat >> {log}/$CRASHFS_STATE; {script}')
+        ran = self.run_tool('crashfs-check', '--crashfs', program, '--jobs', '2', trace, '--',
+                            'sh', '-c', listed)
+        self.assertEqual((ran.returncode, ran.stderr), (0, ''), ran.stdout)
+        found = {name: self.read(os.path.join('log', name)) for name in os.listdir(log)}
+        os.rename(log, self.path(f'log-{len(os.listdir(self.folder))}'))
+        self.assert_nothing_left()
+        return found
+
+    def test_states_are_those_of_whole_archives(self):
+        trace = self.trace_of_many(40)
+        whole = self.write('whole', f'#!/bin/sh\ntest "$2" = --help && exit 2\n{FAKE} "$@"\n',
+                           0o755)
+        # No archive of many whole states is asked for.
+        only = self.write('only', '#!/bin/sh\nfor last; do :; done\ncase "$last" in --*) ;; '
+                          f'*,*|*[0-9]-[0-9]*) exit 9;; esac\n{FAKE} "$@"\n', 0o755)
+        wanted = self.states(whole, trace, 'true')
+        self.assertGreater(len(wanted), 10)
+        for script in ('echo x >> f1; rm f9; mv f5 f6; chmod 0 .',
+                       f'(setsid sh -c "sleep 0.1; echo x >> f8; sleep {self.long}" &) '
+                       '> /dev/null 2>&1'):
+            self.assertEqual(self.states(only, trace, script), wanted)
+        self.assert_ended()
+
+    def test_a_small_tree_is_laid_out_whole(self):
+        no_changes = self.write('none', f'#!/bin/sh\ncase "$*" in *--changes*) exit 9;; esac\n'
+                                f'{FAKE} "$@"\n', 0o755)
+        ran = self.run_tool('crashfs-check', '--crashfs', no_changes, self.good, '--', 'true')
+        self.assertEqual(ran.returncode, 0, ran.stderr)
+
+
+if __name__ == '__main__':
+    unittest.main()
