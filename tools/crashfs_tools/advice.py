@@ -71,7 +71,15 @@ def advice_of(kept: Optional[TraceLine], lost: Optional[TraceLine], is_span: boo
     target = 'the directory ' if lost.path != path else ''
     more = len(places) - 1
     also = f' (and at {more:,} more place{"s" if more > 1 else ""})' if more else ''
-    return Advice([*text, f'fsync {target}{path} between them{also}'], syncs)
+    where = 'between them' + before_rename(path, range(lost.number, kept.number), lines)
+    return Advice([*text, f'fsync {target}{path} {where}{also}'], syncs)
+
+
+def before_rename(path: str, between: range, lines: Dict[int, TraceLine]) -> str:
+    """Where a file gets another name: the sync belongs before that line."""
+    found = (lines[number] for number in between if number in lines)
+    first = next((one for one in found if (one.word, one.path) == ('rename', path)), None)
+    return f', before line {first.number} ({first.text})' if first else ''
 
 
 def when(kept: TraceLine) -> str:

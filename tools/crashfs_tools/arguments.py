@@ -3,13 +3,16 @@
 from __future__ import annotations
 
 import re
+from binascii import unhexlify
 from dataclasses import dataclass
 from typing import List, Optional
 
-BRACKETS = re.compile(r'[,()\[\]{}]')
+SIGN = re.compile(r'[",()\[\]{}]')
 DESCRIPTOR = re.compile(r'^(-?\d+|AT_FDCWD|0x[0-9a-f]+)(?:<(.*)>)?(\(deleted\))?$', re.S)
 PIECE = re.compile(r'iov_base=("[^"]*"(?:\.\.\.)?|0x[0-9a-f]+|NULL)')
 CURRENT_DIRECTORY = -100
+# What a packed word begins with, as no word of strace's does.
+PACKED = '='
 
 
 @dataclass(frozen=True)
@@ -28,28 +31,59 @@ class Descriptor:
 
 
 def split(text: str) -> List[str]:
-    """The arguments. No comma or bracket is inside a text, since texts are numbers."""
+    """The arguments."""
     words, depth, last = [], 0, 0
-    for match in BRACKETS.finditer(text):
-        sign = match[0]
-        if sign == ',' and depth == 0:
+    match = SIGN.search(text)
+    while match:
+        sign, place = match[0], match.end()
+        if sign == '"':
+            place = end_of_text(text, place)
+        elif sign == ',' and depth == 0:
             words.append(text[last:match.start()].strip())
-            last = match.end()
+            last = place
         elif sign in '([{':
             depth += 1
         elif sign in ')]}':
             depth -= 1
+        match = SIGN.search(text, place)
     words.append(text[last:].strip())
     return words
 
 
+def end_of_text(text: str, place: int) -> int:
+    """Where a text ends: its signs are numbers, so no quotation mark is inside it."""
+    end = text.find('"', place)
+    return len(text) if end < 0 else end + 1
+
+
 def from_numbers(text: str) -> bytes:
-    r"""The bytes of `\x61\x62`."""
-    return bytes.fromhex(text.replace('\\x', ''))
+    r"""The bytes of `\x61\x62`; ValueError for another text."""
+    signs, count = text.encode('ascii'), len(text) // 4
+    if signs[::4] != b'\\' * count or signs[1::4] != b'x' * count:
+        raise ValueError('a text that is not by numbers')
+    digits = bytearray(2 * count)
+    digits[::2], digits[1::2] = signs[2::4], signs[3::4]
+    return unhexlify(digits)
+
+
+def packed(word: str) -> str:
+    """A text, or a vector of texts, in a quarter of the room: its bytes are letters. Anything else
+    is as it was."""
+    try:
+        found = data(word) if word.startswith('"') else vector(word) if '"' in word else None
+    except ValueError:
+        return word
+    return word if found is None else PACKED + found.decode('latin-1')
+
+
+def unpacked(word: str) -> Optional[bytes]:
+    return word[len(PACKED):].encode('latin-1') if word.startswith(PACKED) else None
 
 
 def data(word: str) -> Optional[bytes]:
     """The bytes of a text, or None for one that strace cut or printed as an address."""
+    if word.startswith(PACKED):
+        return unpacked(word)
     if not word.startswith('"') or word.endswith('...'):
         return None
     return from_numbers(word[1:-1])
@@ -87,6 +121,8 @@ def descriptor(word: str) -> Descriptor:
 
 def vector(word: str) -> Optional[bytes]:
     """The bytes of a writev's pieces, or None if one is cut."""
+    if word.startswith(PACKED):
+        return unpacked(word)
     pieces = [b'' if text == 'NULL' else data(text) for text in PIECE.findall(word)]
     whole = [piece for piece in pieces if piece is not None]
     return b''.join(whole) if len(whole) == len(pieces) else None

@@ -4,12 +4,12 @@ from __future__ import annotations
 
 from typing import Optional
 
+from .entry import parent_of
 from .live import Node
 from .processes import Process
 from .session import Session
 from .strace_log import Call
 from .trace import Link, Rename, Rmdir, Unlink
-from .tree import parent_of
 
 
 def unlink(session: Session, process: Process, call: Call) -> None:

@@ -1,4 +1,5 @@
-"""The command crashfs-check."""
+"""The command crashfs-check. What few checks need is imported where they need it: it takes as long
+as many states."""
 
 from __future__ import annotations
 
@@ -10,15 +11,10 @@ from .check_options import NAME, Options, read_options
 from .checking import Checking, Run
 from .command import Refused, folder_of, found, standard_output, tell, write_whole
 from .guard import Guard, Stopped, stop_by_exception
-from .merging import merged_report
-from .nested import Recorder
 from .plan import PlanError
 from .program import Crashfs, ProgramFault
 from .report import NOT_ALL_TRIED, Report
-from .results import merged, read_json
 from .runner import keep_descriptors
-from .show_state import show
-from .trace import TraceError
 
 BAD_INPUT = 2
 
@@ -28,10 +24,10 @@ def check(options: Options) -> int:
         if path is not None:
             folder_of(path)
     if options.merge is not None:
-        results = merged([read_json(path) for path in options.merge])
+        from .merging import merged_report
         if options.trace is not None:
             readable(options.trace)
-        return finish(options, merged_report(options, results))
+        return finish(options, merged_report(options))
     options.trace = readable(options.trace or '')
     program = Crashfs.find_or_read(options.crashfs, options.unproved)
     options.command = found(options.command)
@@ -40,12 +36,8 @@ def check(options: Options) -> int:
         checking = Checking(options, program, guard)
         try:
             if options.state is not None:
-                number, second = options.state
-                trying = checking.trying_of(number)
-                if second is None:
-                    return show(trying, number)
-                recovery = Recorder(trying, checking.planner).plan(trying.plan.state(number))
-                return show(trying.with_plan(recovery), second)
+                from .show_state import show_state
+                return show_state(checking, *options.state)
             report, stop = Run(checking).run()
         except ProgramFault as fault:
             raise checking.planner.refused('tar', fault) from fault
@@ -78,7 +70,6 @@ def finish(options: Options, report: Report) -> int:
 
 
 def write_files(options: Options, report: Report) -> None:
-    """What few checks ask for is loaded only then: it takes as long as many states."""
     if options.json is not None:
         write_whole(options.json, report.json_pieces())
     if options.junit is not None:
@@ -97,7 +88,7 @@ def main(arguments: Optional[List[str]] = None) -> int:
     except Stopped as stopped:
         tell(NAME, f'stopped by {stopped}')
         return stopped.status
-    except (Refused, PlanError, TraceError) as refused:
+    except (Refused, PlanError) as refused:
         for line in str(refused).split('\n'):
             tell(NAME, line)
         return BAD_INPUT

@@ -7,8 +7,8 @@ import os
 from dataclasses import dataclass
 from typing import List, Optional, Tuple
 
+from .address import Address
 from .command import parse
-from .mounts import Address
 from .results import Shard
 from .version import version_of
 

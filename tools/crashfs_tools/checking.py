@@ -1,18 +1,17 @@
-"""A whole check: the windows of the session one after the other, and what is found in each."""
+"""A whole check: the windows of the session one after the other, and what is found in each. What few
+checks need is imported where they need it."""
 
 from __future__ import annotations
 
-import hashlib
 import os
 from functools import cached_property
-from typing import Dict, Iterator, Optional, Tuple
+from typing import TYPE_CHECKING, Dict, Iterator, Optional, Tuple
 
 from .check_options import Options
 from .command import TEXT, Refused
 from .first import First
 from .groups import Findings
 from .guard import Guard, Stopped, TimeUp, time_limit
-from .nested import Nested
 from .plan import Before, Planned
 from .planning import Planner, TooLarge
 from .program import Crashfs
@@ -20,13 +19,13 @@ from .progress import Progress
 from .report import Report
 from .results import AllResults, Head, Results, known_states, read_json
 from .runner import Outcome, Says
-from .steps import Session
 from .trace_lines import operation_lines
-from .trace_read import told_texts
-from .tree_diff import find_differences
+from .trace_text import told_texts
 from .trying import Trying
-from .trying_advice import try_advice
-from .windows import LARGEST, Windows, write
+
+if TYPE_CHECKING:
+    from .nested import Nested
+    from .windows import Windows
 
 FIRST_FAILURE, TIME_LIMIT = 'the first failure', 'the time limit'
 
@@ -53,8 +52,8 @@ class Checking:
             except TooLarge as fault:
                 if self.options.serve is not None:
                     raise Refused(f'{fault} (--serve has no windows)') from fault
-        session = Session(self.options.trace or '', self.text)
-        self.windows = Windows(self.planner, session, self.options.window or LARGEST)
+        from .windows import windows_of
+        self.windows = windows_of(self.planner, self.options, self.text)
         yield from self.windows.all()
 
     @cached_property
@@ -75,16 +74,21 @@ class Checking:
         raise Refused(f'no such state: {number} (there are {count:,})')
 
     def head(self) -> Head:
-        digest = hashlib.sha256(self.text.encode('utf-8', 'surrogateescape')).hexdigest()
-        return Head(os.path.basename(self.path), digest, self.options.command, self.options.shard,
-                    self.program.unproved)
+        return Head(os.path.basename(self.path), self.digest(), self.options.command,
+                    self.options.shard, self.program.unproved)
+
+    def digest(self) -> str:
+        """That of the trace, if a file of results has it or is to have it."""
+        if not (self.options.json or self.options.resume or self.options.merge):
+            return ''
+        import hashlib
+        return hashlib.sha256(self.text.encode('utf-8', 'surrogateescape')).hexdigest()
 
     def end(self) -> Optional[Planned]:
         """A plan of the tree at the session's end, if it is in windows."""
         if self.windows is None:
             return None
-        path = os.path.join(self.guard.directory, 'end.trace')
-        write(path, self.windows.session.end_trace())
+        path = self.windows.write_end()
         return self.planner.plan(path, Before(self.windows.session.places[-1],
                                               says=len(self.says.texts)))
 
@@ -102,7 +106,6 @@ class Run:
         # What the window before has found.
         self.last: Optional[Results] = None
         self.outcomes: Dict[int, Outcome] = {}
-        self.nested = Nested(checking.planner, self.options.nested)
 
     def read_earlier(self) -> Optional[AllResults]:
         path = self.options.resume
@@ -163,10 +166,16 @@ class Run:
         """Differences and advice; a part of the states is not enough for them."""
         if self.head.shard.parts == 1 and not self.options.serve:
             trying = self.checking.trying(planned)
-            find_differences(trying, self.findings)
-            try_advice(trying, self.checking.planner, self.findings)
-            for recovery in self.nested.run(trying, self.findings):
-                self.report.recoveries.append(recovery)
+            if self.findings.groups:
+                from .trying_advice import look_closer
+                look_closer(trying, self.checking.planner, self.findings)
+            if self.options.nested:
+                self.report.recoveries += self.nested.run(trying, self.findings)
+
+    @cached_property
+    def nested(self) -> Nested:
+        from .nested import Nested
+        return Nested(self.checking.planner, self.options.nested)
 
 
 ANOTHER = '--resume: that is a report of another check'

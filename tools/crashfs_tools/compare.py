@@ -6,9 +6,10 @@ from abc import ABC, abstractmethod
 from typing import Dict, Iterable, List, Optional, Set
 
 from .directory import Scan
+from .entry import Entries, Entry
 from .program import Crashfs
-from .trace_read import read_trace
-from .tree import Entries, Entry, Tree, replay
+from .trace_read import replay
+from .tree import Tree
 from .troubles import Trouble
 
 
@@ -23,21 +24,21 @@ class LastState(ABC):
 
 
 class Replayed(LastState):
-    """By an own reading of the trace, from its text if that can't be read from a file."""
+    """By an own reading of the trace, from these lines if it can't be read from a file."""
 
     name = "the recorder's replay"
 
-    def __init__(self, text: Optional[str] = None) -> None:
-        self.text = text
+    def __init__(self, lines: Optional[Iterable[str]] = None) -> None:
+        self.lines = lines
 
     def entries(self, trace: str) -> Entries:
-        text = self.text
-        if text is None:
-            with open(trace, encoding='utf-8', newline='\n') as file:
-                text = file.read()
-        entries = dict(replay(read_trace(text)).entries)
-        del entries['/']
-        return entries
+        if self.lines is not None:
+            tree = replay(self.lines)
+        else:
+            with open(trace, encoding='utf-8', newline='\n') as lines:
+                tree = replay(lines)
+        del tree.entries['/']
+        return tree.entries
 
 
 class ByProgram(LastState):

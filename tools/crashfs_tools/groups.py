@@ -3,7 +3,7 @@
 from __future__ import annotations
 
 from dataclasses import dataclass, field
-from typing import Dict, Iterable, List, Optional, Tuple
+from typing import Dict, Iterable, List, NamedTuple, Optional, Tuple
 
 from .advice import Advice, advice_of
 from .pairs import Pair, Pairs
@@ -13,8 +13,7 @@ from .runner import GOOD, Outcome
 from .trace_lines import SYNCS, TraceLine, without_numbers
 
 
-@dataclass(frozen=True)
-class Difference:
+class Difference(NamedTuple):
     """How the example of a group differs from a good state: a line for each path."""
 
     good: int

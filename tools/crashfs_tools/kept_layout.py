@@ -14,9 +14,6 @@ from .layout import Archive
 from .plan import Planned
 from .program import Crashfs, ProgramFault
 
-# Start trees of so many entries, or so many bytes of their lines, are kept from state to state.
-MUCH_ENTRIES, MUCH_BYTES = 32, 1 << 20
-
 
 class KeptLayout(Archive):
 
@@ -66,17 +63,3 @@ class KeptLayout(Archive):
                 yield number, changes.applied(self.start)
         if left:
             raise ProgramFault(0, f'crashfs tar wrote no state {min(left)}'.encode())
-
-
-def has_much(trace: str) -> bool:
-    """Whether a trace's start tree takes longer to be laid out than to be looked at."""
-    entries = size = 0
-    with open(trace, 'rb') as lines:
-        next(lines, b'')
-        for line in lines:
-            if not line.startswith(b'{"start":'):
-                break
-            entries, size = entries + 1, size + len(line)
-            if entries >= MUCH_ENTRIES or size >= MUCH_BYTES:
-                return True
-    return False

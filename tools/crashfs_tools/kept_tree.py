@@ -1,9 +1,10 @@
-"""A directory that has one tree after another: what two of them have in common, and what COMMAND left
-as it was, stays.
+"""A directory that has one tree after another: what two of them have in common, and what COMMAND
+left as it was, stays.
 
 A file is left as it was if its inode, size, mode, links and times are those that it had when it was
 written, and that was in an earlier tick of the system's clock than COMMAND's start. File systems in
-memory don't change times with stores through a mapping: there its bytes are compared too.
+memory don't change times with stores through a mapping: there its bytes are compared too. On a disk
+only what differs is written of a large file, a page of many, so that COMMAND's syncs are short.
 """
 
 from __future__ import annotations
@@ -16,24 +17,31 @@ from typing import Dict, List, Mapping, NamedTuple, Optional, Set, Tuple, Union
 from .archive import Member
 from .guard import remove_plain, remove_tree
 from .layout import FILLED_MODE, NEW_FILE, write_all
+from .rewriting import rewrite
 
 # File systems that change a file's times with the first store through a new mapping.
 WITH_TIMES = {'ext2', 'ext3', 'ext4', 'xfs', 'f2fs', 'overlay'}
+CHANGED_FILE = os.O_RDWR | os.O_NOFOLLOW | os.O_CLOEXEC
 FOLDER = os.O_RDONLY | os.O_DIRECTORY | os.O_NOFOLLOW | os.O_CLOEXEC
 # The clock that files have their times of; Python has no name for it.
 REALTIME_COARSE = 5
 # No clock of a system has longer ticks.
 TICK_SECONDS = 0.011
+# Smaller files are made again.
+LARGE_BYTES = 1 << 16
 
 
 Signature = Tuple[int, ...]
+# The part of a signature that a change of a file's bytes leaves as it is.
+RIGHTS = 5
 
 
 class Laid(NamedTuple):
-    """A file as it was written."""
+    """A file as it was written. attributes are the names of the extended ones of a large file."""
 
     member: Member
     signature: Signature
+    attributes: List[str]
 
 
 class OtherAttributes(Exception):
@@ -112,7 +120,8 @@ class KeptTree:
             wanted = tree.get(name)
             status = entry.stat(follow_symlinks=False)
             if not stat.S_ISDIR(status.st_mode):
-                if wanted is not None and self.has(at, name, wanted, status):
+                if wanted is not None and (self.has(at, name, wanted, status)
+                                           or self.change_bytes(at, name, wanted, status)):
                     self.there.add(name)
                 else:
                     os.unlink(entry.name, dir_fd=at)
@@ -142,11 +151,32 @@ class KeptTree:
     def has(self, at: int, path: str, wanted: Member, status: os.stat_result) -> bool:
         """Whether a file is as it was written, and as it is wanted."""
         laid = self.files.get(path)
-        if laid is None or laid.member != wanted or laid.signature != signature_of(status):
-            return False
-        if status.st_ctime_ns >= self.started:
+        if laid is None or laid.member != wanted or not self.is_as_laid(laid, status):
             return False
         return self.has_times or bytes_of(at, path.rpartition('/')[2]) == wanted.data
+
+    def is_as_laid(self, laid: Laid, status: os.stat_result) -> bool:
+        """Whether a file is as it was written, except for stores that its times don't show."""
+        return laid.signature == signature_of(status) and status.st_ctime_ns < self.started
+
+    def change_bytes(self, at: int, path: str, wanted: Member, status: os.stat_result) -> bool:
+        """Gives a large file the bytes that are wanted; returns False if it must be made again,
+        since COMMAND put another one in its place or changed more than its bytes."""
+        laid = self.files.get(path)
+        if not self.has_times or laid is None or laid.member.mode != wanted.mode \
+                or not is_large(wanted) or laid.signature[:RIGHTS] != signature_of(status)[:RIGHTS]:
+            return False
+        try:
+            file = os.open(path.rpartition('/')[2], CHANGED_FILE, dir_fd=at)
+        except OSError:
+            return False
+        with open(file, 'r+b', buffering=0) as stream:
+            if attributes_of(file) != laid.attributes:
+                return False
+            before = laid.member.data if self.is_as_laid(laid, status) else stream.read()
+            rewrite(file, before or b'', wanted.data or b'')
+            self.files[path] = Laid(wanted, signature_of(os.fstat(file)), laid.attributes)
+        return True
 
     def put(self, at: int, path: str, one: Member) -> None:
         if one.data is None:
@@ -156,7 +186,8 @@ class KeptTree:
         file = os.open(path, NEW_FILE, one.mode, dir_fd=at)
         try:
             write_all(file, one.data)
-            self.files[path] = Laid(one, signature_of(os.fstat(file)))
+            attributes = attributes_of(file) if is_large(one) else []
+            self.files[path] = Laid(one, signature_of(os.fstat(file)), attributes)
         finally:
             os.close(file)
 
@@ -165,6 +196,10 @@ class KeptTree:
         changed = [path for path, mode in self.modes.items() if tree[path].mode != mode]
         for path in sorted(changed, reverse=True):
             os.chmod(path or '.', tree[path].mode, dir_fd=at)
+
+
+def is_large(member: Member) -> bool:
+    return len(member.data or b'') >= LARGE_BYTES
 
 
 def signature_of(status: os.stat_result) -> Signature:

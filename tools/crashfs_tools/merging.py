@@ -11,7 +11,7 @@ from .groups import Findings
 from .guard import Guard
 from .program import Crashfs
 from .report import Report
-from .results import AllResults, Results
+from .results import AllResults, Results, merged, read_json
 from .runner import Outcome
 from .tree_diff import find_differences
 
@@ -20,8 +20,9 @@ OTHER_PLAN = ('the trace has other states than the reports: give the options tha
               'with')
 
 
-def merged_report(options: Options, results: AllResults) -> Report:
+def merged_report(options: Options) -> Report:
     """The report; how files differ is in it if the trace is given, of which trees are made."""
+    results = merged([read_json(path) for path in options.merge or []])
     if options.trace is None:
         return report_of(options, results)
     program = Crashfs.find_or_read(options.crashfs, options.unproved)

@@ -3,12 +3,11 @@
 from __future__ import annotations
 
 import os
-import socket
 import subprocess
 from contextlib import contextmanager
-from dataclasses import dataclass
 from typing import Dict, Iterator, List, Set, Tuple
 
+from .address import Address
 from .command import Refused
 from .guard import mount_folder
 from .layout import Layout
@@ -16,28 +15,6 @@ from .layout import Layout
 NEEDS = "--serve needs root, the kernel's 9p, and a server with --client linux --ready --again"
 # No mount of a server that answers takes so long.
 SECONDS = 60
-
-
-@dataclass(frozen=True)
-class Address:
-    """A host and port, as the command line has them."""
-
-    host: str
-    port: int
-
-    def numeric(self) -> str:
-        """The host's IP address, which is all that the kernel knows; one of IPv4 where it has
-        any. Refused where it has none."""
-        try:
-            found = socket.getaddrinfo(self.host, self.port, type=socket.SOCK_STREAM)
-        except (OSError, UnicodeError) as error:
-            why = error.strerror if isinstance(error, OSError) else 'no name of a host'
-            raise Refused(f'--serve {self.host}: {why}') from error
-        best = min(found, key=lambda one: one[0] != socket.AF_INET)
-        return str(best[4][0])
-
-    def __str__(self) -> str:
-        return f'{self.host}:{self.port}'
 
 
 class Mounts(Layout):

@@ -17,8 +17,9 @@ from .compare import (
     notes_on,
 )
 from .directory import Scan, scan
-from .program import Crashfs, ProgramFault
+from .limits import MICRO_OPERATIONS
 from .planning import is_too_large
+from .program import Crashfs, ProgramFault
 from .reading import ReadingFault, count_states
 from .record_options import Options
 from .session import Session
@@ -110,10 +111,15 @@ def compared(options: Options, session: Session, before: Scan, found: Outcome) -
 
 def last_states(options: Options, session: Session) -> List[LastState]:
     """What gives the last state: the program if it can read the trace, and else the text."""
-    program = Crashfs.find(options.crashfs)
     if not os.path.isfile(options.out):
-        return [Replayed(text_of(session))]
+        return [Replayed(session.trace.lines())]
+    program = None if is_long(session) else Crashfs.find(options.crashfs)
     return ([ByProgram(program)] if program else []) + [Replayed()]
+
+
+def is_long(session: Session) -> bool:
+    """Whether the program takes the trace only in windows."""
+    return session.told.micro_operations > MICRO_OPERATIONS
 
 
 def text_of(session: Session) -> str:
@@ -138,6 +144,8 @@ def acknowledged(session: Session) -> str:
 
 def states(options: Options, session: Session) -> str:
     """How many states the check has, by the program or else by the second reading."""
+    if is_long(session):
+        return IN_WINDOWS
     program = Crashfs.find(options.crashfs)
     if program is not None and os.path.isfile(options.out):
         try:

@@ -2,15 +2,13 @@
 
 from __future__ import annotations
 
-from dataclasses import dataclass
-from typing import Callable, Dict, Optional
+from typing import Callable, Dict, NamedTuple, Optional
 
 from .plan import Plan, State, places_of
 from .runner import GOOD, Outcome
 
 
-@dataclass(frozen=True)
-class Pair:
+class Pair(NamedTuple):
     """Places of micro-operations; None if there is none: nothing was kept, or all was."""
 
     kept: Optional[int]

@@ -5,7 +5,7 @@ from __future__ import annotations
 import os
 import select
 from collections import deque
-from typing import Deque, Optional
+from typing import Deque, List, Optional
 
 PIECE = 65_536
 
@@ -15,7 +15,8 @@ class PipeLines:
     def __init__(self, descriptor: int) -> None:
         self.descriptor = descriptor
         self.ready: Deque[str] = deque()
-        self.rest = b''
+        # The pieces of a line that has no end yet.
+        self.rest: List[bytes] = []
         self.has_ended = False
 
     def next(self, seconds: Optional[float] = None) -> Optional[str]:
@@ -27,9 +28,12 @@ class PipeLines:
         return self.ready.popleft() if self.ready else None
 
     def take(self, piece: bytes) -> None:
-        *lines, self.rest = (self.rest + piece).split(b'\n')
-        self.ready.extend(line.decode('ascii', 'replace') + '\n' for line in lines)
+        self.rest.append(piece)
+        if b'\n' in piece:
+            *lines, rest = b''.join(self.rest).split(b'\n')
+            self.rest = [rest]
+            self.ready.extend(line.decode('ascii', 'replace') + '\n' for line in lines)
         if not piece:
             self.has_ended = True
-            if self.rest:
-                self.ready.append(self.rest.decode('ascii', 'replace'))
+            line = b''.join(self.rest).decode('ascii', 'replace')
+            self.ready.extend([line] if line else [])

@@ -4,7 +4,7 @@ from __future__ import annotations
 
 import json
 from dataclasses import dataclass
-from typing import Any, Dict, Iterable, Iterator, List, Sequence, Tuple
+from typing import Any, Dict, Iterable, Iterator, List, NamedTuple, Sequence, Tuple
 
 # The fields of a micro-operation that its text has after its kind and path, in this order.
 DETAILS = ('to', 'block', 'at', 'count', 'length', 'node', 'mode', 'owner', 'group')
@@ -14,8 +14,7 @@ class PlanError(Exception):
     """Output of `crashfs list` that this tool doesn't know."""
 
 
-@dataclass(frozen=True)
-class MicroOperation:
+class MicroOperation(NamedTuple):
     """A micro-operation by its place in the session; path is that of its file, or of its entry."""
 
     place: int
@@ -30,8 +29,7 @@ class MicroOperation:
         return ' '.join(word for word in words if word)
 
 
-@dataclass(frozen=True)
-class State:
+class State(NamedTuple):
     """A crash state. numbers are places in its plan: a prefix's end; what a hole is missing, and
     its end; the members of a pick. same is the first state with an equal tree."""
 
@@ -42,16 +40,14 @@ class State:
     same: int
 
 
-@dataclass(frozen=True)
-class Trial:
+class Trial(NamedTuple):
     """What a command is run on: states with equal trees and the same number of says are one."""
 
     same: int
     says: int
 
 
-@dataclass(frozen=True)
-class Before:
+class Before(NamedTuple):
     """What of a session comes before a plan: so many states, micro-operations and acknowledged
     lines. lines has the session's line of each line of the plan's trace, or is empty if they are
     the same."""

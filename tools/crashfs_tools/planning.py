@@ -47,10 +47,13 @@ class Planner:
             lines = [line for line in lines if not needs.has_hole(set_of(json.loads(line)))]
         if not lines:
             return words
-        path = os.path.join(self.guard.directory, os.path.basename(trace) + '.picks')
+        path = self.picks_path(trace)
         with open(path, 'w', encoding='ascii') as file:
             file.writelines(f'{line}\n' for line in dict.fromkeys(lines))
         return words + ['--picks', path]
+
+    def picks_path(self, trace: str) -> str:
+        return os.path.join(self.guard.directory, os.path.basename(trace) + '.picks')
 
     def files_family(self, trace: str) -> List[str]:
         return self.ask(['picks', '--trace', trace, '--files']).splitlines()

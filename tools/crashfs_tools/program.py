@@ -13,7 +13,7 @@ from typing import Dict, Iterator, List, Optional
 
 from .archive import ArchiveFault, Member, members
 from .command import Refused, ended
-from .tree import Entries, Entry
+from .entry import Entries, Entry
 
 PACKAGE = os.path.dirname(os.path.realpath(__file__))
 LIBRARY = os.path.dirname(PACKAGE)

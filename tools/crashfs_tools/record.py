@@ -19,7 +19,7 @@ from .program import Crashfs
 from .record_options import NAME, Options, check, read_options
 from .session import Beginning, Session
 from .strace_log import Log, LogError, read_log
-from .trace import Say, TraceError
+from .trace import Say
 from .translate import Translator
 
 NOTHING = 1
@@ -138,7 +138,7 @@ def main(arguments: Optional[List[str]] = None) -> int:
     except Stopped as stopped:
         tell(NAME, f'stopped by {stopped}; nothing is written')
         return stopped.status
-    except (Refused, TraceError, LogError) as refused:
+    except (Refused, LogError) as refused:
         tell(NAME, f'{refused}')
     except OSError as error:
         tell(NAME, f'{error.filename or options.out}: {error.strerror}; no trace is written')

@@ -3,7 +3,7 @@
 from __future__ import annotations
 
 from dataclasses import dataclass, field, replace
-from typing import Dict, Iterable, List, Tuple
+from typing import Dict, Iterable, List, NamedTuple, Tuple
 
 from .groups import Group
 
@@ -21,8 +21,7 @@ class Recovery:
     fault: str = ''
 
 
-@dataclass(frozen=True)
-class Second:
+class Second(NamedTuple):
     """The first crash's state, and where the second crash was."""
 
     state: int

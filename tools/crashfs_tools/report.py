@@ -3,19 +3,19 @@
 from __future__ import annotations
 
 import json
-import textwrap
-import zlib
 from collections import Counter
 from dataclasses import replace
-from typing import Any, Dict, Iterator, List, Optional
+from typing import TYPE_CHECKING, Any, Dict, Iterator, List, Optional
 from typing import Counter as Counts
 
-from .drawing import Drawing, drawing_of
 from .groups import Findings, Group, together
-from .recovery import Recovery, Second, seconds
 from .results import Head
 from .runner import BAD, GOOD, NO_ANSWER
 from .trace_lines import TraceLine
+
+if TYPE_CHECKING:
+    from .drawing import Drawing
+    from .recovery import Recovery, Second
 
 SHOWN_GROUPS = 20
 # So many windows are drawn: the page must stay small.
@@ -55,9 +55,9 @@ class Report:
         self.words.update(one.word for one in outcomes if one.result == BAD)
         self.parts.append(findings.groups)
         if self.keep:
-            self.kept.append(zlib.compress(as_json(results.fields()).encode('utf-8',
-                                                                            'surrogateescape')))
+            self.kept.append(packed(as_json(results.fields())))
         if self.draw and (findings.groups or not self.drawings):
+            from .drawing import drawing_of
             self.drawings.append(drawing_of(findings))
 
     def groups(self) -> List[Group]:
@@ -130,6 +130,7 @@ class Report:
         """What a second crash leads to, during the recovery from the first."""
         if not self.recoveries:
             return []
+        from .recovery import seconds
         tried = [one for one in self.recoveries if not one.fault]
         failing = sum(one.failing for one in tried)
         fails = f'{failing:,} fail{"s" if failing == 1 else ""}' if failing else 'none fails'
@@ -144,6 +145,7 @@ class Report:
 
     def group_lines(self, group: Group, second: Optional[Second] = None) -> List[str]:
         """The lines of an entry; of one that a second crash leads to, second says where it was."""
+        from textwrap import wrap
         states = self.states_text(group, f'{second.state}/' if second else '')
         cause = cut(group.cause, max(CAUSE_WIDTH, WIDTH - len(states) - 3))
         lines = [f'  {cause:<{CAUSE_WIDTH}} {states}']
@@ -152,8 +154,8 @@ class Report:
             details = [f'state {second.state}, then a crash {second.place}',
                        *group.advice.lines()]
         for line in details:
-            lines += textwrap.wrap(line, WIDTH, initial_indent='    ', subsequent_indent='      ',
-                                   break_long_words=False, break_on_hyphens=False)
+            lines += wrap(line, WIDTH, initial_indent='    ', subsequent_indent='      ',
+                          break_long_words=False, break_on_hyphens=False)
         return lines
 
     @staticmethod
@@ -184,8 +186,7 @@ class Report:
         """The results, and the groups with what they say."""
         yield as_json(self.head.fields())[:-1] + ',\n"windows":[\n'
         for place, window in enumerate(self.kept):
-            yield (',\n' if place else '') + zlib.decompress(window).decode('utf-8',
-                                                                           'surrogateescape')
+            yield (',\n' if place else '') + unpacked(window)
         groups = [self.group_fields(group) for group in self.groups()]
         yield '],\n"groups":' + json.dumps(groups, indent=1, ensure_ascii=False)
         recoveries = [self.recovery_fields(one) for one in self.recoveries]
@@ -211,6 +212,16 @@ class Report:
     def shown_line(self, number: int) -> str:
         line = self.head.lines.get(number, TraceLine(number, ''))
         return f'line {number} ({line.text})'
+
+
+def packed(text: str) -> bytes:
+    import zlib
+    return zlib.compress(text.encode('utf-8', 'surrogateescape'))
+
+
+def unpacked(packed_text: bytes) -> str:
+    import zlib
+    return zlib.decompress(packed_text).decode('utf-8', 'surrogateescape')
 
 
 def as_json(fields: Dict[str, Any]) -> str:

@@ -3,8 +3,8 @@
 from __future__ import annotations
 
 import json
-from dataclasses import astuple, dataclass, field
-from typing import Any, Dict, List, Tuple
+from dataclasses import dataclass, field
+from typing import Any, Dict, List, NamedTuple, Tuple
 
 from .command import Refused
 from .plan import MicroOperation, Needs, Plan, State, Trial
@@ -14,8 +14,7 @@ from .trace_lines import TraceLine
 FORMAT = 3
 
 
-@dataclass(frozen=True)
-class Shard:
+class Shard(NamedTuple):
     """One of so many parts, from 1."""
 
     part: int = 1
@@ -53,7 +52,7 @@ class Head:
             'shard': [self.shard.part, self.shard.parts],
             'stopped': self.stopped,
             'cut_off': [list(one) for one in self.cut_off],
-            'lines': [list(astuple(line)) for line in self.lines.values()],
+            'lines': [list(line) for line in self.lines.values()],
         }
 
     @staticmethod
@@ -107,12 +106,12 @@ class Results:
     def fields(self) -> Dict[str, Any]:
         return {
             'first': self.plan.first,
-            'outcomes': {str(state): list(astuple(one))
+            'outcomes': {str(state): list(one)
                          for state, one in sorted(self.outcomes.items())},
             'known': {str(state): other for state, other in self.known.items()},
             'needs': [f'{mask:x}' for mask in self.plan.needs.masks],
-            'operations': [list(astuple(one)) for one in self.plan.operations],
-            'states': [list(astuple(one)) for one in self.plan.listed],
+            'operations': [list(one) for one in self.plan.operations],
+            'states': [list(one) for one in self.plan.listed],
         }
 
     @staticmethod

@@ -9,6 +9,7 @@ from typing import Callable, Dict, List, Optional, Sequence, Set, Tuple
 
 from . import arguments
 from .directory import Ignored, Scan
+from .entry import parent_of
 from .live import Change, LiveTree, Node
 from .processes import Descriptors, OpenFile, Place, Process
 from .strace_log import Call
@@ -28,7 +29,7 @@ from .trace import (
     Truncate,
     Write,
 )
-from .tree import Tree, parent_of
+from .tree import Tree
 from .troubles import Troubles
 from .voices import Voice, Voices
 

@@ -5,16 +5,27 @@ from __future__ import annotations
 import os
 import shlex
 import tempfile
-from typing import Tuple
+from typing import Optional, Tuple
 
+from .checking import Checking
 from .command import TEXT, Refused, standard_output
 from .guard import remove_tree
+from .nested import Recorder
 from .plan import State
 from .report import NONE_FAILS, NOT_ALL_TRIED, SOME_FAIL
 from .runner import BAD, GOOD, NO_ANSWER
 from .trying import Trying
 
 STATUSES = {GOOD: NONE_FAILS, BAD: SOME_FAIL, NO_ANSWER: NOT_ALL_TRIED}
+
+
+def show_state(checking: Checking, number: int, second: Optional[int]) -> int:
+    """Shows a state; or with second, that state of the first one's recovery."""
+    trying = checking.trying_of(number)
+    if second is None:
+        return show(trying, number)
+    recovery = Recorder(trying, checking.planner).plan(trying.plan.state(number))
+    return show(trying.with_plan(recovery), second)
 
 
 def show(trying: Trying, number: int) -> int:

@@ -7,9 +7,11 @@ from dataclasses import dataclass
 from typing import Dict, Iterator, List, Tuple, Union
 
 from .command import Refused
+from .entry import Entries
 from .trace import Header, Operation, Say, Start, StartLink, Trace, Truncate, Write
-from .trace_read import operation_numbers, read_trace
-from .tree import Entries, Tree
+from .trace_read import read_trace
+from .trace_text import operation_numbers
+from .tree import Tree
 
 # A longer write is several steps, so that a window can end in it.
 PIECE_BLOCKS = 64

@@ -9,7 +9,8 @@ from typing import Dict, Iterable, List, Optional, Set
 from . import arguments
 
 LINE = re.compile(r'^(\d+)\s+(\w+)\((.*)\)\s+= (0x[0-9a-f]+|-?\d+|\?)(.*)$', re.S)
-UNFINISHED = re.compile(r'^(\d+)\s+(\w+)\((.*?)\s*<unfinished \.\.\.>$', re.S)
+BEGUN = re.compile(r'^(\d+)\s+(\w+)\(')
+UNFINISHED = '<unfinished ...>'
 RESUMED = re.compile(r'^(\d+)\s+<\.\.\. (\w+) resumed>(.*)$', re.S)
 ENDED = re.compile(r'^(\d+)\s+\+\+\+ (?:exited with|killed by) ')
 SUPERSEDED = re.compile(r'^(\d+)\s+\+\+\+ superseded by execve in pid (\d+) \+\+\+')
@@ -18,6 +19,8 @@ SHOWN_RESULT = re.compile(r'^<([^>]*)>(\(deleted\))?')
 # What strace -k has before each frame, after the call's line.
 FRAME = ' > '
 
+# Calls with bytes, which are their second argument.
+WRITES = ('write', 'pwrite64', 'writev', 'pwritev', 'pwritev2')
 FORKS = ('clone', 'clone3', 'fork', 'vfork')
 
 # Names for what is no call, but is in the list of calls.
@@ -93,10 +96,10 @@ class LogReader:
         return self.log
 
     def line(self, number: int, line: str) -> None:
-        unfinished = UNFINISHED.match(line)
-        if unfinished:
-            process, name, head = unfinished.groups()
-            self.waiting[process] = _Waiting(number, name, head)
+        begun = BEGUN.match(line) if line.endswith(UNFINISHED) else None
+        if begun:
+            head = line[begun.end():-len(UNFINISHED)]
+            self.waiting[begun[1]] = _Waiting(number, begun[2], head)
             return
         begin = number
         resumed = RESUMED.match(line)
@@ -127,7 +130,7 @@ class LogReader:
         self.shown = Call(
             process=int(process),
             name=name,
-            words=arguments.split(text),
+            words=words_of(name, text),
             result=number,
             made=arguments.Descriptor(number, text_shown, bool(shown and shown[2])),
             begin=begin,
@@ -148,6 +151,14 @@ class LogReader:
     def mark(self, number: int, process: int, name: str, result: int) -> None:
         nothing = arguments.Descriptor(-1, None, False)
         self.log.calls.append(Call(process, name, [], result, nothing, number, number))
+
+
+def words_of(name: str, text: str) -> List[str]:
+    """A call's arguments; what it writes is packed."""
+    words = arguments.split(text)
+    if name in WRITES and len(words) > 1:
+        words[1] = arguments.packed(words[1])
+    return words
 
 
 def read_log(lines: Iterable[str]) -> Log:

@@ -8,6 +8,7 @@ from dataclasses import dataclass, field
 from typing import Any, Dict, Iterator, List, Optional, Type, Union
 
 from . import limits
+from .command import Refused
 
 BLOCKS, ORDERED = 'blocks', 'ordered'
 PROFILES = (BLOCKS, ORDERED)
@@ -17,7 +18,7 @@ BLOCK_SIZES = (512, 1_024, 2_048, 4_096)
 WRITTEN_VERSION = 3
 
 
-class TraceError(Exception):
+class TraceError(Refused):
     """A text that is no trace."""
 
 
@@ -239,11 +240,19 @@ def values_of(item: Any, version: int = 1) -> Dict[str, Any]:
 def bytes_value(data: bytes, version: int) -> Dict[str, str]:
     """Bytes as a text if the version has texts and people can read it, else by numbers."""
     if version >= 3:
-        text = data.decode('utf-8', 'replace')
-        readable = all(sign.isprintable() or sign == '\n' for sign in text)
-        if data and readable and text.encode() == data:
+        text = readable_text(data)
+        if text:
             return {'text': text}
     return {'bytes': data.hex()}
+
+
+def readable_text(data: bytes) -> str:
+    """Bytes as a text that people can read; nothing if they aren't such a text."""
+    try:
+        text = data.decode('utf-8')
+    except UnicodeDecodeError:
+        return ''
+    return text if text.replace('\n', '').isprintable() else ''
 
 
 def as_json(fields: Dict[str, Any]) -> str:

@@ -4,10 +4,9 @@ from __future__ import annotations
 
 import json
 import re
-from dataclasses import dataclass
-from typing import Any, Dict, List, Optional
+from typing import Any, Dict, List, NamedTuple, Optional
 
-from .tree import parent_of
+from .entry import parent_of
 
 # Lines that change the file or directory of their path, and lines that change an entry.
 CHANGES = ('write', 'truncate', 'chmod', 'chown')
@@ -30,8 +29,7 @@ def without_numbers(text: str) -> str:
     return text
 
 
-@dataclass(frozen=True)
-class TraceLine:
+class TraceLine(NamedTuple):
     """A line of an operation. path is its first path, target the second one of a rename or link;
     details are what else it says, but for the bytes."""
 

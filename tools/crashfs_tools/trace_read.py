@@ -4,7 +4,7 @@ from __future__ import annotations
 
 import dataclasses
 import json
-from typing import Any, Dict, List, Optional, Type
+from typing import Any, Dict, Iterable, Iterator, Optional, Tuple, Type
 
 from .trace import (
     BLOCK_SIZES,
@@ -18,15 +18,40 @@ from .trace import (
     Trace,
     TraceError,
 )
+from .tree import Tree
 
 VERSIONS = (1, 2, 3)
 
 
 def read_trace(text: str) -> Trace:
     """Reads a trace's text. A line that makes no sense is a TraceError."""
+    *_, (_, trace) = read_lines(text.split('\n'))
+    return trace
+
+
+def replay(lines: Iterable[str]) -> Tree:
+    """The tree at a trace's end, of which only one line is kept at a time. A trace that `crashfs`
+    would refuse is a ValueError."""
+    tree: Optional[Tree] = None
+    for number, trace in read_lines(lines):
+        tree = tree or Tree(trace.header.owner, trace.header.group, trace.header.mode, trace.block)
+        while trace.start:
+            tree.start(trace.start.pop())
+        while trace.operations:
+            operation = trace.operations.pop()
+            fault = tree.fault(operation)
+            if fault:
+                raise ValueError(f'line {number}: {fault}')
+            tree.apply(operation)
+    assert tree is not None
+    return tree
+
+
+def read_lines(lines: Iterable[str]) -> Iterator[Tuple[int, Trace]]:
+    """Each line's number, and the trace up to it; a reader may take out what it has."""
     trace: Optional[Trace] = None
-    for number, line in enumerate(text.split('\n'), 1):
-        if not line.strip(' \t\r'):
+    for number, line in enumerate(lines, 1):
+        if not line.strip(' \t\r\n'):
             continue
         try:
             fields = json.loads(line)
@@ -36,9 +61,9 @@ def read_trace(text: str) -> Trace:
                 read_line(trace, fields)
         except (ValueError, KeyError, TypeError, AttributeError) as error:
             raise TraceError(f'line {number} is no line of a trace ({error})') from error
+        yield number, trace
     if trace is None:
         raise TraceError('it has no header')
-    return trace
 
 
 def read_header(fields: Dict[str, Any]) -> Trace:
@@ -88,21 +113,3 @@ def read_value(name: str, fields: Dict[str, Any], version: int) -> Any:
         return fields['text'].encode() if is_text else bytes.fromhex(fields['bytes'])
     value = fields[KEYS.get(name, name)]
     return int(value, 8) if name == 'mode' else value
-
-
-def told_texts(text: str) -> List[str]:
-    """The texts of all `say` lines of a trace of any version, which `crashfs` has judged."""
-    lines = [json.loads(line) for line in text.split('\n') if line.strip(' \t\r')]
-    return [fields['text'] for fields in lines if fields.get('op') == 'say']
-
-
-def root_owner(text: str) -> str:
-    """The owner of the root in a trace's header, which `crashfs` has judged."""
-    header = next(line for line in text.split('\n') if line.strip(' \t\r'))
-    return str(json.loads(header)['owner'])
-
-
-def operation_numbers(text: str) -> List[int]:
-    """The numbers of the lines that are operations, in their order."""
-    return [number for number, line in enumerate(text.split('\n'), 1)
-            if line.strip(' \t\r') and 'op' in json.loads(line)]

@@ -18,7 +18,7 @@ from .live import Node
 from .mapped import Copies, Copy
 from .processes import Descriptors, Place, Process
 from .session import Session
-from .strace_log import EXIT, FORKS, SUPERSEDE, Call, Log, LogError
+from .strace_log import EXIT, FORKS, SUPERSEDE, WRITES, Call, Log, LogError
 
 Handler = Callable[[Session, Process, Call], None]
 
@@ -63,6 +63,8 @@ class Translator:
                 session.end_syncs(line)
                 session.call = call
                 self.step(call)
+                # The trace has its bytes now.
+                call.words = [] if call.name in WRITES else call.words
             session.end_syncs(None)
         except (ValueError, IndexError, KeyError) as error:
             where = f', in line {session.call.end}' if session.call else ''

@@ -2,10 +2,10 @@
 
 from __future__ import annotations
 
-from dataclasses import dataclass
-from typing import Dict, Optional, Union
+from typing import Optional, Union
 
 from . import limits
+from .entry import Entries, Entry, parent_of
 from .trace import (
     Chmod,
     Chown,
@@ -20,32 +20,10 @@ from .trace import (
     Say,
     Start,
     StartLink,
-    Trace,
     Truncate,
     Unlink,
     Write,
 )
-
-
-@dataclass
-class Entry:
-    """A directory (data is None) or a file."""
-
-    owner: str
-    group: str
-    mode: int
-    data: Optional[bytearray]
-
-    @property
-    def is_directory(self) -> bool:
-        return self.data is None
-
-
-Entries = Dict[str, Entry]
-
-
-def parent_of(path: str) -> str:
-    return path.rpartition('/')[0] or '/'
 
 
 def path_fault(path: str) -> Optional[str]:
@@ -207,16 +185,3 @@ def resize(data: bytearray, length: int) -> None:
     """Cuts the bytes, or adds zeros."""
     del data[length:]
     data.extend(bytes(length - len(data)))
-
-
-def replay(trace: Trace) -> Tree:
-    """The tree at a trace's end; a trace that `crashfs` would refuse is a ValueError."""
-    tree = Tree(trace.header.owner, trace.header.group, trace.header.mode, trace.block)
-    for entry in trace.start:
-        tree.start(entry)
-    for place, operation in enumerate(trace.operations):
-        fault = tree.fault(operation)
-        if fault:
-            raise ValueError(f'line {trace.line_of_operation(place)}: {fault}')
-        tree.apply(operation)
-    return tree

@@ -4,10 +4,10 @@ from __future__ import annotations
 
 from typing import Iterator, Optional, Tuple
 
+from .entry import Entries, Entry
 from .groups import Difference, Findings, Group
 from .plan import State, count
 from .runner import GOOD
-from .tree import Entries, Entry
 from .trying import Trying
 
 # So many lines are shown of each entry, and so many entries have them: the largest.

@@ -2,23 +2,29 @@
 
 from __future__ import annotations
 
-from typing import Callable, Set
+import re
+from typing import TYPE_CHECKING, Callable, Set
 
 from .check_options import Options
 from .command import TEXT, Refused
 from .guard import Guard
-from .kept_layout import KeptLayout, has_much
 from .layout import Archive, Layout
 from .limits import RUNS
-from .mounts import Mounts
 from .plan import Planned, State
 from .program import Crashfs
 from .progress import Progress
 from .results import Results
 from .runner import Checker, Outcome, Says
-from .trace_read import root_owner
-from .tree import Entries
+from .trace_text import root_owner
 from .workers import Workers
+
+if TYPE_CHECKING:
+    from .entry import Entries
+
+# Trees are kept from state to state if a trace has so many start lines, or so many bytes in its
+# lines and in what they make files grow to.
+MUCH_ENTRIES, MUCH_BYTES = 32, 1 << 20
+GROWN = re.compile(rb'"op":\s*"truncate".*"length":\s*(\d+)')
 
 
 class Trying:
@@ -49,9 +55,11 @@ class Trying:
         says whether it is worth the while to keep what they have in common."""
         if self.options.serve is None:
             if many and has_much(self.planned.trace) and self.program.has_changes:
+                from .kept_layout import KeptLayout
                 return KeptLayout(self.program, self.planned, self.guard.directory,
                                   self.guard.environment)
             return self.archive(self.guard.directory)
+        from .mounts import Mounts
         with open(self.planned.trace, **TEXT) as file:
             uname = self.options.uname or root_owner(file.read())
         return Mounts(self.options.serve, uname, self.guard.directory, self.guard.environment)
@@ -102,3 +110,16 @@ class Trying:
         left = self.wanted(results) - set(results.outcomes)
         self.try_states(left, told)
         return left <= set(results.outcomes)
+
+
+def has_much(trace: str) -> bool:
+    """Whether a trace's trees take longer to be laid out than to be looked at."""
+    entries = size = 0
+    with open(trace, 'rb') as lines:
+        for line in lines:
+            entries += line.startswith(b'{"start":')
+            grown = GROWN.search(line)
+            size += int(grown[1]) if grown else len(line)
+            if entries >= MUCH_ENTRIES or size >= MUCH_BYTES:
+                return True
+    return False

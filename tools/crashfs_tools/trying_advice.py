@@ -13,10 +13,17 @@ from .planning import Planner
 from .results import Results
 from .runner import GOOD, Outcome
 from .trace_lines import with_syncs
+from .tree_diff import find_differences
 from .trying import Trying
 
 # So many entries of a report have their advice tried: the largest.
 ENTRIES = 5
+
+
+def look_closer(trying: Trying, planner: Planner, findings: Findings) -> None:
+    """How files differ, and what advice does."""
+    find_differences(trying, findings)
+    try_advice(trying, planner, findings)
 
 
 def try_advice(trying: Trying, planner: Planner, findings: Findings) -> None:

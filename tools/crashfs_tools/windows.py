@@ -12,6 +12,7 @@ from dataclasses import dataclass
 from typing import Iterator, List, Sequence
 
 from . import limits
+from .check_options import Options
 from .command import TEXT, Refused
 from .plan import Before, Planned, count
 from .planning import Planner, TooLarge
@@ -50,6 +51,12 @@ class Windows:
         self.largest = min(largest, LARGEST)
         self.cut_off: List[CutOff] = []
 
+    def write_end(self) -> str:
+        """Writes a trace of the tree at the session's end, and returns its path."""
+        path = os.path.join(self.planner.guard.directory, 'end.trace')
+        write(path, self.session.end_trace())
+        return path
+
     def all(self) -> Iterator[Planned]:
         steps, states = Steps(self.session), 0
         window = self.window(steps, states)
@@ -57,8 +64,15 @@ class Windows:
             window.planned.is_last = False
             yield window.planned
             states += len(window.planned.plan.listed)
-            window = self.next(steps, window, states)
+            last, window = window, self.next(steps, window, states)
+            self.remove_files(last.planned.trace)
         yield window.planned
+
+    def remove_files(self, trace: str) -> None:
+        """Removes what a window had: its start tree may be large, and there may be many."""
+        for path in (trace, self.planner.picks_path(trace)):
+            if os.path.exists(path):
+                os.unlink(path)
 
     def next(self, steps: Steps, last: Window, states: int) -> Window:
         """The window after one; if what still was pending leaves it no room, it begins at the
@@ -141,6 +155,10 @@ class Windows:
             if operations[place].place < begin:
                 tried = len(operations) - place - 1
                 self.cut_off.append(CutOff(operations[place].line, tried))
+
+
+def windows_of(planner: Planner, options: Options, text: str) -> Windows:
+    return Windows(planner, Session(options.trace or '', text), options.window or LARGEST)
 
 
 def with_probe(text: str) -> str:

@@ -8,7 +8,7 @@ import os
 import select
 import signal
 import time
-from dataclasses import astuple, replace
+from dataclasses import replace
 from typing import Any, Callable, Dict, List, NoReturn, Optional, Set
 
 from .command import Refused, ended
@@ -53,7 +53,7 @@ class Outbox:
         if outcome.result == GOOD:
             self.lines.append(f'{number}\n')
         else:
-            self.add_fields({'state': number, 'outcome': astuple(outcome)})
+            self.add_fields({'state': number, 'outcome': outcome})
         if time.monotonic() - self.sent >= SENT_SECONDS:
             self.send()
 

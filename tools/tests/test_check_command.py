@@ -237,7 +237,10 @@ class Room(InStore):
                 ('crashfs-check', 3, '--crashfs', FAKE, '--state', '3', self.good, '--', 'true')]:
             ran = self.run_tool(tool, *words, output='/dev/full')
             self.assertEqual(ran.returncode, status)
-            self.assertEqual(ran.stderr, f'{tool}: standard output: No space left on device\n')
+            # A slow check has lines of progress before it.
+            *progress, last = ran.stderr.splitlines()
+            self.assertEqual(last, f'{tool}: standard output: No space left on device')
+            self.assertTrue(all(' tried, ' in line for line in progress), progress)
 
 
 class Stops(InStore):

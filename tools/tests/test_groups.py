@@ -175,6 +175,17 @@ class Groups(unittest.TestCase):
         self.assertIn('    line 5 is fsync /u, which is not enough', report.lines())
         self.assertIn('    fsync /t between them', report.lines())
 
+    def test_a_sync_belongs_before_the_first_rename_of_its_file(self):
+        text = HEADER + line('creat', '/t') + rename('/t', '/a') + line('creat', '/t')
+        text += line('fsync', '/') + write('/t', 'x') + rename('/a', '/b')
+        text += rename('/t', '/f') + rename('/f', '/t')
+        text += rename('/t', '/f') + line('fsync', '/') + line('say', text='one')
+        group, = report_of(text, lambda files, says: 'lost: f' if says and b'x' not in
+                           files.values() else '').groups()
+        self.assertEqual(group.advice.text[1],
+                         'fsync /t between them, before line 8 (rename /t to /f)')
+        self.assertEqual(group.advice.syncs, {6: '/t'})
+
     def test_the_notes_of_the_two_lines_are_shown(self):
         text = THIRD + line('creat', '/f', note='put (kv.py:8)') + line('say', text='a', note='ack')
         report = report_of(text, lambda files, says: 'lost: f' if says and not files else '')

@@ -8,6 +8,7 @@ from unittest import mock
 from crashfs_tools import kept_tree
 from crashfs_tools.archive import Member
 from crashfs_tools.kept_tree import KeptTree
+from crashfs_tools.trying import has_much
 
 from .support import FAKE, InFolder
 from .test_check_command import InStore
@@ -70,7 +71,10 @@ class Kept(InFolder):
     def setUp(self):
         super().setUp()
         self.place = self.path('kept')
-        patched = mock.patch.object(kept_tree, 'TICK_SECONDS', 0.02)
+        self.patch('TICK_SECONDS', 0.02)
+
+    def patch(self, name, value):
+        patched = mock.patch.object(kept_tree, name, value)
         patched.start()
         self.addCleanup(patched.stop)
 
@@ -79,7 +83,8 @@ class Kept(InFolder):
                 if TREE[path].data is not None}
 
     def test_whatever_was_done_to_it_the_next_tree_is_right(self):
-        for has_times in (True, False):
+        for has_times, large in ((True, 9), (False, 9), (True, 1), (False, 1)):
+            self.patch('LARGE_BYTES', large)
             kept, wanted = KeptTree(self.place), fresh(TREE, self.path('fresh'))
             for deed in DEEDS:
                 with self.subTest(deed):
@@ -104,6 +109,16 @@ class Kept(InFolder):
             self.assertEqual(listing(place)['a'][2], b'Xne')
             kept.bring(TREE)
             self.assertEqual(listing(place)['a'][2], b'one')
+
+    def test_a_store_through_a_mapping_into_a_large_file_is_seen(self):
+        for place in (self.place, '/dev/shm/' + os.path.basename(self.folder)):
+            kept = KeptTree(place)
+            self.addCleanup(kept.remove)
+            kept.bring({'': folder(), 'a': file('x' * 70_000)})
+            kept.begin()
+            subprocess.run(['python3', '-S', '-c', STORE], cwd=place, check=True)
+            kept.bring({'': folder(), 'a': file('x' * 69_000 + 'y' * 1_000)})
+            self.assertEqual(listing(place)['a'][2], b'x' * 69_000 + b'y' * 1_000)
 
     def test_what_nobody_changed_stays(self):
         kept = KeptTree(self.place)
@@ -130,6 +145,50 @@ class Kept(InFolder):
         self.assertNotEqual(self.times()['a'], before['a'])
         self.assertEqual(self.times()['d/c'], before['d/c'])
 
+    def test_of_a_large_file_only_what_differs_is_written(self):
+        whole = bytes(range(256)) * 1_024
+        tree = {'': folder(), 'a': file('')._replace(data=whole)}
+        kept = KeptTree(self.place)
+        kept.bring(tree)
+        kept.has_times = True
+        for deed, data, pieces in (
+                ('true', whole[:50_000] + b'changed' + whole[50_007:], [3]),
+                ('printf new | dd of=a conv=notrunc bs=1 seek=100000 2> ../told', whole, [3, 6]),
+                ('echo >> a', whole[:-1], [15]), ('cp a b; mv b a', whole, None),
+                (': > a', whole + b'x', list(range(17))), ('ln a b', whole, None)):
+            with self.subTest(deed), mock.patch('os.pwrite', side_effect=os.pwrite) as written:
+                node = os.stat(self.path('kept', 'a')).st_ino
+                kept.begin()
+                subprocess.run(['sh', '-c', deed], cwd=self.place, check=True)
+                kept.bring({**tree, 'a': tree['a']._replace(data=data)})
+                with open(self.path('kept', 'a'), 'rb') as stream:
+                    self.assertEqual(stream.read(), data)
+                self.assertEqual([call.args[2] >> 14 for call in written.mock_calls],
+                                 pieces or [])
+                if pieces is not None:
+                    self.assertEqual(os.stat(self.path('kept', 'a')).st_ino, node)
+                self.assertEqual(os.listdir(self.place), ['a'])
+        kept.remove()
+        kept.bring(tree)
+        kept.has_times = False
+        kept.begin()
+        with mock.patch('os.pwrite', side_effect=os.pwrite) as written:
+            kept.bring({**tree, 'a': tree['a']._replace(data=whole[::-1])})
+        self.assertEqual(written.mock_calls, [])
+        kept.remove()
+
+    def test_a_large_file_with_a_new_attribute_is_made_again(self):
+        tree = {'': folder(), 'a': file('x' * 70_000)}
+        kept = KeptTree(self.place)
+        kept.bring(tree)
+        kept.begin()
+        try:
+            os.setxattr(self.path('kept', 'a'), 'user.mark', b'1')
+        except OSError as error:
+            self.skipTest(f'{error}')
+        kept.bring({**tree, 'a': file('y' * 70_000)})
+        self.assertEqual(os.listxattr(self.path('kept', 'a')), [])
+
     def test_a_file_that_is_another_one_is_written_again(self):
         """Also if its times say nothing."""
         kept = KeptTree(self.place)
@@ -144,11 +203,14 @@ class Kept(InFolder):
         trees = [TREE, {'': folder(0o700)}, {'': folder(), 'a': folder(0), 'a/x': file('y')},
                  {**TREE, 'd/e': file('now a file')}, TREE, {**TREE, 'a': file('one', 0o400)}]
         trees[3].pop('d/e/f')
-        kept = KeptTree(self.place)
-        for tree in trees:
-            kept.bring(tree)
-            self.assertEqual(listing(self.place), fresh(tree, self.path('fresh')))
-            kept.begin()
+        for large in (9, 1):
+            self.patch('LARGE_BYTES', large)
+            kept = KeptTree(self.place)
+            for tree in trees:
+                kept.bring(tree)
+                self.assertEqual(listing(self.place), fresh(tree, self.path('fresh')))
+                kept.begin()
+            kept.remove()
 
 
 class Checks(InStore):
@@ -194,6 +256,15 @@ class Checks(InStore):
                        '> /dev/null 2>&1'):
             self.assertEqual(self.states(only, trace, script), wanted)
         self.assert_ended()
+
+    def test_trees_are_kept_if_they_are_large_at_any_time(self):
+        start = '{"start":"dir","path":"/d"}\n'
+        grown = '{"op":"truncate","path":"/f","length":%d}\n'
+        for text, expected in (
+                (start * 31, False), (start * 32, True), (grown % 1_000_000, False),
+                (grown % 500_000 * 3, True), (grown % 1_048_576, True), ('x' * 1_048_575, False),
+                ('x' * 524_288 + '\n' + 'y' * 524_288, True)):
+            self.assertEqual(has_much(self.write('much.trace', text)), expected, text[:99])
 
     def test_a_small_tree_is_laid_out_whole(self):
         no_changes = self.write('none', f'#!/bin/sh\ncase "$*" in *--changes*) exit 9;; esac\n'

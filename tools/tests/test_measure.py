@@ -109,7 +109,8 @@ class States(Measure):
     def test_states_are_measured_beside_a_c_program(self) -> None:
         self.program('crashfs', ['#!/bin/sh', f'exec {READING} "$@"'])
         told = self.measure('states').stdout
-        self.assertRegex(told, r'\n295 states by \d+ jobs: \d+ a second, by one \d+; the C program')
+        self.assertRegex(told, r'\n625 states, 295 of them tried, by \d+ jobs: [\d.]+ s, \d+ states')
+        self.assertRegex(told, r'\nthe C program by one: \d+ a second\n')
         self.assertRegex(told, r'\na state beside the C program: [\d.]+ times, (within|past) ')
 
     def test_a_check_that_fails_is_told(self) -> None:

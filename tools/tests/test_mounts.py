@@ -8,8 +8,8 @@ import re
 import signal
 import unittest
 
+from crashfs_tools.address import Address
 from crashfs_tools.check_options import address
-from crashfs_tools.mounts import Address
 
 from .support import FAKE, PATIENCE, PYTHON_FOLDER
 from .test_check_command import InStore

@@ -6,11 +6,11 @@ import unittest
 from xml.dom import minidom
 
 from crashfs_tools.drawing import drawing_of
+from crashfs_tools.entry import Entry
 from crashfs_tools.groups import Difference
 from crashfs_tools.junit import junit_lines
 from crashfs_tools.page import page
 from crashfs_tools.runner import BAD, GOOD, NO_ANSWER, Outcome
-from crashfs_tools.tree import Entry
 from crashfs_tools.tree_diff import different_lines, nearest_good
 
 from .test_groups import HEADER, findings_of, line, report_of, reported, write

@@ -164,7 +164,7 @@ class Text(unittest.TestCase):
             '  lost: a                                              1 state: --state 9',
             '    line 3 (write /a b, 16 bytes at 0) was not durable when line 6 acknowledged '
             '"row 1":',
-            '    fsync /a b between them',
+            '    fsync /a b between them, before line 5 (rename /a b to /c)',
         ])
         self.assertEqual(report.status, 1)
 

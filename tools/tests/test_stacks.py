@@ -10,9 +10,9 @@ from typing import Dict
 from unittest import mock
 
 from crashfs_tools import frames
-from crashfs_tools.while_running import Progress
 from crashfs_tools.strace_log import read_log
 from crashfs_tools.trace_read import read_trace
+from crashfs_tools.while_running import Progress
 
 from .support import InFolder, as_strace, needs_strace, needs_version_3, short
 from .test_odd import needs_compiler

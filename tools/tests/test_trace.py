@@ -25,8 +25,8 @@ from crashfs_tools.trace import (
     Unlink,
     Write,
 )
-from crashfs_tools.trace_read import read_trace
-from crashfs_tools.tree import Tree, replay
+from crashfs_tools.trace_read import read_trace, replay
+from crashfs_tools.tree import Tree
 
 from .support import EXAMPLES, FAKE, InFolder
 
@@ -89,13 +89,13 @@ class Traces(unittest.TestCase):
             self.assertEqual('\n'.join(read_trace(text).lines()) + '\n', text)
 
     def test_two_paths_of_a_file_are_one_file(self):
-        tree = replay(read_trace(LINKED))
+        tree = replay(LINKED.split('\n'))
         self.assertEqual(sorted(tree.entries), ['/', '/d', '/d/f', '/h'])
         self.assertEqual(tree.entries['/d/f'].data, b'\xc3\xa9 "\n'.ljust(4094, b'\0') + b'a\0\0')
         self.assertIs(tree.entries['/d/f'], tree.entries['/h'])
         # A size and a block, a size and two blocks, a say, a link, an unlink, and no rename.
         self.assertEqual((tree.micro_operations, tree.records), (8, 5))
-        small = replay(read_trace(LINKED.replace('4096', '512')))
+        small = replay(LINKED.replace('4096', '512').split('\n'))
         self.assertEqual(small.micro_operations, 8)
 
     def test_bytes_are_a_text_where_people_can_read_them(self):
@@ -127,9 +127,16 @@ class Traces(unittest.TestCase):
                 read_trace(text)
             self.assertTrue(str(caught.exception).startswith(told), caught.exception)
 
+    def test_a_replay_refuses_what_the_tree_has_not(self):
+        text = LINKED + '{"op":"unlink","path":"/nothing"}\n'
+        with self.assertRaisesRegex(ValueError, f'^line {text.count(chr(10))}: '):
+            replay(text.split('\n'))
+        with self.assertRaises(TraceError):
+            replay([])
+
     def test_the_micro_operations_are_as_many_as_the_program_lists(self):
         listed = example('store.list').count('op ')
-        self.assertEqual(replay(read_trace(example('store.trace'))).micro_operations, listed)
+        self.assertEqual(replay(example('store.trace').split('\n')).micro_operations, listed)
 
     def test_the_last_state_is_that_of_the_last_prefix(self):
         for name in EXAMPLE_TRACES:
@@ -138,7 +145,7 @@ class Traces(unittest.TestCase):
 
     def test_modes_and_owners_are_counted_where_they_change(self):
         again = RIGHTS + '{"op":"chmod","path":"/b","mode":"600"}\n'
-        tree = replay(read_trace(again))
+        tree = replay(again.split('\n'))
         self.assertEqual(tree.micro_operations, 4)
         entry = tree.entries['/b']
         self.assertEqual((entry.owner, entry.group, entry.mode), ('bob', 'staff', 0o600))

@@ -7,6 +7,7 @@ import unittest
 from types import SimpleNamespace
 
 from crashfs_tools import limits
+from crashfs_tools.entry import Entry
 from crashfs_tools.plan import Before, Planned, places_of, read_plan
 from crashfs_tools.planning import Planner
 from crashfs_tools.program import ProgramFault
@@ -18,7 +19,6 @@ from crashfs_tools.report import Report
 from crashfs_tools.results import Head, Results, known_states
 from crashfs_tools.steps import Session, Steps
 from crashfs_tools.trace_lines import operation_lines
-from crashfs_tools.tree import Entry
 from crashfs_tools.windows import Windows
 
 from .random_traces import RandomTrace
@@ -91,12 +91,15 @@ class Reader:
 
 class InWindows(InStore):
 
-    def windows(self, text, size, quick=False):
-        """The windows, and the results of each if nothing is tried."""
+    def made(self, text, size, quick=False):
         options = SimpleNamespace(prefixes=False, has_lost=not quick, has_files=not quick,
                                   serve=None)
         guard = SimpleNamespace(directory=self.temporary, environment={})
-        windows = Windows(Planner(options, Reader(), guard), Session('w', text), size)
+        return Windows(Planner(options, Reader(), guard), Session('w', text), size)
+
+    def windows(self, text, size, quick=False):
+        """The windows, and the results of each if nothing is tried."""
+        windows = self.made(text, size, quick)
         results = []
         for planned in windows.all():
             known = known_states(results[-1].plan, planned.plan) if results else {}
@@ -209,6 +212,15 @@ class Cuts(InWindows):
         self.assertEqual(report.lines()[1:], [
             '  the loss of line 2 (creat /0) was tried for 7 later micro-operations only, and so '
             'with 1 more line'])
+
+    def test_only_the_last_window_has_files(self):
+        text = HEADER + ''.join(creat(f'/{number}') for number in range(20))
+        windows = 0
+        for planned in self.made(text, 8).all():
+            name = os.path.basename(planned.trace)
+            self.assertEqual(sorted(os.listdir(self.temporary)), [name, f'{name}.picks'])
+            windows += 1
+        self.assertEqual(windows, 4)
 
     def test_links_stay_links_over_a_cut(self):
         text = HEADER + creat('/a') + '{"op":"link","from":"/a","to":"/b"}\n'

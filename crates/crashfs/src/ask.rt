@@ -1,4 +1,4 @@
-//! What the command line asks for.
+//! What the command line asks for. It is read in `command_line`.
 use cs_archive::States;
 use cs_families::Family;
 use cs_list_lines::ListOptions;

@@ -1,4 +1,4 @@
-//! The command line, read.
+//! Reading the command line. The commands and options that it may have are in `commands`.
 use crate::ask::{Ask, Job, Wanted};
 use crate::commands::{command, tar_command};
 use clap::error::ErrorKind;
@@ -12,7 +12,7 @@ use std::alloc::{AllocError, Global};
 /// How many connections are served if the command line doesn't say.
 const CONNECTIONS: u32 = 64;
 
-/// The path of the trace, as an argument or as an option.
+/// The path of the trace: the argument, else the value of `--trace`. Exactly one of them is given.
 fn trace_of<'a>(matches: &ArgMatches<'a>) -> &'a str {
     match matches.get_str("file") {
         Some(path) => path,
@@ -20,7 +20,7 @@ fn trace_of<'a>(matches: &ArgMatches<'a>) -> &'a str {
     }
 }
 
-/// The trace, and which of its states are asked for.
+/// The trace, and which of its states the command is about.
 fn wanted_of<'a>(matches: &ArgMatches<'a>) -> Wanted<'a> {
     Wanted {
         trace: trace_of(matches),
@@ -29,7 +29,7 @@ fn wanted_of<'a>(matches: &ArgMatches<'a>) -> Wanted<'a> {
     }
 }
 
-/// What `list` adds to its lines.
+/// What the options of `list` ask for.
 fn options_of(matches: &ArgMatches) -> ListOptions {
     ListOptions {
         lines: matches.get_flag("lines"),
@@ -38,7 +38,7 @@ fn options_of(matches: &ArgMatches) -> ListOptions {
     }
 }
 
-/// The numbers of a text `N` or `A-B`, if it is one.
+/// The range that a text `N` or `A-B` means. None if it is neither, or if A is greater than B.
 fn range_of(text: &str) -> Option<StateRange> {
     let (first, last) = text.split_once('-').unwrap_or((text, text));
     let first = first.parse().ok()?;
@@ -49,7 +49,7 @@ fn range_of(text: &str) -> Option<StateRange> {
     Some(StateRange { first, last })
 }
 
-/// The ranges of a text with commas between them, if it is one.
+/// The ranges of a text, which has a comma between each two. None if one of its parts is no range.
 fn ranges_of(alloc: Global, text: &str) -> Result<Option<Vec<StateRange>>, AllocError> {
     let mut ranges = Vec::new(alloc);
     for item in text.split(',') {
@@ -61,7 +61,7 @@ fn ranges_of(alloc: Global, text: &str) -> Result<Option<Vec<StateRange>>, Alloc
     Ok(Some(ranges))
 }
 
-/// The states of `tar`, if it has some.
+/// The states that `tar` writes. None if the value of `--states` is no list of ranges.
 fn states_of(alloc: Global, matches: &ArgMatches) -> Result<Option<States>, AllocError> {
     let changes = matches.get_flag("changes");
     if let Some(text) = matches.get_str("states") {
@@ -95,7 +95,8 @@ fn family_of(matches: &ArgMatches) -> Family {
     }
 }
 
-/// What is served. No workers are as many as there are processors.
+/// What `serve` serves, and how. Without `--workers` there are 0 workers, which `workers_of`
+/// replaces; whether progress is printed isn't known here.
 fn serving_of<'a>(matches: &ArgMatches<'a>) -> Serving<'a> {
     Serving {
         listen: matches.get_str("listen").unwrap_or(""),
@@ -116,7 +117,7 @@ fn serving_of<'a>(matches: &ArgMatches<'a>) -> Serving<'a> {
     }
 }
 
-/// What the command of this name does; None if its list of states isn't one.
+/// What the command of this name does. None if the value of `--states` is no list of ranges.
 fn job_of<'a>(
     alloc: Global,
     name: &str,
@@ -134,7 +135,7 @@ fn job_of<'a>(
     })
 }
 
-/// What is printed if the text after `--states` is no list.
+/// The refusal of a value of `--states` that is no list of ranges, as clap prints refusals.
 fn no_list(alloc: Global, text: &str) -> Result<Error, AllocError> {
     let text = format!(in alloc;
         "invalid value '{text}' for '--states <LIST>': numbers N and ranges A-B, with commas"
@@ -143,8 +144,9 @@ fn no_list(alloc: Global, text: &str) -> Result<Error, AllocError> {
     tar.error(ErrorKind::ValueValidation, text.as_str())
 }
 
-/// What the words ask for, the program's name first. The error is a text for the user: the help,
-/// the version, or what is wrong with the words.
+/// What the words of the command line ask for; the first is the program's name. The error has a
+/// text for the user: the help, the version, or what is wrong with the words. It may be out of
+/// memory too.
 pub fn ask_of<'a>(alloc: Global, words: &'a [&'a str]) -> Result<Ask<'a>, Error> {
     let matches = command(alloc)?.try_get_matches_from(words)?;
     // a command line without a command was refused

@@ -35,7 +35,7 @@ fn flag<'a>(alloc: Global, name: &'a str, help: &'a str) -> Arg<'a> {
         .action(ArgAction::SetTrue)
 }
 
-/// Of two arguments exactly one must be given.
+/// A group of two arguments, exactly one of which must be given.
 fn one_of<'a>(
     alloc: Global,
     name: &'a str,
@@ -46,7 +46,7 @@ fn one_of<'a>(
     group.arg(first)?.arg(second)
 }
 
-/// The command with its trace, as an argument or as an option.
+/// The command, to which the trace is added, as an argument or as the option `--trace`.
 fn with_trace<'a>(alloc: Global, command: Command<'a>) -> Result<Command<'a>, AllocError> {
     let help = "The trace, one JSON object a line; - is standard input";
     let file = Arg::new(alloc, "file")
@@ -59,7 +59,7 @@ fn with_trace<'a>(alloc: Global, command: Command<'a>) -> Result<Command<'a>, Al
         .group(one_of(alloc, "input", "file", "trace")?)
 }
 
-/// The command with the arguments that say which states are wanted.
+/// The command, to which the trace and the options that add states are added.
 fn with_states<'a>(alloc: Global, command: Command<'a>) -> Result<Command<'a>, AllocError> {
     let holes = flag(alloc, "holes", "Adds the states of prefixes with a hole");
     let help = "Adds the states of these sets, one JSON array of places a line";
@@ -67,12 +67,12 @@ fn with_states<'a>(alloc: Global, command: Command<'a>) -> Result<Command<'a>, A
     with_trace(alloc, command)?.arg(holes)?.arg(picks)
 }
 
-/// The argument of the users file.
+/// The option `--users`, with this text of help.
 fn users_argument<'a>(alloc: Global, help: &'a str) -> Arg<'a> {
     value_argument(alloc, "users", "FILE", help)
 }
 
-/// The command `list`.
+/// The command `list` and its options.
 fn list_command<'a>(alloc: Global) -> Result<Command<'a>, AllocError> {
     let lines = "Adds each operation's line of the trace, and the path of a file that changes";
     let same = "Adds to each state the first one that has an equal tree";
@@ -86,7 +86,7 @@ fn list_command<'a>(alloc: Global) -> Result<Command<'a>, AllocError> {
     with_states(alloc, list)
 }
 
-/// The command `tar`.
+/// The command `tar` and its options. A refusal of `--states` needs it by itself.
 pub fn tar_command<'a>(alloc: Global) -> Result<Command<'a>, AllocError> {
     let state = value_argument(alloc, "state", "N", "The state of that number").value_parser(
         value_parser!(u32),
@@ -106,7 +106,7 @@ pub fn tar_command<'a>(alloc: Global) -> Result<Command<'a>, AllocError> {
     with_states(alloc, tar)
 }
 
-/// The command `picks`.
+/// The command `picks` and its options.
 fn picks_command<'a>(alloc: Global) -> Result<Command<'a>, AllocError> {
     let lost = "For each operation the smallest disk that still has it";
     let files = "For each prefix and each file, the disk without its changes that no sync covers";
@@ -120,7 +120,7 @@ fn picks_command<'a>(alloc: Global) -> Result<Command<'a>, AllocError> {
     with_trace(alloc, picks)
 }
 
-/// The command `script`.
+/// The command `script` and its options.
 fn script_command<'a>(alloc: Global) -> Result<Command<'a>, AllocError> {
     let verbose = "Prints each message and its reply as text on standard error";
     let script = Command::new(alloc, "script")
@@ -131,7 +131,7 @@ fn script_command<'a>(alloc: Global) -> Result<Command<'a>, AllocError> {
     with_states(alloc, script)
 }
 
-/// The address, and how many workers and connections there are.
+/// The command, to which the address and the numbers of workers and connections are added.
 fn with_counts<'a>(alloc: Global, command: Command<'a>) -> Result<Command<'a>, AllocError> {
     let listen = "The address and port to listen on; port 0 lets the system choose one";
     let workers = "How many threads make the states, 1 to 64; default: one a processor";
@@ -143,7 +143,7 @@ fn with_counts<'a>(alloc: Global, command: Command<'a>) -> Result<Command<'a>, A
         .arg(count_argument(alloc, "connections", connections))
 }
 
-/// The command `serve`.
+/// The command `serve` and its options.
 fn serve_command<'a>(alloc: Global) -> Result<Command<'a>, AllocError> {
     let again = "Accepts another connection when one ends, until standard input ends";
     let ready = "Makes all states before it listens";
@@ -168,7 +168,7 @@ fn serve_command<'a>(alloc: Global) -> Result<Command<'a>, AllocError> {
     with_states(alloc, serve)
 }
 
-/// The command of the program.
+/// The command line of the program: its version, its help and its five commands.
 pub fn command<'a>(alloc: Global) -> Result<Command<'a>, AllocError> {
     Command::new(alloc, "crashfs")
         .about(

@@ -1,4 +1,4 @@
-//! The files that the command line names.
+//! Reading the files that the command line names.
 ghost use Rattle.std.specs.Prelude.{◌≡◌};
 
 use crate::ask::{Ask, Job};
@@ -12,7 +12,7 @@ use std::rt::Files;
 /// The status of a command that a fault ended.
 pub const FAULT: u8 = 1;
 
-/// The bytes of each file that the command line names, none of one that it doesn't name.
+/// The bytes of each file that the command line names. Empty for a file that it doesn't name.
 #[derive(Drop)]
 pub struct InputFiles {
     trace: Vec<u8>,
@@ -20,7 +20,7 @@ pub struct InputFiles {
     users: Vec<u8>,
 }
 
-/// Prints that memory ran out, and gives the status.
+/// Prints that the program is out of memory, and returns the status.
 pub fn out_of_memory(rt: &impl Eprint) -> u8
     ensures { result ≡ 1 }
 {
@@ -28,7 +28,8 @@ pub fn out_of_memory(rt: &impl Eprint) -> u8
     FAULT
 }
 
-/// The file's bytes. Room for as many as it has is made at once; a pipe, which has no size, grows.
+/// The bytes of the file at the path. Room for its size is reserved at once, and one byte for the
+/// read that finds the end. A pipe has no size: its room grows.
 fn read_bytes<R: Files + AllocGlobal>(rt: &R, path: &str) -> io::Result<Vec<u8>> {
     let mut file = File::open(rt, path)?;
     let size = file.metadata()?.len();
@@ -38,9 +39,9 @@ fn read_bytes<R: Files + AllocGlobal>(rt: &R, path: &str) -> io::Result<Vec<u8>>
     Ok(bytes)
 }
 
-/// These bytes, or the status if they can't be read, which two lines on `err` report: that it can't
-/// be read, and why.
-fn read_of<R: Eprint, E: Write>(
+/// The bytes that were read of the path. If they couldn't be read, the status, after two lines on
+/// `err`: that the file can't be read, and why. If out of memory only that is printed.
+fn bytes_or_status<R: Eprint, E: Write>(
     rt: &R,
     path: &str,
     bytes: io::Result<Vec<u8>>,
@@ -59,14 +60,15 @@ fn read_of<R: Eprint, E: Write>(
     }
 }
 
-/// The bytes of standard input.
+/// All bytes of standard input.
 fn read_input<R: Input + AllocGlobal>(rt: &R) -> io::Result<Vec<u8>> {
     let mut bytes = Vec::new(rt.alloc());
     rt.reader().read_to_end(&mut bytes)?;
     Ok(bytes)
 }
 
-/// The bytes of the trace: of standard input, if its path is `-`.
+/// The bytes of the trace, which is standard input if its path is `-`. The error is the status,
+/// after its lines on `err`.
 fn read_trace<R: Files + Input + Eprint + AllocGlobal, E: Write>(
     rt: &R,
     path: &str,
@@ -77,23 +79,25 @@ fn read_trace<R: Files + Input + Eprint + AllocGlobal, E: Write>(
     } else {
         read_bytes(rt, path)
     };
-    read_of(rt, path, bytes, err)
+    bytes_or_status(rt, path, bytes, err)
 }
 
-/// The bytes of a file; of no file no bytes.
+/// The bytes of the file at the path; none if there is no path. The error is the status, after its
+/// lines on `err`.
 fn read_if<R: Files + Eprint + AllocGlobal, E: Write>(
     rt: &R,
     path: Option<&str>,
     err: &mut E,
 ) -> Result<Vec<u8>, u8> {
     match path {
-        Some(path) => read_of(rt, path, read_bytes(rt, path), err),
+        Some(path) => bytes_or_status(rt, path, read_bytes(rt, path), err),
         None => Ok(Vec::new(rt.alloc())),
     }
 }
 
-/// The users file, with a line feed alone at each line's end. If `serve` has none, one made of the
-/// trace's owners and groups.
+/// The bytes of the users file, with a line feed alone at each line's end. If the command line
+/// names none, `serve` gets one of the trace's owners and groups, and other commands get no bytes.
+/// The error is the status, after its lines on `err`.
 fn read_users<R: Files + Eprint + AllocGlobal, E: Write>(
     rt: &R,
     ask: &Ask,
@@ -112,8 +116,8 @@ fn read_users<R: Files + Eprint + AllocGlobal, E: Write>(
 }
 
 impl InputFiles {
-    /// Reads the trace, the picks and the users, in this order. Or the status if one can't be read,
-    /// which `err` reports.
+    /// Reads the trace, the picks and the users, in this order. The error is the status if one
+    /// can't be read, after its lines on `err`.
     pub fn read<R: Files + Input + Eprint + AllocGlobal, E: Write>(
         rt: &R,
         ask: &Ask,
@@ -129,7 +133,7 @@ impl InputFiles {
         })
     }
 
-    /// The files, with what else the command line says of the states and of what is printed.
+    /// The files, and the command line's `--holes` and `--verbose`, as the commands take them.
     pub fn inputs(&self, ask: &Ask) -> Inputs<'_> {
         Inputs {
             users: &self.users,

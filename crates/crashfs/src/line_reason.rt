@@ -1,4 +1,4 @@
-//! Why a line of a trace is refused, in words.
+//! Why a line of a trace is refused, in words: what the fault of the trace doesn't say.
 
 use serde_json::{Map, Value};
 use std::alloc::{AllocError, Global};
@@ -25,7 +25,7 @@ fn is_version(value: &Value) -> bool {
     }
 }
 
-/// Why the value of a key is refused, if its own form says so; or the key.
+/// Why a key or its value is refused. None if neither is refused by its own form.
 fn reason_of_field(alloc: Global, key: &str, value: &Value) -> Result<Option<String>, AllocError> {
     let reason = match key {
         "trace" if !is_version(value) => format!(in alloc;
@@ -43,7 +43,7 @@ fn reason_of_field(alloc: Global, key: &str, value: &Value) -> Result<Option<Str
     Ok(Some(reason?))
 }
 
-/// The first reason among the members of a line.
+/// Why the first member of a line that is refused by its own form is refused. None if none is.
 fn reason_of_members(
     alloc: Global,
     members: Map<String, Value>,
@@ -57,7 +57,7 @@ fn reason_of_members(
     Ok(None)
 }
 
-/// Why a line has not the form of a line, if that can be said.
+/// Why a line isn't one of a trace. None if each of its members has the right form by itself.
 pub fn reason_of_syntax(alloc: Global, line: &str) -> Result<Option<String>, AllocError> {
     if line.is_empty() {
         return Ok(Some("the file has no line".to_string(alloc)?));
@@ -71,7 +71,8 @@ pub fn reason_of_syntax(alloc: Global, line: &str) -> Result<Option<String>, All
     }
 }
 
-/// The operation, or the kind of a start line, that is not known.
+/// The name of the operation, or else of the kind of a start line, as one that isn't known. None if
+/// the line has neither, or isn't JSON.
 pub fn reason_of_op(alloc: Global, line: &str) -> Result<Option<String>, AllocError> {
     let Ok(value) = Value::from_str(alloc, line) else {
         return Ok(None);

@@ -40,7 +40,8 @@ const REFUSED: u8 = 2;
 /// The most workers.
 const WORKERS: u32 = 64;
 
-/// So many workers, or one a processor.
+/// How many workers there are: `workers`, or if that is 0 one for each processor, at most WORKERS.
+/// One if the number of processors isn't known.
 fn workers_of(rt: &impl Threads, workers: u32) -> u32 {
     if workers > 0 {
         return workers;
@@ -53,7 +54,8 @@ fn workers_of(rt: &impl Threads, workers: u32) -> u32 {
     }
 }
 
-/// Serves the states.
+/// Runs the command `serve`, with a buffer before `err`, which its threads share. Returns its
+/// status.
 fn run_serve<R, W: Write, E: Write + Send>(
     rt: &R,
     inputs: &Inputs,
@@ -73,8 +75,9 @@ where
     serve_of(rt, rt.alloc(), inputs, serving, rt.reader(), out, &err)
 }
 
-/// Does what is asked for, once its files are read, and says why it failed. If the reader of
-/// standard output has gone away, nothing is printed. Err if a file can't be read.
+/// Reads the files, does what is asked for, and returns the status. After a fault `err` also gets
+/// what more is known of it, but nothing if the reader of standard output has gone away. The error
+/// is the status if a file can't be read, which `err` has by then.
 fn run_job<R, E: Write + Send>(rt: &R, err: &mut E, on_terminal: bool, ask: &Ask) -> Result<u8, u8>
 where
     R: Files + ReadsFiles + Input + Print + Eprint + AllocGlobal + Clock + Threads + Wait + Sync,
@@ -116,9 +119,9 @@ where
     Ok(status)
 }
 
-/// The status of a command line that asks for nothing, after its text is printed: a help that can't
-/// be printed is a fault.
-fn unasked<R: Print + Eprint>(rt: &R, error: &Error) -> u8 {
+/// Prints the help, the version, or what is wrong with the command line, and returns the status: 0,
+/// or REFUSED if something is wrong. A help or version that can't be printed is a fault.
+fn print_help_or_refusal<R: Print + Eprint>(rt: &R, error: &Error) -> u8 {
     if error.kind() == ErrorKind::OutOfMemory {
         return out_of_memory(rt);
     }
@@ -132,7 +135,8 @@ fn unasked<R: Print + Eprint>(rt: &R, error: &Error) -> u8 {
     }
 }
 
-/// Runs the command line, and returns the status; what is wrong goes to `err`.
+/// Runs the command line of these words, and returns the status. Faults are printed on `err`, and
+/// progress if that is on a terminal.
 fn run<R, E: Write + Send>(rt: &R, err: &mut E, on_terminal: bool, words: &[&str]) -> u8
 where
     R: Files + ReadsFiles + Input + Print + Eprint + AllocGlobal + Clock + Threads + Wait + Sync,
@@ -143,11 +147,12 @@ where
         Ok(ask) => match run_job(rt, err, on_terminal, &ask) {
             Ok(status) | Err(status) => status,
         },
-        Err(error) => unasked(rt, &error),
+        Err(error) => print_help_or_refusal(rt, &error),
     }
 }
 
-/// The words of the command line.
+/// The words of the command line, the program's name first. An error other than out of memory means
+/// that one is no text.
 fn words_of<R: Env + AllocGlobal>(rt: &R) -> io::Result<Vec<String>> {
     let mut words = Vec::new(rt.alloc());
     for word in std::env::args(rt)? {

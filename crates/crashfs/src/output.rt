@@ -1,4 +1,4 @@
-//! Standard output, and why it failed.
+//! Standard output that keeps why a write failed, which the commands don't return.
 
 use std::io::{self, ErrorKind, Write};
 
@@ -10,7 +10,7 @@ pub struct Output<W: Drop> {
 }
 
 impl<W: Write + Drop> Output<W> {
-    /// Writes to the writer, and keeps its first fault.
+    /// An output over the writer, without a fault.
     pub fn new(writer: W) -> Output<W> {
         Output {
             writer,
@@ -18,7 +18,8 @@ impl<W: Write + Drop> Output<W> {
         }
     }
 
-    /// Whether its reader has gone away, as `head` does once it has its lines.
+    /// Whether the last fault is that its reader has gone away, as `head` does once it has its
+    /// lines.
     pub fn is_closed(&self) -> bool {
         match &self.fault {
             Some(error) => error.kind() == ErrorKind::BrokenPipe,
@@ -26,14 +27,14 @@ impl<W: Write + Drop> Output<W> {
         }
     }
 
-    /// Why a write failed, if one did.
+    /// Why a write or a flush failed, the last that did. None if none failed.
     pub fn fault(&self) -> Option<&io::Error> {
         self.fault.as_ref()
     }
 
-    /// Keeps the fault, and returns one of the same kind. An interrupted write is tried again, and
-    /// is none.
-    fn keep(&mut self, error: io::Error) -> io::Error {
+    /// Keeps the fault, and returns another of the same kind. An interrupted write isn't kept: it
+    /// is tried again.
+    fn keep_fault(&mut self, error: io::Error) -> io::Error {
         let kind = error.kind();
         if kind != ErrorKind::Interrupted {
             self.fault = Some(error);
@@ -46,14 +47,14 @@ impl<W: Write + Drop> Write for Output<W> {
     fn write(&mut self, buf: &[u8]) -> io::Result<usize> {
         match self.writer.write(buf) {
             Ok(count) => Ok(count),
-            Err(error) => Err(self.keep(error)),
+            Err(error) => Err(self.keep_fault(error)),
         }
     }
 
     fn flush(&mut self) -> io::Result<()> {
         match self.writer.flush() {
             Ok(()) => Ok(()),
-            Err(error) => Err(self.keep(error)),
+            Err(error) => Err(self.keep_fault(error)),
         }
     }
 }

@@ -4,7 +4,8 @@ ghost use Rattle.std.specs.Prelude.{◌<◌, length};
 use cs_apm::Order;
 use std::alloc::{AllocError, Global};
 
-/// The first operation that the one at the place needs by any chain, and that is not among these.
+/// The first operation that the one at the place needs by any chain and that isn't in `places`.
+/// None if all that it needs are.
 fn missing_need(order: &Order, places: &[u32], place: usize) -> Option<usize>
     requires { place < length order.now }
 {
@@ -18,7 +19,8 @@ fn missing_need(order: &Order, places: &[u32], place: usize) -> Option<usize>
     None
 }
 
-/// Why the pick of that number is not allowed.
+/// Why the pick of that number is not allowed, by the first of its places that is at fault. None if
+/// it is allowed.
 pub fn reason_of_pick(
     alloc: Global,
     order: &Order,
@@ -48,7 +50,8 @@ pub fn reason_of_pick(
     Ok(None)
 }
 
-/// How many holes have this last place.
+/// How many holes have this last place: one for each earlier place that the operation there doesn't
+/// need by any chain.
 fn count_holes_at(order: &Order, last: usize) -> u64
     requires { last < length order.now }
 {
@@ -61,7 +64,7 @@ fn count_holes_at(order: &Order, last: usize) -> u64
     count
 }
 
-/// How many holes all places have together.
+/// How many holes the order allows, each a prefix without one place that its last doesn't need.
 pub fn count_holes(order: &Order) -> u64 {
     let mut count = 0u64;
     for last in 0..order.len() {

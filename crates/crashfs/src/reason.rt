@@ -11,12 +11,12 @@ use cs_trace::{TraceFault, TraceFaultKind};
 use std::alloc::{AllocError, Global};
 use std::io::Write;
 
-/// The line of that number of a text; lines count from 1. The first line of an empty text is empty.
+/// The line of that number of a text; lines count from 1. Empty if there is no such line.
 fn line_at(text: &str, number: usize) -> &str {
     text.split('\n').nth(number.saturating_sub(1)).unwrap_or("")
 }
 
-/// Why a trace is refused, if more can be said than its fault.
+/// Why the line of a trace's fault is refused. None if no more can be said than its fault.
 fn reason_of_trace(
     alloc: Global,
     trace: &[u8],
@@ -30,14 +30,14 @@ fn reason_of_trace(
     }
 }
 
-/// How many states there are, by these inputs with or without holes.
+/// How many states the plan of these inputs has, with holes or without. None if there is no plan.
 fn count_of(alloc: Global, inputs: &Inputs, holes: bool) -> Option<usize> {
     let inputs = Inputs { holes, ..*inputs };
     let scene = scene_of(alloc, &inputs).ok()?;
     Some(scene.plan().len())
 }
 
-/// The greatest number among the states.
+/// The greatest number that is asked for; 0 if none is.
 fn greatest_of(states: &States) -> u32 {
     match states {
         States::One(number) => *number,
@@ -46,7 +46,8 @@ fn greatest_of(states: &States) -> u32 {
     }
 }
 
-/// How many states there are, if one past the last is asked for.
+/// How many states there are, and with holes. None if no number past the last is asked for, or if
+/// there is no plan.
 fn reason_of_number(
     alloc: Global,
     inputs: &Inputs,
@@ -66,7 +67,8 @@ fn reason_of_number(
     Ok(Some(text))
 }
 
-/// Why a trace is refused, with the place of its line.
+/// Why a trace is refused, with its path and the number of the line. None if no more can be said
+/// than its fault.
 fn reason_at_line(
     alloc: Global,
     inputs: &Inputs,
@@ -81,7 +83,8 @@ fn reason_at_line(
     Ok(Some(text))
 }
 
-/// How many states the plan would have, and how many it may have.
+/// Why a plan is too large: how many states it may have, and this one would. None if even the
+/// prefixes have no plan.
 fn reason_of_size(alloc: Global, inputs: &Inputs) -> Result<Option<String>, AllocError> {
     let most = PLAN_STATES;
     let prefixes = Inputs {
@@ -99,7 +102,8 @@ fn reason_of_size(alloc: Global, inputs: &Inputs) -> Result<Option<String>, Allo
     Ok(Some(text))
 }
 
-/// Why the pick of that number is not allowed.
+/// Why the pick of that number is not allowed. None if there is no such pick, or no plan of
+/// prefixes.
 fn reason_of_picks(
     alloc: Global,
     inputs: &Inputs,
@@ -120,7 +124,7 @@ fn reason_of_picks(
     }
 }
 
-/// Why there is no plan.
+/// Why a trace has no plan. None if out of memory, which needs no reason.
 fn reason_of_scene(
     alloc: Global,
     inputs: &Inputs,
@@ -140,7 +144,8 @@ fn reason_of_scene(
     Ok(Some(text?))
 }
 
-/// What more can be said of the fault that ended a command.
+/// What more can be said of the fault that ended a command. The plan is made again for this, which
+/// finds a fault of the inputs; a fault of another kind has no reason here.
 fn reason_of(alloc: Global, inputs: &Inputs, ask: &Ask) -> Result<Option<String>, AllocError> {
     match scene_of(alloc, inputs) {
         Err(ProgramFault::Trace(fault)) => {
@@ -155,8 +160,8 @@ fn reason_of(alloc: Global, inputs: &Inputs, ask: &Ask) -> Result<Option<String>
     }
 }
 
-/// After a fault, prints on `err` what more can be said of it: of a line of the trace, of the plan,
-/// or of the number of a state.
+/// Prints on `err` what more can be said of the fault that ended a command: of a line of the trace,
+/// of the plan, or of the number of a state. Nothing if no more can be said.
 pub fn explain<E: Write>(alloc: Global, inputs: &Inputs, ask: &Ask, err: &mut E) {
     if let Ok(Some(reason)) = reason_of(alloc, inputs, ask) {
         let _unheard = writeln!(err, "crashfs: {reason}");

@@ -1,4 +1,5 @@
 //! The content of a file of a crash state: its size, and its bytes. Bytes past the size are hidden.
+//! An error is that memory ran out; the content is then dropped.
 ghost use Rattle.std.specs.Prelude.{◌≡◌, ℕ, ◌+◌, ◌<◌, ◌≤◌, List, length, OnOk, IfOk};
 ghost use Rattle.std.specs.List.{All};
 ghost use Rattle.cs_apm.specs.Contents.{IsSmall, content_after_op, changes_file, content_after};
@@ -29,7 +30,7 @@ impl Model for FileContent {
 }
 
 impl FileContent {
-    /// A content of these bytes, none of them hidden.
+    /// The content of a file that has exactly these bytes; none is hidden.
     pub fn of(bytes: Vec<u8>) -> FileContent
         ensures { result ≡ record { size = length bytes.items; bytes = bytes.items } }
     {
@@ -39,7 +40,8 @@ impl FileContent {
         }
     }
 
-    /// Changes the size. A smaller size drops every byte past it, hidden ones too.
+    /// Changes the size. A smaller size drops every byte past it, hidden ones too; a larger one
+    /// shows the hidden bytes before it.
     fn resize(&mut self, size: u64)
         ensures { self.new ≡ content_with_size size self.old }
     {
@@ -49,7 +51,8 @@ impl FileContent {
         self.size = size;
     }
 
-    /// Places bytes at an offset and leaves the size; bytes between that nothing wrote are zero.
+    /// Writes the piece at the offset `at`, and leaves the size. If the bytes end before `at`,
+    /// those between are zero.
     fn overwrite(&mut self, at: usize, piece: &[u8]) -> Result<(), AllocError>
         requires { at + length piece.now ≤ FILE_BYTES }
         ensures { OnOk result (self.new ≡ overwritten at piece.now self.old) }
@@ -78,7 +81,8 @@ impl FileContent {
         Ok(())
     }
 
-    /// Applies those members of a set that change the file of this number, in their order.
+    /// Applies those members of a set that change the file of this number, in their order. The
+    /// members are the micro-operations of `ops` at these places.
     pub fn apply_members(
         &mut self,
         file: u32,
@@ -98,7 +102,7 @@ impl FileContent {
         Ok(())
     }
 
-    /// The bytes up to the size. Those that nothing wrote are zero.
+    /// The bytes that show: those up to the size. Those that nothing wrote are zero.
     pub fn into_visible(self) -> Result<Vec<u8>, AllocError>
         ensures { IfOk result (λ bytes. bytes.items ≡ visible self) }
     {
@@ -109,7 +113,7 @@ impl FileContent {
     }
 }
 
-/// Appends zeros up to the end, if the bytes are fewer.
+/// Appends zeros until there are `end` bytes; nothing if there are as many already.
 fn pad(bytes: &mut Vec<u8>, end: usize) -> Result<(), AllocError>
     ensures { OnOk result (bytes.new.items ≡ padded end bytes.old.items) }
 {
@@ -119,7 +123,7 @@ fn pad(bytes: &mut Vec<u8>, end: usize) -> Result<(), AllocError>
     Ok(())
 }
 
-/// Overwrites the bytes from an offset on by the piece.
+/// Overwrites the bytes from the offset `at` on by the piece, which must not reach past their end.
 pub fn put_at(bytes: &mut [u8], at: usize, piece: &[u8])
     requires { at + length piece.now ≤ length bytes.old }
     ensures { bytes.new ≡ bytes_over at piece.now bytes.old }

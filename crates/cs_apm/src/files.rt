@@ -1,4 +1,4 @@
-//! The files of a crash state.
+//! The bytes of the files of a crash state. Their owners are in `owners`.
 ghost use Rattle.std.specs.Prelude.{◌≡◌, ◌<◌, length, IfOk, slice_index_or};
 ghost use Rattle.std.specs.List.{All};
 ghost use Rattle.cs_apm.specs.Atlases.{AreChanged, AreStarts, content_before, files_left};
@@ -11,7 +11,7 @@ use cs_trace::Trace;
 use cs_tree_model::Record;
 use std::alloc::{AllocError, Global};
 
-/// A copy of the record's bytes; none if it is a directory's.
+/// A copy of the bytes of the record's file; empty if it is a directory.
 fn bytes_of(alloc: Global, file: &Record) -> Result<Vec<u8>, AllocError>
     ensures { IfOk result (λ bytes. bytes.items ≡ bytes_of file.now) }
 {
@@ -21,9 +21,9 @@ fn bytes_of(alloc: Global, file: &Record) -> Result<Vec<u8>, AllocError>
     }
 }
 
-/// The content of the file before any operation: that at the start, or no byte if an operation
-/// makes the file. `_ops` is for the contract only: it speaks of all files, those that `ops` makes
-/// too.
+/// The content of the file before any micro-operation: that at the start, or no byte if a
+/// micro-operation makes the file. `starts` has the place of the record of each file at the start.
+/// `_ops` is for the contract only, which speaks of the files that they make, too.
 fn file_before(
     alloc: Global,
     trace: &Trace,
@@ -42,7 +42,8 @@ fn file_before(
     Ok(FileContent::of(bytes))
 }
 
-/// The content of the file after a set's members. A file that no operation changes is only copied.
+/// The content of the file after the members of a set, which are at these places. `changed` says
+/// for each file whether any micro-operation changes it; one that none changes is only copied.
 fn file_left(
     alloc: Global,
     trace: &Trace,
@@ -67,7 +68,8 @@ fn file_left(
     Ok(content)
 }
 
-/// The bytes of the file after a set's members.
+/// The bytes that the file shows after the members of a set, which are at these places. The other
+/// arguments are as in `file_left`.
 pub fn bytes_left(
     alloc: Global,
     trace: &Trace,

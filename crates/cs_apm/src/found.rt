@@ -19,7 +19,8 @@ pub struct Makers {
     second: Option<usize>,
 }
 
-/// The place of the latest create, before j, of the path's parent directory.
+/// The place of the last micro-operation before place `j` that creates the path's parent directory.
+/// None if none does.
 fn latest_create(ops: &[MicroOp], j: usize, path: &Path) -> Option<usize>
     requires { j ≤ length ops.now }
     ensures { (i : ℕ) → i < j
@@ -35,7 +36,8 @@ fn latest_create(ops: &[MicroOp], j: usize, path: &Path) -> Option<usize>
 }
 
 impl Makers {
-    /// The latest creates for the paths that micro-operation j names.
+    /// The latest creates, before micro-operation `j`, of the parent directories of the paths that
+    /// it names; none if it names no path.
     pub fn of(ops: &[MicroOp], j: usize) -> Makers
         requires { j < length ops.now }
         ensures { (i : ℕ) → i < j → is_maker result i ≡ rules.makes_parent ops.now i j }
@@ -56,7 +58,7 @@ impl Makers {
         Makers { first, second }
     }
 
-    /// Whether the micro-operation at this place is one of them.
+    /// Whether the micro-operation at this place is one of these creates.
     pub fn has(&self, place: usize) -> bool
         ensures { result ≡ is_maker self.now place }
     {
@@ -64,7 +66,7 @@ impl Makers {
     }
 }
 
-/// Whether a place was found, and is this one.
+/// Whether a place was found, and it is this one.
 fn is_at(found: Option<usize>, place: usize) -> bool
     ensures { result ≡ is_at found place }
 {
@@ -74,8 +76,8 @@ fn is_at(found: Option<usize>, place: usize) -> bool
     }
 }
 
-/// How many micro-operations come before the first sync point that is after i and covers `op`,
-/// which is at place i. None if no sync point does.
+/// How many micro-operations come before the first sync point that is after `op`, which is at place
+/// `i`, and covers it. None if no sync point does.
 fn first_sync(syncs: &[SyncPoint], i: usize, op: &MicroOp) -> Option<usize>
     ensures { (j : ℕ) → is_by result j ≡ rules.is_synced syncs.now i j op.now }
 {
@@ -88,7 +90,7 @@ fn first_sync(syncs: &[SyncPoint], i: usize, op: &MicroOp) -> Option<usize>
     first
 }
 
-/// Whether the place is before the one that was found, or none was.
+/// Whether the place is before the one that was found; true if none was.
 fn is_before(place: usize, found: Option<usize>) -> bool
     ensures { result ≡ is_before place found }
 {
@@ -98,7 +100,7 @@ fn is_before(place: usize, found: Option<usize>) -> bool
     }
 }
 
-/// Whether a place was found, and is at j or before it.
+/// Whether a place was found, and it isn't after `j`.
 pub fn is_by(found: Option<usize>, j: usize) -> bool
     ensures { result ≡ is_by found j }
 {

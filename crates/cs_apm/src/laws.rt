@@ -31,8 +31,8 @@ pub fn rules_are_sentences(micros: &Micros)
         ↔ IsAllowed (needs_of micros.now) (length micros.now.ops) places }
 {}
 
-/// In the first two versions, a trace without a link has the order of the eight rules that ask for
-/// the profile only.
+/// In the first two versions, a trace without a link has the order of the eight rules that ask
+/// nothing of the version but its profile.
 pub fn earlier_versions_keep_their_rules(micros: &Micros)
     requires version { says_first micros.now.version ≡ false }
     requires links { All IsNoLink micros.now.ops }
@@ -41,8 +41,8 @@ pub fn earlier_versions_keep_their_rules(micros: &Micros)
         ≡ common_needs micros.now.ops micros.now.syncs (profile_of micros.now.version) i j }
 {}
 
-/// A micro-operation needs another by any chain exactly if there is a chain from the one to the
-/// other, of which each needs the one before it.
+/// A micro-operation `j` needs another, `i`, by any chain exactly if there is a chain from `i` to
+/// `j`, of which each needs the one before it.
 pub fn chains_are_chains(order: &Order)
     ensures { (i j : ℕ) → (by_chain (needs_in order.now) i j ≡ true)
         ↔ ((n : ℕ) × Chain (needs_in order.now) n i j) }

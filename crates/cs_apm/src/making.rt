@@ -1,4 +1,4 @@
-//! The store of a state, made once from what is in its slots.
+//! A plain store of a state, made from what is in the slots of its paths.
 ghost use Rattle.std.specs.Prelude.{◌≡◌, ◌<◌, ◌≤◌, length, map, IfOk};
 ghost use Rattle.std.specs.List.{All};
 ghost use Rattle.std.specs.Option.{option_map};
@@ -47,7 +47,8 @@ fn record_with(
     })
 }
 
-/// The record of what is in a slot. None if the slot is empty.
+/// The record, with this number, of what is in a slot after the members of a set, which are at
+/// these places. None if the slot is empty.
 fn record_at(
     alloc: Global,
     number: u64,
@@ -92,7 +93,8 @@ fn record_at(
     }
 }
 
-/// The records of what is in the slots, in the order of paths, with numbers from 0.
+/// The records of what is in the slots, one for each path, after the members of a set, which are at
+/// these places. They are in the order of paths and numbered from 0; an empty slot has none.
 fn records(
     alloc: Global,
     trace: &Trace,
@@ -125,7 +127,9 @@ fn records(
     Ok(records)
 }
 
-/// The store of what is in the slots.
+/// The store of what is in the slots, one for each path, after the members of a set, which are at
+/// these places. The members' steps are made in the slots already; files get their bytes and owners
+/// here.
 pub fn store_of(
     alloc: Global,
     trace: &Trace,

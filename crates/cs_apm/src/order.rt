@@ -16,7 +16,9 @@ use std::marker::Model;
 /// Contracts see a table: for each place, which of the places before it it needs.
 #[derive(Debug, Drop)]
 pub struct Order {
+    /// For each micro-operation, what it needs.
     rows: Vec<Row>,
+    /// For each micro-operation, what it needs by any chain.
     reach: Vec<Row>,
 }
 
@@ -43,7 +45,7 @@ impl Order {
         Ok(Order { rows, reach })
     }
 
-    /// How many micro-operations there are. What one of them needs is before it.
+    /// How many micro-operations the trace has. What one of them needs is before it.
     pub fn len(&self) -> usize
         ensures value { result ≡ length self.now }
         ensures few { result ≤ MICRO_OPERATIONS }
@@ -52,7 +54,7 @@ impl Order {
         self.rows.len()
     }
 
-    /// Whether j needs i.
+    /// Whether the micro-operation at place `j` needs the one at place `i`.
     pub fn needs(&self, i: usize, j: usize) -> bool
         requires first { i < length self.now }
         requires second { j < length self.now }
@@ -61,7 +63,8 @@ impl Order {
         self.rows[j].has(i)
     }
 
-    /// What j needs, as a bit for each place: 64 places to a word, from the lowest bit on.
+    /// What the micro-operation at place `j` needs, as a bit for each place: 64 places to a word,
+    /// from the lowest bit on.
     pub fn row(&self, j: usize) -> &[u64; 16]
         requires { j < length self.now }
         ensures { (i : ℕ) → i < MICRO_OPERATIONS → has_bit result.now i ≡ needs_in self.now i j }
@@ -69,7 +72,8 @@ impl Order {
         self.rows[j].words()
     }
 
-    /// Whether j needs i by any chain: j needs i, or something that needs i by any chain.
+    /// Whether the micro-operation at place `j` needs the one at place `i` by any chain: directly,
+    /// or through others, each of which needs the one before it.
     pub fn needs_by_chain(&self, i: usize, j: usize) -> bool
         requires first { i < length self.now }
         requires second { j < length self.now }
@@ -78,7 +82,7 @@ impl Order {
         self.reach[j].has(i)
     }
 
-    /// Whether everything that j needs is among these members.
+    /// Whether everything that the micro-operation at place `j` needs is among these members.
     fn needs_only(&self, j: usize, members: &Row) -> bool
         requires { j < length self.now }
         ensures backward { IsBackward (needs_in self.now) }

@@ -1,4 +1,4 @@
-//! Owner, group and permissions of the files of a crash state.
+//! Owner, group and permissions of the files of a crash state. A file's `owner` is all three here.
 ghost use Rattle.std.specs.Prelude.{◌≡◌, ◌<◌, length, slice_index_or};
 ghost use Rattle.std.specs.List.{All};
 ghost use Rattle.cs_apm.specs.Owners.{owner_after, owner_left};
@@ -7,8 +7,8 @@ ghost use Rattle.cs_apm.specs.States.{no_rights};
 use cs_micro::MicroOp;
 use cs_trace::{Rights, Target};
 
-/// Owner, group and permissions of the file after the operation: those that it sets, if it sets
-/// this file's, else the old ones.
+/// Owner, group and permissions of the file after the micro-operation: those that it sets, if it
+/// sets this file's; if not, `owner`, those before it.
 pub fn owner_after<'a>(file: u32, owner: &'a Rights, op: &'a MicroOp) -> &'a Rights
     ensures { result.now ≡ owner_after file owner.now op.now }
 {
@@ -21,8 +21,8 @@ pub fn owner_after<'a>(file: u32, owner: &'a Rights, op: &'a MicroOp) -> &'a Rig
     }
 }
 
-/// Owner, group and permissions of the file after a set's members. `owners` has those of each file
-/// as it is made, by its number.
+/// Owner, group and permissions of the file after the members of a set, which are at these places.
+/// `owners` has those of each file as it is made, by its number.
 pub fn owner_left<'a>(
     owners: &'a [Rights],
     ops: &'a [MicroOp],

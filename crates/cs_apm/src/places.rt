@@ -14,7 +14,8 @@ use cs_trace::Target;
 use cs_tree_model::Record;
 use std::alloc::{AllocError, Global};
 
-/// Inserts the path in its order, unless it is there already.
+/// Inserts a copy of the path in its order, unless the path is there already. An error leaves the
+/// paths that were there.
 pub fn add_path(alloc: Global, paths: &mut Vec<Path>, path: &Path) -> Result<(), AllocError>
     requires { AreAscending paths.old.items }
     ensures ascending { AreAscending paths.new.items }
@@ -31,7 +32,7 @@ pub fn add_path(alloc: Global, paths: &mut Vec<Path>, path: &Path) -> Result<(),
     Ok(())
 }
 
-/// Inserts the paths of the records.
+/// Inserts the paths of the records, each in its order.
 fn add_starts(
     alloc: Global,
     paths: &mut Vec<Path>,
@@ -52,7 +53,8 @@ fn add_starts(
     Ok(())
 }
 
-/// Inserts the paths that a micro-operation names; there are at most two.
+/// Inserts the paths that a micro-operation names: two of a move, one of another change of an entry
+/// or of a directory's rights, and else none. An error leaves the paths that were there.
 fn add_named(alloc: Global, paths: &mut Vec<Path>, op: &MicroOp) -> Result<(), AllocError>
     requires { AreAscending paths.old.items }
     ensures ascending { OnOk result (AreAscending paths.new.items) }
@@ -102,7 +104,7 @@ pub fn paths_of(
     Ok(paths)
 }
 
-/// The place of the path, which must be among the paths.
+/// The place, from 0, of the path among these paths, which must have it.
 pub fn place_of(paths: &[Path], path: &Path) -> usize
     requires ascending { AreAscending paths.now }
     requires there { Contains paths.now path.now }

@@ -1,4 +1,6 @@
-//! Owner, group and permissions of directories and files, as a table that grows.
+//! Rights (owner, group and permissions) as they are set in the course of a trace, in two tables:
+//! those of directories, which slots refer to by place, and those of each file as it is made. An
+//! error is that memory ran out; then the tables are dropped.
 ghost use Rattle.std.specs.Prelude.{◌≡◌, [], ◌∷◌, ◌+◌, ◌<◌, ◌≤◌, ◌++◌, ◌^◌, Some, length, map};
 ghost use Rattle.std.specs.Prelude.{IfOk, OnOk, slice_index_or};
 ghost use Rattle.std.specs.List.{All};
@@ -13,7 +15,7 @@ use cs_trace::{Node, Rights};
 use cs_tree_model::Record;
 use std::alloc::{AllocError, Global};
 
-/// Owner, group and permissions of a record at the start.
+/// The rights of a record at the start, copied.
 fn rights_of(start: &Record) -> Result<Rights, AllocError>
     ensures { IfOk result (λ rights. rights ≡ rights_of start.now) }
 {
@@ -48,7 +50,8 @@ pub fn push_copy(table: &mut Vec<Rights>, rights: &Rights) -> Result<u32, AllocE
     push_rights(table, rights.try_clone()?)
 }
 
-/// The slot of a record at the start. A directory's rights are appended to the table.
+/// The slot of a record at the start. A directory's rights are appended to the table; a file's are
+/// in the table of `owners_of`.
 pub fn start_slot(table: &mut Vec<Rights>, node: Node, start: &Record) -> Result<Slot, AllocError>
     requires { length table.old.items < 2 ^ 32 }
     ensures entry { IfOk result (λ slot. entry_of table.new.items slot
@@ -64,7 +67,7 @@ pub fn start_slot(table: &mut Vec<Rights>, node: Node, start: &Record) -> Result
 }
 
 /// The slot of an entry that a micro-operation makes. A directory's rights are appended to the
-/// table.
+/// table; a file's are in the table of `owners_of`.
 pub fn made_slot(table: &mut Vec<Rights>, node: Node, rights: &Rights) -> Result<Slot, AllocError>
     requires { length table.old.items < 2 ^ 32 }
     ensures entry { IfOk result (λ slot. entry_of table.new.items slot
@@ -79,7 +82,7 @@ pub fn made_slot(table: &mut Vec<Rights>, node: Node, rights: &Rights) -> Result
     }
 }
 
-/// Appends the rights of the records at these places.
+/// Appends the rights of the records at these places, in their order.
 fn push_starts(
     table: &mut Vec<Rights>,
     records: &[(Path, Record)],
@@ -96,7 +99,7 @@ fn push_starts(
     Ok(())
 }
 
-/// Appends the rights of the file that an operation makes, if it makes one.
+/// Appends the rights of the file that the micro-operation makes; nothing if it makes none.
 fn push_made(table: &mut Vec<Rights>, op: &MicroOp) -> Result<(), AllocError>
     ensures { OnOk result (table.new.items ≡ table.old.items ++ owners_made (op.now ∷ [])) }
 {
@@ -111,8 +114,8 @@ fn push_made(table: &mut Vec<Rights>, op: &MicroOp) -> Result<(), AllocError>
     Ok(())
 }
 
-/// Owner, group and permissions of each file as it is made, by its number: first of the files at
-/// the start, whose records are at these places, then of those that operations make.
+/// The rights of each file as it is made, by its number: first of the files at the start, whose
+/// records are at these places, and then of those that micro-operations make.
 pub fn owners_of(
     alloc: Global,
     records: &[(Path, Record)],

@@ -4,7 +4,7 @@ ghost use Rattle.cs_apm.specs.Bits.{has_place, has_bit};
 
 use cs_names::limits::MICRO_OPERATIONS;
 
-/// Words of a row.
+/// How many words a row has: a bit for each of MICRO_OPERATIONS places.
 const WORDS: usize = 16;
 
 /// A set of places below MICRO_OPERATIONS, as a bit for each.
@@ -14,7 +14,7 @@ pub struct Row {
 }
 
 impl Row {
-    /// The row that has no place.
+    /// The row without places.
     pub fn empty() -> Row
         ensures { (k : ℕ) → has_place result k ≡ false }
     {
@@ -36,7 +36,7 @@ impl Row {
         (self.words[place / 64] >> (place % 64)) & 1 == 1
     }
 
-    /// Adds the place.
+    /// Adds the place; one that the row has already changes nothing.
     pub fn set(&mut self, place: usize)
         requires { place < MICRO_OPERATIONS }
         ensures { (k : ℕ) → has_place self.new k ≡ (k == place || has_place self.old k) }

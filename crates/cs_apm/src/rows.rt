@@ -14,8 +14,8 @@ use cs_names::limits::MICRO_OPERATIONS;
 use cs_trace::Version;
 use std::alloc::{AllocError, Global};
 
-/// Whether a sync between i and j covers i. `_ops` and `_syncs` are for the contract only: `found`
-/// was computed from them.
+/// Whether a sync point after micro-operation `i` and before `j` covers `i`. `_ops` and
+/// `_syncs` are for the contract only: `found` was computed from them.
 fn is_synced(
     _ops: &[MicroOp],
     _syncs: &[SyncPoint],
@@ -30,8 +30,8 @@ fn is_synced(
     is_by(found[i], j)
 }
 
-/// Whether j needs i. `found` has the first sync that covers each micro-operation, and `makers` the
-/// latest creates that j needs.
+/// Whether micro-operation `j` needs `i`, which is before it. `found` has the first sync point that
+/// covers each micro-operation, and `makers` the latest creates that `j` needs.
 #[tactic(auto, unfolding(crate::specs::Rules::needs))]
 fn needs(
     ops: &[MicroOp],
@@ -53,7 +53,8 @@ fn needs(
         || is_synced(ops, syncs, found, i, j)
 }
 
-/// What micro-operation j needs. `found` has the first sync that covers each micro-operation.
+/// What micro-operation `j` needs. `found` has the first sync point that covers each
+/// micro-operation.
 fn row_of(
     ops: &[MicroOp],
     syncs: &[SyncPoint],
@@ -76,7 +77,7 @@ fn row_of(
     row
 }
 
-/// For each micro-operation a row of what it needs.
+/// For each micro-operation, a row of what it needs.
 pub fn rows_of(
     alloc: Global,
     ops: &[MicroOp],
@@ -96,7 +97,8 @@ pub fn rows_of(
     Ok(rows)
 }
 
-/// What k needs by any chain: what it needs, and what each of these needs by any chain.
+/// What micro-operation `k` needs by any chain: what it needs, and what each of these needs by any
+/// chain. `reach` has the rows of those before it.
 fn reach_row(rows: &[Row], reach: &[Row], k: usize) -> Row
     requires inside { k < length rows.now }
     requires few { length rows.now ≤ MICRO_OPERATIONS }
@@ -114,7 +116,7 @@ fn reach_row(rows: &[Row], reach: &[Row], k: usize) -> Row
     row
 }
 
-/// For each micro-operation a row of what it needs by any chain.
+/// For each micro-operation, a row of what it needs by any chain. `rows` has what each needs.
 pub fn reach_of(alloc: Global, rows: &[Row]) -> Result<Vec<Row>, AllocError>
     requires { length rows.now ≤ MICRO_OPERATIONS }
     ensures long { IfOk result (λ reach. length reach.items ≡ length rows.now) }

@@ -1,4 +1,6 @@
-//! The rules by which one micro-operation needs another, as tests of the two.
+//! The rules by which one micro-operation needs another, as tests of the two: `a` is the first in
+//! the trace, and `b` the second, which may need it. The searches of the other rules are in
+//! `found`.
 ghost use Rattle.std.specs.Prelude.{◌≡◌, ◌<◌, length};
 ghost use Rattle.std.specs.List.{list_any};
 ghost use Rattle.cs_names.specs.Paths.{path_eq};
@@ -16,7 +18,8 @@ pub fn is_parent(directory: &Path, path: &Path) -> bool
     directory.names() == path.names().parent()
 }
 
-/// Whether the operation makes, deletes or links an entry at the path, or moves one from or to it.
+/// Whether the micro-operation makes, deletes or links an entry at the path, or moves one from or
+/// to it.
 fn touches(op: &MicroOp, path: &Path) -> bool
     ensures { result ≡ rules.touches op.now path.now }
 {
@@ -29,7 +32,7 @@ fn touches(op: &MicroOp, path: &Path) -> bool
     }
 }
 
-/// Whether the operation sets owner, group and permissions of the directory.
+/// Whether the micro-operation sets owner, group and permissions of the directory.
 fn sets_directory(op: &MicroOp, directory: &Path) -> bool
     ensures { result ≡ rules.sets_directory op.now directory.now }
 {
@@ -42,8 +45,8 @@ fn sets_directory(op: &MicroOp, directory: &Path) -> bool
     }
 }
 
-/// Whether the operation touches the path, or sets owner, group and permissions of the directory
-/// there.
+/// Whether the micro-operation touches the path, or sets owner, group and permissions of the
+/// directory there.
 fn names(op: &MicroOp, path: &Path) -> bool
     ensures { result ≡ rules.names op.now path.now }
 {
@@ -53,7 +56,7 @@ fn names(op: &MicroOp, path: &Path) -> bool
     }
 }
 
-/// Whether the operation touches an entry of the directory.
+/// Whether the micro-operation touches an entry in the directory.
 fn touches_entry_of(op: &MicroOp, directory: &Path) -> bool
     ensures { result ≡ rules.touches_entry_of op.now directory.now }
 {
@@ -89,7 +92,7 @@ fn same_block_or_size(a: &MicroOp, b: &MicroOp) -> bool
     }
 }
 
-/// Whether both name the same path.
+/// Whether there is a path that both name.
 fn shares_path(a: &MicroOp, b: &MicroOp) -> bool
     ensures { result ≡ rules.shares_path a.now b.now }
 {
@@ -151,7 +154,7 @@ fn sets_same_file(a: &MicroOp, b: &MicroOp) -> bool
     }
 }
 
-/// Whether the operation makes, deletes, moves or links an entry.
+/// Whether the micro-operation makes, deletes, moves or links an entry.
 fn is_entry_operation(op: &MicroOp) -> bool
     ensures { result ≡ rules.is_entry_operation op.now }
 {
@@ -164,7 +167,8 @@ fn is_entry_operation(op: &MicroOp) -> bool
     }
 }
 
-/// Whether both are entry operations, and the file system keeps these in order.
+/// Whether both make, delete, move or link entries, and the file system keeps such
+/// micro-operations in order.
 fn keeps_order(profile: Profile, a: &MicroOp, b: &MicroOp) -> bool
     ensures { result ≡ rules.keeps_order profile a.now b.now }
 {
@@ -174,8 +178,8 @@ fn keeps_order(profile: Profile, a: &MicroOp, b: &MicroOp) -> bool
     }
 }
 
-/// Whether the operation is an acknowledged line, in a version in which such a line is on the disk
-/// before all that follows it.
+/// Whether the micro-operation is an acknowledged line, in a version in which such a line is on the
+/// disk before all that follows it.
 fn says_before(version: Version, a: &MicroOp) -> bool
     ensures { result ≡ rules.says_before version a.now }
 {
@@ -201,8 +205,8 @@ fn creates_linked(a: &MicroOp, b: &MicroOp) -> bool
     }
 }
 
-/// Whether the second needs the first, which is before it, by a rule of all versions that looks at
-/// these two only.
+/// Whether the second needs the first by one of those rules of all versions that look at these two
+/// only.
 fn common_pair_needs(profile: Profile, a: &MicroOp, b: &MicroOp) -> bool
     ensures { result ≡ rules.common_pair_needs profile a.now b.now }
 {
@@ -214,22 +218,24 @@ fn common_pair_needs(profile: Profile, a: &MicroOp, b: &MicroOp) -> bool
         || keeps_order(profile, a, b)
 }
 
-/// Whether the second needs the first, which is before it, by a rule that looks at these two only.
+/// Whether the second needs the first by one of the rules that look at these two only. The version
+/// says which rules there are.
 pub fn pair_needs(version: Version, a: &MicroOp, b: &MicroOp) -> bool
     ensures { result ≡ rules.pair_needs version a.now b.now }
 {
     common_pair_needs(version.profile(), a, b) || says_before(version, a) || creates_linked(a, b)
 }
 
-/// Whether a file's bytes from `begin` to `end` are all in its range of `count` bytes from `offset`
-/// on. The range may end above 2^64.
+/// Whether a file's bytes from `begin` up to `end` are all in the range of `count` bytes from
+/// `offset` on. The range may end above 2^64.
 fn lies_within(offset: u64, count: u64, begin: u128, end: u128) -> bool
     ensures { result ≡ rules.lies_within offset count begin end }
 {
     u128::from(offset) <= begin && end <= u128::from(offset) + u128::from(count)
 }
 
-/// Whether a sync of a range of the file waits for the operation.
+/// Whether a sync of `count` bytes of the file from `offset` on waits for the micro-operation: for
+/// a write only if all its bytes are in this range, and for each change of the file's size.
 fn is_in_range(file: u32, offset: u64, count: u64, op: &MicroOp) -> bool
     ensures { result ≡ rules.is_covered (Covers.Range file offset count) op.now }
 {
@@ -250,7 +256,7 @@ fn is_in_range(file: u32, offset: u64, count: u64, op: &MicroOp) -> bool
     }
 }
 
-/// Whether a sync that covers this waits for the operation.
+/// Whether a sync that covers this waits for the micro-operation.
 pub fn is_covered(covers: &Covers, op: &MicroOp) -> bool
     ensures { result ≡ rules.is_covered covers.now op.now }
 {
@@ -276,7 +282,7 @@ pub fn is_covered(covers: &Covers, op: &MicroOp) -> bool
     }
 }
 
-/// Whether the operation makes the directory that has the path.
+/// Whether the micro-operation makes the entry of the path's parent directory.
 pub fn creates_parent(op: &MicroOp, path: &Path) -> bool
     ensures { result ≡ rules.creates op.now (parent_path path.now) }
 {
@@ -286,7 +292,7 @@ pub fn creates_parent(op: &MicroOp, path: &Path) -> bool
     }
 }
 
-/// The operation at a place.
+/// The micro-operation at a place.
 pub fn op_at(ops: &[MicroOp], place: usize) -> &MicroOp
     requires { place < length ops.now }
     ensures { result.now ≡ rules.op_at ops.now place }

@@ -26,7 +26,8 @@ pub enum Step {
     Other,
 }
 
-/// Makes one step.
+/// Makes one step. A move out of an empty slot, and new rights for a slot without a directory,
+/// change nothing.
 fn make_step(slots: &mut [Slot], step: Step)
     requires { FitsIn (length slots.old) step }
     ensures { slots.new ≡ slots_after slots.old step }
@@ -49,7 +50,8 @@ fn make_step(slots: &mut [Slot], step: Step)
     }
 }
 
-/// Makes the steps of a set's members in their order.
+/// Makes the steps of the members of a set, in their order. `steps` has that of each
+/// micro-operation, and the members are at these places.
 pub fn make_steps(slots: &mut [Slot], steps: &[Step], places: &[u32])
     requires fit { All (FitsIn (length slots.old)) steps.now }
     requires inside { All (λ place. place < length steps.now) places.now }

@@ -12,7 +12,8 @@ use cs_trace::{Node, Rights};
 use cs_tree_model::Record;
 use std::alloc::{AllocError, Global};
 
-/// The slot of each path at the start. The rights of the directories are appended to the table.
+/// The slot of each path at the start, empty if nothing is there. The rights of the directories are
+/// appended to the table.
 pub fn start_slots(
     alloc: Global,
     records: &[(Path, Record)],
@@ -40,7 +41,8 @@ pub fn start_slots(
     Ok(slots)
 }
 
-/// Notes the place as that of the node's record, if the node is a file with a number in range.
+/// Notes the place as that of the node's record, if the node is a file with a number in range. If
+/// not, nothing changes.
 fn note_start(starts: &mut [u32], node: Node, place: u32)
     ensures { starts.new ≡ with_file_noted starts.old node place }
 {
@@ -51,7 +53,8 @@ fn note_start(starts: &mut [u32], node: Node, place: u32)
     }
 }
 
-/// The places of the records of the first `count` files, by the files' numbers.
+/// The places of the records of the first `count` files, by the files' numbers. Of a file with
+/// several records, which differ in their paths only, it is one of these.
 pub fn starts_of(alloc: Global, nodes: &[Node], count: usize) -> Result<Vec<u32>, AllocError>
     requires { length nodes.now ≤ 2 ^ 32 }
     ensures long { IfOk result (λ starts. length starts.items ≡ count) }

@@ -1,4 +1,4 @@
-//! The state of a set, built from the tables of its trace.
+//! The state of a set as a plain store, built from the tables of its trace.
 ghost use Rattle.std.specs.Prelude.{◌≡◌, ◌<◌, length, map, fold, IfOk};
 ghost use Rattle.std.specs.List.{All};
 ghost use Rattle.cs_tree_model.specs.Tree.{IsTree};
@@ -19,7 +19,7 @@ use cs_trace::Trace;
 use cs_tree::PlainTree;
 use std::alloc::{AllocError, Global};
 
-/// The slots after the steps of a set.
+/// What is in each slot after the steps of the members of a set, which are at these places.
 pub fn slots_of_set(alloc: Global, tables: &Tables, places: &[u32]) -> Result<Vec<Slot>, AllocError>
     requires fit { All (FitsIn (length tables.now.slots.items)) tables.now.steps.items }
     requires inside { All (λ place. place < length tables.now.steps.items) places.now }
@@ -32,7 +32,7 @@ pub fn slots_of_set(alloc: Global, tables: &Tables, places: &[u32]) -> Result<Ve
     Ok(left)
 }
 
-/// The store of the state of an allowed set: the members' steps are made in the slots, and then a
+/// The store of the state of an allowed set. The members' steps are made in the slots, and then a
 /// tree of what the slots have.
 pub fn state_of(
     alloc: Global,

@@ -12,8 +12,8 @@ use cs_names::Path;
 use cs_trace::{Rights, Target};
 use std::alloc::{AllocError, Global};
 
-/// The step that the micro-operation makes. The rights of a directory that it makes or sets are
-/// appended to the table.
+/// The step of the micro-operation: what it does to the slots. The rights of a directory that it
+/// makes or sets are appended to the table.
 fn step_of(paths: &[Path], table: &mut Vec<Rights>, op: &MicroOp) -> Result<Step, AllocError>
     requires few { length table.old.items < 2 ^ 32 }
     requires short { length paths.now ≤ 2 ^ 32 }
@@ -50,7 +50,8 @@ fn step_of(paths: &[Path], table: &mut Vec<Rights>, op: &MicroOp) -> Result<Step
     }
 }
 
-/// What each micro-operation does, in their order.
+/// The step of each micro-operation, in their order. The rights of the directories that they make
+/// or set are appended to the table.
 pub fn steps_of(
     alloc: Global,
     paths: &[Path],

@@ -38,7 +38,7 @@ pub struct Tables {
 impl Tables {
     ghost use Rattle.cs_apm.specs.Atlases.{IsAtlas, atlas_in};
 
-    /// The tables of a trace and its micro-operations.
+    /// Computes the tables of a trace. The micro-operations must be those that `break_up` returns.
     pub fn of(alloc: Global, trace: &Trace, micros: &Micros) -> Result<Tables, AllocError>
         requires broken { micros.now ≡ micros_in trace.now }
         requires legal { AreLegal (block_of_version trace.now.version) (start_paths trace.now)

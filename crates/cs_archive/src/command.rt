@@ -9,8 +9,9 @@ use std::alloc::Global;
 use std::io::Write;
 use std::sync::Arc;
 
-/// Writes the archive, and flushes it.
-fn tar<W: Write>(
+/// Makes the scene of the inputs, writes the archive of its states, and flushes it. After a fault a
+/// part of the archive may be written.
+fn write_and_flush<W: Write>(
     alloc: Global,
     inputs: &Inputs,
     states: &States,
@@ -29,7 +30,7 @@ fn tar<W: Write>(
     }
 }
 
-/// The command `tar`: writes the trees of the states that are asked for, as one archive. Its
+/// The command `tar`: writes the trees of these states, or their changes, as one archive. Its
 /// status: 0, or 1 if a fault ended it, which is reported by one line on `err`; what was written
 /// before stays. If a state is past the plan's end, nothing is written.
 pub fn tar_of<W: Write, E: Write>(
@@ -42,7 +43,7 @@ pub fn tar_of<W: Write, E: Write>(
     ensures status { result ≤ 1 }
     ensures archive { result ≡ 0 → WritesArchive states.now (W.contents out.old) (W.contents out.new) }
 {
-    match tar(alloc, inputs, states, out) {
+    match write_and_flush(alloc, inputs, states, out) {
         Ok(()) => 0,
         Err(fault) => {
             let _written = out.flush();

@@ -1,4 +1,4 @@
-//! Why not all of an archive is written.
+//! Why not all of an archive is written, and why the command fails.
 ghost use Rattle.std.specs.Prelude.{◌≡◌};
 ghost use Rattle.cs_archive.specs.Faults.{of_writing};
 
@@ -9,7 +9,7 @@ use thiserror::Error;
 /// Why not all of an archive is written.
 #[derive(Clone, Copy, Debug, PartialEq, Eq, Error)]
 pub enum ArchiveFault {
-    /// A state that is asked for is past the plan's end.
+    /// One of the states is past the plan's end.
     #[error("no such state")]
     NoSuchState,
     #[error("out of memory")]
@@ -22,6 +22,7 @@ pub enum ArchiveFault {
 impl From<TarFault> for ArchiveFault {
     ghost from_gives = { λ given fault. fault ≡ of_writing given };
 
+    /// The same fault in this crate's words.
     fn from(fault: TarFault) -> ArchiveFault {
         match fault {
             TarFault::Memory => ArchiveFault::Memory,

@@ -13,8 +13,9 @@ use std::alloc::Global;
 use std::marker::Model;
 use std::sync::Wait;
 
-/// A connection that has ended: how its stream was served, and what it kept. Contracts see both.
-/// It was served from its beginning to its hang-up, or there was no memory for its thread.
+/// A connection that has ended: how its stream was served, and what it kept. Contracts see both. It
+/// was served from its beginning to its hang-up, or not at all, because there was no memory for its
+/// thread.
 #[derive(Drop)]
 pub struct Connection<S: ServerBrand> {
     result: Result<(), ServeFault>,
@@ -33,17 +34,19 @@ impl<S: ServerBrand> Model for Connection<S> {
 }
 
 impl<S: ServerBrand> Connection<S> {
-    /// The connection of a stream for whose thread there was no memory: nothing was read.
+    /// A connection that was not served, because there was no memory for its thread: the result is
+    /// Memory, and it kept nothing.
     pub fn unserved(alloc: Global) -> Connection<S>
         ensures { WasRefused result }
     {
         Connection {
             result: Err(ServeFault::Memory),
-            kept: ConnectionRuns::none(alloc),
+            kept: ConnectionRuns::empty(alloc),
         }
     }
 
-    /// How its stream was served.
+    /// How its stream was served: `Ok` if the stream ended between two messages, else why it
+    /// didn't.
     pub fn result(&self) -> Result<(), ServeFault>
         ensures value { result ≡ self.now.result }
         ensures ended { HasEnded S.serves self.now }
@@ -51,14 +54,14 @@ impl<S: ServerBrand> Connection<S> {
         self.result
     }
 
-    /// The runs that it found, and the passes that it was given.
+    /// The runs that it found, and the passes that it was given. Both may be empty.
     pub fn kept(&self) -> &ConnectionRuns<S>
         ensures { result.now ≡ self.now.kept }
     {
         &self.kept
     }
 
-    /// What it kept, by value: the runs that it found, and the passes that it was given.
+    /// The runs that it found and the passes that it was given, by value.
     pub fn into_kept(self) -> ConnectionRuns<S>
         ensures { result ≡ self.kept }
     {
@@ -67,7 +70,7 @@ impl<S: ServerBrand> Connection<S> {
 }
 
 /// Serves a connection to its end, over the runs of the server: its messages are answered in order,
-/// each at its moment, and it hangs up, also after a fault.
+/// each at its moment. Then it hangs up, also after a fault, which the connection's result keeps.
 pub fn serve_connection<S: ServerBrand, R: Wait, T: Stream, C: Clock>(
     rt: &R,
     alloc: Global,

@@ -29,7 +29,7 @@ impl Model for GivenPasses {
     ghost view = { λ given. map (λ run. (run.0, run.1.items)) given.runs.entries };
 }
 
-/// Adds a pass at the end. Drops it if an allocation fails.
+/// Adds a pass at the end. After an error the passes are unchanged, and this one is dropped.
 fn push_pass(passes: &mut Vec<Pass>, pass: Pass) -> Result<(), AllocError>
     ensures kept { OnOk result (passes.new.items ≡ passes.old.items ++ pass ∷ []) }
     ensures refused { OnErr result (passes.new.items ≡ passes.old.items) }
@@ -41,7 +41,7 @@ fn push_pass(passes: &mut Vec<Pass>, pass: Pass) -> Result<(), AllocError>
 }
 
 impl GivenPasses {
-    /// No passes: no connection ended yet.
+    /// No passes of any run.
     pub fn new(alloc: Global) -> GivenPasses
         ensures { result ≡ [] }
     {
@@ -50,8 +50,9 @@ impl GivenPasses {
         }
     }
 
-    /// Keeps a pass of the run of that key. Drops it if an allocation fails.
-    fn push(&mut self, alloc: Global, key: RunKey, pass: Pass) -> Result<(), AllocError>
+    /// Keeps a pass of the run of that key, after the run's others. After an error each run has the
+    /// passes that it had, and this one is dropped.
+    fn keep_pass(&mut self, alloc: Global, key: RunKey, pass: Pass) -> Result<(), AllocError>
         ensures kept { OnOk result (KeepsPass self.old key pass self.new) }
         ensures refused { OnErr result (KeepsNone self.old self.new) }
     {
@@ -66,8 +67,9 @@ impl GivenPasses {
         }
     }
 
-    /// Keeps these passes of these runs, in order. If an allocation fails, drops the rest of them.
-    fn push_each<S: ServerBrand>(
+    /// Keeps these passes of these runs, in order. After an error the first of them are kept, and
+    /// the rest are dropped.
+    fn keep_each<S: ServerBrand>(
         &mut self,
         alloc: Global,
         runs: &[SharedRun<S>],
@@ -80,14 +82,14 @@ impl GivenPasses {
             (record { runs = runs.now; passes = passes.items }) self.new) }
     {
         for given in passes {
-            let key = runs[given.run as usize].key().again();
-            self.push(alloc, key, given.pass)?;
+            let key = runs[given.run as usize].key().copy();
+            self.keep_pass(alloc, key, given.pass)?;
         }
         Ok(())
     }
 
-    /// Keeps the passes of a connection that ended. If an allocation fails, drops the rest of them:
-    /// an audit of their runs then counts too few receipts.
+    /// Keeps the passes of a connection that ended. After an error the first of them are kept, and
+    /// the rest are dropped: an audit of their runs then counts too few receipts.
     pub fn keep<S: ServerBrand>(
         &mut self,
         alloc: Global,
@@ -97,11 +99,11 @@ impl GivenPasses {
         ensures refused { OnErr result (KeepsFront self.old connection.kept self.new) }
     {
         let (runs, passes) = connection.into_kept().into_parts();
-        self.push_each(alloc, &runs, passes)
+        self.keep_each(alloc, &runs, passes)
     }
 
-    /// The passes of the run of that key, in the order in which they were kept; none if the key has
-    /// no run here.
+    /// The passes of the run of that key, in the order in which they were kept. Empty if none was
+    /// kept.
     pub fn of(&self, key: &RunKey) -> &[Pass]
         ensures { result.now ≡ passes_of self.now key.now }
     {

@@ -8,7 +8,7 @@ use cs_shared_runs::{ServerBrand, SharedRun};
 use std::alloc::Global;
 use std::marker::Model;
 
-/// A pass, with the place of its run among those that the connection found.
+/// A pass, and the place of its run among those that the connection found.
 #[derive(Drop)]
 pub struct GivenPass {
     pub run: u32,
@@ -34,8 +34,8 @@ impl<S: ServerBrand> Model for ConnectionRuns<S> {
 }
 
 impl<S: ServerBrand> ConnectionRuns<S> {
-    /// What a connection keeps that found no run.
-    pub fn none(alloc: Global) -> ConnectionRuns<S>
+    /// No runs and no passes: what a connection keeps that found no run.
+    pub fn empty(alloc: Global) -> ConnectionRuns<S>
         ensures { result ≡ no_runs }
     {
         ConnectionRuns {
@@ -44,22 +44,22 @@ impl<S: ServerBrand> ConnectionRuns<S> {
         }
     }
 
-    /// What a connection keeps that found these runs and was given these passes.
-    pub(crate) fn of(runs: Vec<SharedRun<S>>, passes: Vec<GivenPass>) -> ConnectionRuns<S>
+    /// These runs and passes: each pass has the place of its run.
+    pub(crate) fn new(runs: Vec<SharedRun<S>>, passes: Vec<GivenPass>) -> ConnectionRuns<S>
         requires { AreInside runs.items passes.items }
         ensures { result ≡ record { runs = runs.items; passes = passes.items } }
     {
         ConnectionRuns { runs, passes }
     }
 
-    /// The passes, in the order in which they were given.
+    /// The passes, in the order in which they were given. Empty if none was.
     pub fn passes(&self) -> &[GivenPass]
         ensures { result.now ≡ self.now.passes }
     {
         self.passes.as_slice()
     }
 
-    /// The runs, and the passes, each of which is of one of the runs.
+    /// The runs and the passes, by value. Each pass is of one of the runs.
     pub(crate) fn into_parts(self) -> (Vec<SharedRun<S>>, Vec<GivenPass>)
         ensures runs { result.0.items ≡ self.runs }
         ensures passes { result.1.items ≡ self.passes }
@@ -68,7 +68,7 @@ impl<S: ServerBrand> ConnectionRuns<S> {
         (self.runs, self.passes)
     }
 
-    /// The key of the run that gave the pass at a place.
+    /// The key of the run that gave the pass at that place among the passes.
     pub fn key_at(&self, place: usize) -> &RunKey
         requires { place < length self.now.passes }
         ensures { key_at self.now place ≡ Some result.now }

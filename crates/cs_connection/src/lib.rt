@@ -1,4 +1,5 @@
-//! Connections that are served at the same time, over runs that their threads share.
+//! Connections that are served at the same time, over runs that their threads share. One connection
+//! is in `connection`, the threads are in `streams`. What a connection answers is in cs_session.
 #![tactic(auto)]
 
 mod connection;

@@ -33,7 +33,7 @@ impl<'r, S: ServerBrand, R: Wait> Model for SharedPort<'r, S, R> {
 }
 
 impl<'r, S: ServerBrand, R: Wait> SharedPort<'r, S, R> {
-    /// The port of a connection that found no run.
+    /// The port of a connection that has found no run.
     pub fn new(rt: &'r R, alloc: Global, registry: &'r SharedRegistry<S>) -> SharedPort<'r, S, R>
         ensures { result ≡ no_runs }
     {
@@ -45,11 +45,11 @@ impl<'r, S: ServerBrand, R: Wait> SharedPort<'r, S, R> {
         }
     }
 
-    /// What the connection keeps.
+    /// What the connection keeps: the runs that it found and the passes that it was given.
     pub fn into_kept(self) -> ConnectionRuns<S>
         ensures { result ≡ self.entry }
     {
-        ConnectionRuns::of(self.runs, self.passes)
+        ConnectionRuns::new(self.runs, self.passes)
     }
 }
 
@@ -58,8 +58,9 @@ impl<'r, S: ServerBrand, R: Wait> Port for SharedPort<'r, S, R> {
 
     ghost gives = { λ old question told new. Gives S.serves old question told new };
 
-    /// Finds the run of that name in the registry, and keeps it. A find that the registry grants
-    /// stays counted, even if there is no memory to keep the run.
+    /// Finds the run of that name in the registry, and keeps it. Unpublished if the name can't be a
+    /// run's. A find that the registry grants stays counted, even if there is no memory to keep the
+    /// run.
     fn find(&mut self, alloc: Global, name: &TreeName) -> Result<u32, FindFault> {
         let Some(key) = RunKey::of_tree_name(name) else {
             return Err(FindFault::Unpublished);
@@ -74,7 +75,8 @@ impl<'r, S: ServerBrand, R: Wait> Port for SharedPort<'r, S, R> {
         }
     }
 
-    /// Attaches to the run at that place, and keeps the pass, for which room is made first.
+    /// Attaches to the run at the place `run`, and keeps the pass. Foreign if there is no such run.
+    /// Room for the pass is made first, so after an error there is no pass.
     fn attach(
         &mut self,
         alloc: Global,
@@ -101,7 +103,7 @@ impl<'r, S: ServerBrand, R: Wait> Port for SharedPort<'r, S, R> {
     }
 
     /// Makes a call on the run that gave the pass. S5, and nothing changes, if there is no such
-    /// pass or another run gave it.
+    /// pass, or the run at the place `run` didn't give it.
     fn call(&mut self, alloc: Global, now: u32, run: u32, pass: u32, call: Call<'_>) -> Answer {
         let Some(given) = self.passes.get_mut(pass as usize) else {
             return Answer::Denied(RuleId::S5);

@@ -20,14 +20,14 @@ impl<S: ServerBrand> Model for Server<S> {
 }
 
 impl<S: ServerBrand> Server<S> {
-    /// A server of this registry.
+    /// A server of the states and runs of this registry.
     pub fn new(registry: SharedRegistry<S>) -> Server<S>
         ensures { result ≡ registry }
     {
         Server { registry }
     }
 
-    /// Its registry, in which states may be published while connections are served.
+    /// The registry. States may be published in it while connections are served.
     pub fn registry(&self) -> &SharedRegistry<S>
         ensures { result.now ≡ self.now }
     {

@@ -1,4 +1,4 @@
-//! Many streams at once, each in a thread of its own.
+//! Many streams at once, each served in its own thread.
 ghost use Rattle.std.specs.Prelude.{◌≡◌, ◌≤◌, [], IfOk, vec_capacity, vec_len};
 
 use crate::connection::{Connection, serve_connection};
@@ -12,7 +12,8 @@ use std::sync::Wait;
 use std::thread;
 use std::thread::{JoinHandle, Scope, Threads};
 
-/// Serves a stream to its end, with its calls counted.
+/// Serves a stream to its end, and returns its connection. Its reads and writes are counted on the
+/// way.
 fn serve_one<S: ServerBrand, R: Wait, RW: Read + Write + Drop, C: Clock + Drop>(
     rt: &R,
     alloc: Global,
@@ -25,6 +26,7 @@ fn serve_one<S: ServerBrand, R: Wait, RW: Read + Write + Drop, C: Clock + Drop>(
 }
 
 /// Starts a thread for each stream, in their order; None for a stream whose thread can't be made.
+/// After an error no thread was started.
 fn start_each<
     's,
     E,
@@ -50,8 +52,8 @@ fn start_each<
     Ok(threads)
 }
 
-/// Waits for each thread: its connection, in the order of the threads; one that wasn't served for
-/// a thread that couldn't be made.
+/// Waits for each thread, and returns the connections, in the order of the threads; for None, a
+/// connection that was not served. `connections` is empty and has room for all.
 fn join_each<S: ServerBrand, R: Threads>(
     rt: &R,
     alloc: Global,
@@ -72,9 +74,9 @@ fn join_each<S: ServerBrand, R: Threads>(
     connections
 }
 
-/// Serves all streams at the same time, each in its own thread, and waits for them: their
+/// Serves all streams at the same time, each in its own thread, and waits for them. Returns their
 /// connections, in the order of the streams. Each thread has a copy of the clock. A stream whose
-/// thread can't be made is not served. If there is no memory for the connections, nothing is read.
+/// thread can't be made is not served. After an error no stream was read.
 pub fn serve_streams<
     S: ServerBrand + Send + Sync,
     R: Threads + Wait + Sync,

@@ -1,4 +1,5 @@
-//! The files that micro-operations change.
+//! The files that micro-operations change. An operation changes a file if it sets its size, writes
+//! a block or sets its rights; a new, moved or deleted entry is no change of a file.
 ghost use Rattle.std.specs.Prelude.{◌≡◌, ◌≤◌, ◌^◌, IfOk};
 ghost use Rattle.cs_families.specs.Changes.{changed_files, file_changed, file_end, is_changed};
 ghost use Rattle.cs_families.specs.Changes.{is_file, number_after};
@@ -7,7 +8,9 @@ use cs_micro::MicroOp;
 use cs_trace::Target;
 use std::alloc::{AllocError, Global};
 
-/// The file of which the operation changes the size, a block or the rights, if it does.
+/// The number of the file whose size, block or rights the operation changes. None if it changes no
+/// file. `changed_file` of cs_same_states and `path_of_changed_file` of cs_list_lines have the same
+/// cases: change all three.
 pub fn file_changed(op: &MicroOp) -> Option<u32>
     ensures { result ≡ file_changed op.now }
 {
@@ -22,7 +25,7 @@ pub fn file_changed(op: &MicroOp) -> Option<u32>
     }
 }
 
-/// Whether it is that file.
+/// Whether `found` is this file. False if it is None, which is no file.
 pub fn is_file(found: Option<u32>, file: u32) -> bool
     ensures { result ≡ is_file file found }
 {
@@ -32,7 +35,7 @@ pub fn is_file(found: Option<u32>, file: u32) -> bool
     }
 }
 
-/// One more than the file's number.
+/// One more than the number of the file; 0 if there is no file.
 fn number_after(found: Option<u32>) -> usize
     ensures value { result ≡ number_after found }
     ensures small { result ≤ 2 ^ 32 }
@@ -43,7 +46,7 @@ fn number_after(found: Option<u32>) -> usize
     }
 }
 
-/// One more than the greatest number of a file that is changed, or 0.
+/// One more than the greatest number of a file that the operations change; 0 if they change none.
 fn file_end(ops: &[MicroOp]) -> usize
     ensures value { result ≡ file_end ops.now }
     ensures small { result ≤ 2 ^ 32 }
@@ -62,7 +65,7 @@ fn is_changed(ops: &[MicroOp], file: u32) -> bool
     ops.iter().any(|op| is_file(file_changed(op), file))
 }
 
-/// The files that are changed, in the order of their numbers.
+/// The numbers of the files that the operations change, ascending, each once.
 pub fn changed_files(alloc: Global, ops: &[MicroOp]) -> Result<Vec<u32>, AllocError>
     ensures { IfOk result (λ files. files.items ≡ changed_files ops.now) }
 {

@@ -1,4 +1,4 @@
-//! The command `picks`, after its files were read.
+//! The command `picks`, after its files were read. The sets are made and written in `family`.
 ghost use Rattle.std.specs.Prelude.{◌≡◌, ◌≤◌, OnOk};
 ghost use Rattle.cs_families.specs.Families.{WritesFamily};
 
@@ -8,8 +8,9 @@ use cs_serve::{Inputs, scene_of};
 use std::alloc::Global;
 use std::io::Write;
 
-/// Writes the family of the trace's states, and flushes it.
-fn picks<W: Write>(
+/// Writes the family of the trace's micro-operations, and flushes it. After a fault some of its
+/// lines may be written.
+fn print_picks<W: Write>(
     alloc: Global,
     trace: &[u8],
     family: Family,
@@ -32,9 +33,9 @@ fn picks<W: Write>(
     }
 }
 
-/// The command `picks`: prints the sets of a family, each on a line as a picks file has it. Of the
-/// inputs it takes the trace only. Its status: 0, or 1 if a fault ended it, which is printed as one
-/// line on `err`; what was printed before stays.
+/// The command `picks`: prints the sets of a family on `out`, each on a line as a picks file has
+/// it. Of the inputs it uses only the trace. Returns its status: 0, or 1 after a fault, which `err`
+/// gets as one line; some of the sets may be printed by then.
 pub fn picks_of<W: Write, E: Write>(
     alloc: Global,
     inputs: &Inputs,
@@ -45,7 +46,7 @@ pub fn picks_of<W: Write, E: Write>(
     ensures status { result ≤ 1 }
     ensures sets { result ≡ 0 → WritesFamily family (W.contents out.old) (W.contents out.new) }
 {
-    match picks(alloc, inputs.trace, family, out) {
+    match print_picks(alloc, inputs.trace, family, out) {
         Ok(()) => 0,
         Err(fault) => {
             let _printed = out.flush();

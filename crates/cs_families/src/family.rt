@@ -1,4 +1,5 @@
-//! A family of sets of a trace's micro-operations.
+//! A family of sets of a trace's micro-operations, written as a picks file. Each family has its own
+//! file: `lost` and `files`.
 ghost use Rattle.std.specs.Prelude.{OnOk};
 ghost use Rattle.std.specs.List.{All};
 ghost use Rattle.std.specs.Io.KnownBytes.{Appends};
@@ -26,8 +27,9 @@ pub enum Family {
     Files,
 }
 
-/// Writes the sets of a family as a picks file has them: in the order of their places or prefixes,
-/// and then of the files' numbers. After a fault some of the lines may be written.
+/// Writes the sets of a family as a picks file has them. Those of Lost are in the order of their
+/// places; those of Files in the order of the prefixes, and for each prefix of the files' numbers.
+/// After a fault some of the lines may be written.
 pub fn write_family<W: Write>(
     alloc: Global,
     scene: &Scene,
@@ -40,6 +42,7 @@ pub fn write_family<W: Write>(
     ensures allowed { All (IsAllowedIn (order_in scene.now)) (family_in scene.now family) }
 {
     let order = scene.order();
+    // that each operation needs only earlier ones
     know(order.len());
     match family {
         Family::Lost => write_lost(alloc, order, out),

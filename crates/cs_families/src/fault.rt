@@ -1,4 +1,4 @@
-//! Why not all sets are printed.
+//! The faults of printing a family of sets.
 use cs_serve::ProgramFault;
 use std::alloc::AllocError;
 use thiserror::Error;
@@ -13,6 +13,7 @@ pub enum FamilyFault {
 }
 
 impl From<AllocError> for FamilyFault {
+    /// An allocation that fails is Memory.
     fn from(_refused: AllocError) -> FamilyFault {
         FamilyFault::Memory
     }

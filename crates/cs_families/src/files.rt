@@ -1,4 +1,5 @@
-//! The family of prefixes that lose a file's changes.
+//! The family Files: prefixes that lose one file's changes. Which changes a prefix loses is in
+//! `losses`, and what is left of it in `left`.
 ghost use Rattle.std.specs.Prelude.{◌≡◌, ◌<◌, ◌≤◌, length, OnOk};
 ghost use Rattle.std.specs.Io.KnownBytes.{Appends};
 ghost use Rattle.std.specs.List.{All, flat_map};
@@ -18,8 +19,9 @@ use cs_plan::Places;
 use std::alloc::Global;
 use std::io::Write;
 
-/// Writes what is left of a prefix without these places, unless the prefix that is a place shorter
-/// gives that too.
+/// Writes what is left of the prefix of `end` places if it loses the places `lost`. Writes nothing
+/// if these are none, or if the prefix that is a place shorter leaves the same set; it loses the
+/// places `shorter`.
 fn write_left<W: Write>(
     alloc: Global,
     order: &Order,
@@ -40,7 +42,9 @@ fn write_left<W: Write>(
     write_pick(&Places::of(left), out)
 }
 
-/// Writes what is left of a prefix without the file's changes, if that is given.
+/// Writes what is left of a prefix if it loses its changes of the file; nothing if it loses none,
+/// or if the shorter prefix leaves the same. `losses` and `shorter` have, for each place of the
+/// prefix and of the one that is a place shorter, the file whose change there is lost.
 fn write_without<W: Write>(
     alloc: Global,
     order: &Order,
@@ -54,13 +58,15 @@ fn write_without<W: Write>(
     ensures { OnOk result (Appends (W.contents out.old) (W.contents out.new)
         (picks_text (sets_without (needs_in order.now) shorter.now losses.now file))) }
 {
+    // that an order is short
     know(order.len());
     let others = lost_places(alloc, shorter, file)?;
     let lost = lost_places(alloc, losses, file)?;
     write_left(alloc, order, &others, &lost, losses.len(), out)
 }
 
-/// Writes the sets of a prefix, in the order of the files.
+/// Writes the sets of a prefix, one at most for each file, in the order of `files`. `losses` and
+/// `shorter` are as in `write_without`.
 fn write_prefix<W: Write>(
     alloc: Global,
     order: &Order,
@@ -81,7 +87,8 @@ fn write_prefix<W: Write>(
     Ok(())
 }
 
-/// Writes the sets of each prefix.
+/// Writes the family: the sets of each prefix, the shortest first. After a fault some of the lines
+/// may be written.
 pub fn write_files<W: Write>(
     alloc: Global,
     micros: &Micros,

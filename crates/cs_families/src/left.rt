@@ -1,4 +1,5 @@
-//! What is left of a prefix if a crash loses a file's changes.
+//! What is left of a prefix if a crash loses a file's changes: the prefix without these, and
+//! without all that needs one of them. `losses` says which changes may be lost.
 ghost use Rattle.std.specs.Prelude.{◌≡◌, ◌<◌, ◌≤◌, length, IfOk};
 ghost use Rattle.std.specs.List.{All};
 ghost use Rattle.cs_apm.specs.Orders.{needs_in};
@@ -13,7 +14,8 @@ use cs_names::limits::MICRO_OPERATIONS;
 use cs_plan::members::is_kept;
 use std::alloc::{AllocError, Global};
 
-/// Whether the file loses the change at the place.
+/// Whether a change of the file is lost at the place. `losses` has for each place the file whose
+/// change there is lost.
 fn loses_at(losses: &[Option<u32>], file: u32, place: usize) -> bool
     requires { place < length losses.now }
     ensures { result ≡ loses_at losses.now file place }
@@ -21,7 +23,8 @@ fn loses_at(losses: &[Option<u32>], file: u32, place: usize) -> bool
     is_file(losses[place], file)
 }
 
-/// The places at which changes of the file are lost.
+/// The places, ascending, at which changes of the file are lost. `losses` has for each place the
+/// file whose change there is lost. Empty if the file loses none.
 pub fn lost_places(alloc: Global, losses: &[Option<u32>], file: u32) -> Result<Vec<u32>, AllocError>
     requires { length losses.now ≤ MICRO_OPERATIONS }
     ensures value { IfOk result (λ lost. lost.items ≡ lost_places losses.now file) }
@@ -36,7 +39,8 @@ pub fn lost_places(alloc: Global, losses: &[Option<u32>], file: u32) -> Result<V
     Ok(lost)
 }
 
-/// Whether the operation at the place stays if those at other places are missing.
+/// Whether the operation at the place stays if those at the places `lost` are missing: it is none
+/// of them, and needs none by any chain.
 fn stays(order: &Order, lost: &[u32], place: usize) -> bool
     requires there { place < length order.now }
     requires inside { All (λ missing. missing < length order.now) lost.now }
@@ -50,7 +54,8 @@ fn stays(order: &Order, lost: &[u32], place: usize) -> bool
     true
 }
 
-/// Whether the prefix loses what the one that is a place shorter loses, and its last place.
+/// Whether the prefix of `end` places loses exactly what the one that is a place shorter loses, and
+/// its own last place. `lost` and `shorter` are the places that the two lose.
 fn loses_one_more(shorter: &[u32], lost: &[u32], end: usize) -> bool
     ensures { result ≡ loses_one_more shorter.now lost.now end }
 {
@@ -58,8 +63,8 @@ fn loses_one_more(shorter: &[u32], lost: &[u32], end: usize) -> bool
     lost.len() == count + 1 && &lost[..count] == shorter && lost[count] as usize + 1 == end
 }
 
-/// Whether the prefix leaves the set that the one that is a place shorter leaves: its last place
-/// doesn't stay, and else it loses the same.
+/// Whether the prefix of `end` places leaves the same set as the one that is a place shorter: its
+/// last place doesn't stay, and of the places before that it loses the same.
 fn adds_nothing(order: &Order, shorter: &[u32], lost: &[u32], end: usize) -> bool
     requires few { end ≤ length order.now }
     requires some { 0 < length order.now }
@@ -72,8 +77,9 @@ fn adds_nothing(order: &Order, shorter: &[u32], lost: &[u32], end: usize) -> boo
     lost == shorter || loses_one_more(shorter, lost, end)
 }
 
-/// Whether another set is left of the prefix than of the one that is a place shorter, which loses
-/// others.
+/// Whether the family has what is left of the prefix of `end` places. It does if the prefix loses
+/// something, unless the prefix that is a place shorter leaves the same set. `lost` and `shorter`
+/// are the places that the two lose.
 pub fn is_given(order: &Order, shorter: &[u32], lost: &[u32], end: usize) -> bool
     requires few { end ≤ length order.now }
     requires inside { All (λ missing. missing < length order.now) lost.now }
@@ -85,7 +91,7 @@ pub fn is_given(order: &Order, shorter: &[u32], lost: &[u32], end: usize) -> boo
     shorter.is_empty() || !adds_nothing(order, shorter, lost, end)
 }
 
-/// The places before the end, without the lost ones and all that need one by any chain.
+/// The places before `end`, ascending, without the lost ones and all that need one by any chain.
 pub fn left_of(
     alloc: Global,
     order: &Order,
@@ -98,6 +104,7 @@ pub fn left_of(
     ensures allowed { IfOk result (λ left. IsAllowedIn order.now left.items) }
 {
     let mut left = Vec::new(alloc);
+    // that an order is short, and that each operation needs only earlier ones
     know(order.len());
     for place in 0..end {
         if stays(order, lost, place) {

@@ -1,4 +1,5 @@
-//! Which changes of files a crash may lose.
+//! Which changes of files a crash may lose: those that no sync point covers before the crash. What
+//! is left without them is in `left`.
 ghost use Rattle.std.specs.Prelude.{◌≡◌, ◌<◌, ◌≤◌, length, IfOk};
 ghost use Rattle.cs_apm.specs.Rules as rules;
 ghost use Rattle.cs_families.specs.Losses.{losses_of, lost_at};
@@ -8,14 +9,16 @@ use cs_apm::is_covered;
 use cs_micro::{MicroOp, SyncPoint};
 use std::alloc::{AllocError, Global};
 
-/// Whether a sync point after the place, and before the last operation, covers the operation.
+/// Whether a sync point after the place, and before the operation at `last`, covers `op`, which is
+/// the operation at the place.
 fn is_synced(syncs: &[SyncPoint], place: usize, last: usize, op: &MicroOp) -> bool
     ensures { result ≡ rules.is_synced syncs.now place last op.now }
 {
     syncs.iter().any(|sync| place < sync.at && sync.at <= last && is_covered(&sync.covers, op))
 }
 
-/// The file whose change at the place a crash may lose, if there is one.
+/// The file whose change at the place a crash may lose that comes with the operation at `last`.
+/// None if no file is changed there, or if a sync point before `last` covers the change.
 fn lost_at(ops: &[MicroOp], syncs: &[SyncPoint], last: usize, place: usize) -> Option<u32>
     requires { place < length ops.now }
     ensures { result ≡ lost_at ops.now syncs.now last place }
@@ -27,8 +30,9 @@ fn lost_at(ops: &[MicroOp], syncs: &[SyncPoint], last: usize, place: usize) -> O
     file_changed(op)
 }
 
-/// For each place of the prefix the file whose change there a crash may lose, if there is one: a
-/// sync point after the prefix's last operation hasn't ended then.
+/// For each place of the prefix of `end` places the file whose change there a crash may lose: None
+/// if no file is changed there, or if a sync point before the prefix's last operation covers the
+/// change. A later sync point doesn't count, as the crash may come before it.
 pub fn losses_of(
     alloc: Global,
     ops: &[MicroOp],

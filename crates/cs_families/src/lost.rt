@@ -1,4 +1,4 @@
-//! The family of least sets: an operation reached the disk, and nothing that it doesn't need.
+//! The family Lost: an operation reached the disk, with all that it needs and nothing else.
 ghost use Rattle.std.specs.Prelude.{◌≡◌, ◌<◌, ◌≤◌, length, IfOk, OnOk};
 ghost use Rattle.std.specs.Io.KnownBytes.{Appends};
 ghost use Rattle.cs_apm.specs.Orders.{needs_in};
@@ -14,7 +14,7 @@ use cs_plan::Places;
 use std::alloc::{AllocError, Global};
 use std::io::Write;
 
-/// Whether it is the place, or the operation there needs it by any chain.
+/// Whether `needed` is the place itself, or a place that the operation there needs by any chain.
 fn is_needed(order: &Order, place: usize, needed: usize) -> bool
     requires first { place < length order.now }
     requires second { needed < length order.now }
@@ -23,13 +23,14 @@ fn is_needed(order: &Order, place: usize, needed: usize) -> bool
     needed == place || order.needs_by_chain(needed, place)
 }
 
-/// The place, and all that the operation there needs by any chain.
+/// The place, which is the last, and all that the operation there needs by any chain, ascending.
 pub fn least_with(alloc: Global, order: &Order, place: usize) -> Result<Vec<u32>, AllocError>
     requires { place < length order.now }
     ensures value { IfOk result (λ set. set.items ≡ least_with (needs_in order.now) place) }
     ensures allowed { IfOk result (λ set. IsAllowedIn order.now set.items) }
 {
     let mut set = Vec::new(alloc);
+    // that an order is short, and that each operation needs only earlier ones
     know(order.len());
     for needed in 0..place + 1 {
         if is_needed(order, place, needed) {
@@ -39,7 +40,8 @@ pub fn least_with(alloc: Global, order: &Order, place: usize) -> Result<Vec<u32>
     Ok(set)
 }
 
-/// Writes the least set of each operation.
+/// Writes the family: the least set of each operation, in the order of their places. After a fault
+/// some of the lines may be written.
 pub fn write_lost<W: Write>(alloc: Global, order: &Order, out: &mut W) -> Result<(), FamilyFault>
     ensures { OnOk result
         (Appends (W.contents out.old) (W.contents out.new) (picks_text (lost_sets order.now))) }

@@ -1,4 +1,4 @@
-//! A set as a line of a picks file.
+//! One set as a line of a picks file. `read_picks` of cs_serve reads such lines.
 ghost use Rattle.std.specs.Prelude.{◌≡◌, OnOk};
 ghost use Rattle.std.specs.Io.KnownBytes.{Appends};
 ghost use Rattle.cs_families.specs.Texts.{pick_line};
@@ -7,7 +7,7 @@ use crate::fault::FamilyFault;
 use cs_plan::Places;
 use std::io::Write;
 
-/// Writes the set as an array, on a line.
+/// Writes the set as a JSON array and a line feed; `[]` if it is empty.
 pub fn write_pick<W: Write>(set: &Places, out: &mut W) -> Result<(), FamilyFault>
     ensures { OnOk result (Appends (W.contents out.old) (W.contents out.new) (pick_line set.now)) }
 {

@@ -1,11 +1,10 @@
 -- What a call that changes a table does to the numbers of its open fids.
 use Rattle.std.proofs.Common.{◌≡◌, ◌∙◌, ℕ, ◌+◌, ◌-◌, ◌<◌, ◌≤◌, ◌&&◌, ◌||◌, ◌==◌, Bool, true, false, cond, not, List, [], length, Option}
-use Rattle.std.proofs.Common.{Some, None, is_some, IsSome, option_copied, Bor, Result, Ok, Err, IfOk, OnErr, OnOk, refl, sym, ap, arith}
-use Rattle.std.proofs.Common.{true≢false, zero-le}
+use Rattle.std.proofs.Common.{Some, None, is_some, option_copied, Bor, Result, Ok, Err, IfOk, OnErr, refl, sym, ap, arith}
+use Rattle.std.proofs.Common.{zero-le}
 use Rattle.std.specs.Cmp.{nat_cmp_total}
 use Rattle.std.specs.FinMap as map
 use Rattle.std.specs.FinMap.{get, len, len-insert, len-remove}
-use Rattle.std.specs.Option.{ok_or}
 use Rattle.std.specs.Ordering.{nat_cmp}
 use Rattle.cs_fids.specs.Entries.{as_opened, is_open}
 use Rattle.cs_fids.specs.FidOf.{FidOf}
@@ -14,7 +13,6 @@ use Rattle.cs_fids.specs.Tables.{FailsAs, FidMap, opened_in, walked_in}
 use Rattle.cs_fids.specs.declared.entry.FidEntry.{FidEntry}
 use Rattle.cs_fids.specs.declared.entry.FidEntry.TheVariants as entry
 use Rattle.cs_fids.specs.declared.fault.FidFault.{FidFault}
-use Rattle.cs_fids.specs.declared.fault.FidFault.TheVariants.{Unknown}
 use Rattle.cs_fids.specs.declared.fid.Opened.{Opened}
 use Rattle.cs_fids.specs.declared.fid.Walked.{Walked}
 use Rattle.cs_fids.proofs.Numbers.{as_open, no_more, one_more, open_is_some, open_no_more, opened_too, still_open}
@@ -36,11 +34,6 @@ len_taken m fid = by (map.contains_key m fid) (len-remove nat_cmp_total m fid)
     by : (b : Bool) → len (map.remove m fid) ≡ cond b (len m - 1) (len m) → len (map.remove m fid) ≤ len m
     by true is = omega arith
     by false is = omega arith
-
--- as many fids, of which the same are open
-pub record InPlace (old new : FidMap) (opens : List ℕ) (capacity : ℕ) : Type 0 where
-  pub are : AreOpens new opens capacity
-  pub long : len new ≡ len old
 
 module _ (old : FidMap) (opens : List ℕ) (capacity : ℕ) (are : AreOpens old opens capacity) (fid : ℕ) (new : FidMap) where
   -- no more fids are open than there are
@@ -69,15 +62,11 @@ module _ (old : FidMap) (opens : List ℕ) (capacity : ℕ) (are : AreOpens old 
 
   -- a fid's entry is replaced by one that is open exactly if it was
   pub in_place : (there e : FidEntry) → get old fid ≡ Some there → is_open e ≡ is_open there → new ≡ map.insert old fid e
-      → InPlace old new opens capacity
+      → AreOpens new opens capacity
   in_place there e found same inserts =
       let long : len new ≡ len old = ap len inserts ∙ len_in_place old fid e (ap is_some found) in
       let few : len old ≤ capacity = are.fits in
-      record { are = as_it_was e inserts (omega arith) (same ∙ ap is_open_in (sym found)); long = long }
-
-  -- the table is left as it was
-  pub left_alone : new ≡ old → InPlace old new opens capacity
-  left_alone same = rw same (record { are = are; long = refl })
+      as_it_was e inserts (omega arith) (same ∙ ap is_open_in (sym found))
 
   module _ (removes : new ≡ map.remove old fid) where
     fewer : len new ≤ capacity
@@ -98,48 +87,12 @@ module _ (old : FidMap) (opens : List ℕ) (capacity : ℕ) (are : AreOpens old 
       fits = fewer;
     }
 
--- the entry of a fid that a search found
-pub was_walked : (o : Option FidEntry) (w : FidOf Walked) → walked_in o ≡ Ok w → o ≡ Some (entry.Walked w)
-was_walked None w found = absurd (cc)
-was_walked (Some (entry.Walked v)) w found = ap (λ x. Some (entry.Walked x)) (cc)
-was_walked (Some (entry.Opened f)) w found = absurd (cc)
-
-pub was_opened : (o : Option FidEntry) (f : FidOf Opened) → opened_in o ≡ Ok f → o ≡ Some (entry.Opened f)
-was_opened None f found = absurd (cc)
-was_opened (Some (entry.Walked w)) f found = absurd (cc)
-was_opened (Some (entry.Opened g)) f found = ap (λ x. Some (entry.Opened x)) (cc)
-
-pub was_taken : (o : Option FidEntry) (e : FidEntry) → Ok e ≡ ok_or o Unknown → o ≡ Some e
-was_taken None e value = absurd (cc)
-was_taken (Some x) e value = ap Some (cc)
-
--- a call that failed as a search did found its fid, or changed nothing
-pub found_or_left : {A F : Type 0} (result : Result A FidFault) (found : Result F FidFault) (made : F → Type 0) (Left Goal : Type 0)
-    → FailsAs result found → IfOk found made → OnErr result Left → ((x : F) → found ≡ Ok x → made x → Goal) → (Left → Goal) → Goal
-found_or_left result (Ok x) made Left Goal fails fids left here there = here x refl fids
-found_or_left (Ok y) (Err f) made Left Goal fails fids left here there = absurd (cc)
-found_or_left (Err e) (Err f) made Left Goal fails fids left here there = there left
-
--- a take of a fid that isn't open took it, or changed nothing
-pub walked_or_left : (o : Option FidEntry) (result : Result (FidOf Walked) FidFault) (Taken Left Goal : Type 0) → result ≡ walked_in o
-    → OnOk result Taken → OnErr result Left → (is_open_in o ≡ false → Taken → Goal) → (Left → Goal) → Goal
-walked_or_left None (Ok w) Taken Left Goal value taken left here there = absurd (cc)
-walked_or_left None (Err f) Taken Left Goal value taken left here there = there left
-walked_or_left (Some (entry.Walked v)) (Ok w) Taken Left Goal value taken left here there = here refl taken
-walked_or_left (Some (entry.Walked v)) (Err f) Taken Left Goal value taken left here there = there left
-walked_or_left (Some (entry.Opened v)) (Ok w) Taken Left Goal value taken left here there = absurd (cc)
-walked_or_left (Some (entry.Opened v)) (Err f) Taken Left Goal value taken left here there = there left
-
 -- a lent option is Some exactly if the option is
 pub lent_alike : (e : FidEntry) (o : Option (Bor (FidOf Opened))) → option_copied o ≡ as_opened e → is_some o ≡ is_open e
 lent_alike (entry.Walked w) None same = refl
 lent_alike (entry.Walked w) (Some x) same = absurd (cc)
 lent_alike (entry.Opened f) None same = absurd (cc)
 lent_alike (entry.Opened f) (Some x) same = refl
-
-pub none_there : (o : Option FidEntry) → (IsSome o → false ≡ true) → o ≡ None
-none_there None there = refl
-none_there (Some e) there = absurd (true≢false (sym (there refl)))
 
 -- if there is no fid, none is open
 pub none_open : (capacity : ℕ) → AreOpens map.empty [] capacity
@@ -148,3 +101,24 @@ none_open capacity = record {
   descending = λ i j d less within. absurd (omega arith);
   fits = rw (map.len-empty nat_cmp FidEntry) zero-le;
 }
+
+-- a slot's fid that moved, was opened or got another place
+pub moved_alike : {A : Type 0} (there e : FidEntry) (result : Result A FidFault) (made : FidOf Walked → FidOf Walked)
+    → FailsAs result (walked_in (Some there)) → IfOk (walked_in (Some there)) (λ w. e ≡ entry.Walked (made w)) → OnErr result (e ≡ there)
+    → is_open e ≡ is_open there
+moved_alike (entry.Walked w) e result made fails moved left = ap is_open moved
+moved_alike (entry.Opened f) e (Ok x) made fails moved left = absurd (cc)
+moved_alike (entry.Opened f) e (Err fault) made fails moved left = ap is_open left
+
+pub placed_alike : {A : Type 0} (there e : FidEntry) (result : Result A FidFault) (made : FidOf Opened → FidOf Opened)
+    → FailsAs result (opened_in (Some there)) → IfOk (opened_in (Some there)) (λ f. e ≡ entry.Opened (made f)) → OnErr result (e ≡ there)
+    → is_open e ≡ is_open there
+placed_alike (entry.Opened f) e result made fails placed left = ap is_open placed
+placed_alike (entry.Walked w) e (Ok x) made fails placed left = absurd (cc)
+placed_alike (entry.Walked w) e (Err fault) made fails placed left = ap is_open left
+
+pub opened_now : {A : Type 0} (there e : FidEntry) (x : A) (made : FidOf Walked → FidOf Opened)
+    → FailsAs {F = FidOf Walked} (Ok x) (walked_in (Some there)) → IfOk (walked_in (Some there)) (λ w. e ≡ entry.Opened (made w))
+    → (is_open there ≡ false) × (is_open e ≡ true)
+opened_now (entry.Walked w) e x made fails opened = (refl, ap is_open opened)
+opened_now (entry.Opened f) e x made fails opened = absurd (cc)

@@ -1,10 +1,10 @@
 -- The numbers of a table's open fids, of which the last is the least.
 use Rattle.std.specs.Prelude.{◌≡◌, ℕ, ◌-◌, ◌<◌, ◌≤◌, ◌==◌, min, Bool, false, List, Option, None}
-use Rattle.std.specs.Prelude.{Some}
+use Rattle.std.specs.Prelude.{Some, length}
 use Rattle.std.specs.FinMap.{get, len}
 use Rattle.std.specs.List.{AllPairs, list_any}
 use Rattle.cs_fids.specs.Entries.{is_open}
-use Rattle.cs_fids.specs.Tables.{FidMap, Fids}
+use Rattle.cs_fids.specs.Tables.{FidMap, Fids, map_of, room_beside}
 use Rattle.cs_fids.specs.declared.entry.FidEntry.{FidEntry}
 
 -- whether the number is one of these
@@ -27,9 +27,9 @@ pub record AreOpens (fids : FidMap) (opens : List ℕ) (capacity : ℕ) : Type 0
   pub descending : IsDescending opens
   pub fits : len fids ≤ capacity
 
--- the table, with room for no more fids than there is memory for open ones
-abbrev pub beside_opens : Fids → ℕ → Fids
-beside_opens table capacity = record {
-  fids = table.fids;
-  room = min table.room (capacity - len table.fids);
+-- the table of these entries, with room for no more fids than there is memory for open ones
+abbrev pub table_of : List (ℕ × FidEntry) → ℕ → ℕ → Fids
+table_of list spare capacity = record {
+  fids = map_of list;
+  room = min (room_beside list spare) (capacity - length list);
 }

@@ -1,4 +1,4 @@
--- A place of a table, with its entry.
+-- The slot of a fid in a table, with its entry.
 use Rattle.std.specs.Prelude.{[], Option, None, Some}
 use Rattle.cs_fids.specs.Fids.{walked_fid}
 use Rattle.cs_fids.specs.declared.entry.FidEntry.{FidEntry}

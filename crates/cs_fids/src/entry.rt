@@ -1,10 +1,10 @@
-//! The entry of a fid number: a fid in one of its states.
+//! What a table has at a fid's number: the fid, in one of its two states.
 ghost use Rattle.std.specs.Prelude.{◌≡◌, option_copied};
 
 use crate::fid::{Fid, Opened, Walked};
 use cs_names::UserName;
 
-/// A fid in one of its states.
+/// A fid in one of its two states.
 #[derive(Debug, Drop)]
 pub enum FidEntry {
     Walked(Fid<Walked>),
@@ -65,7 +65,7 @@ impl FidEntry {
         }
     }
 
-    /// The fid, lent; None if it is open.
+    /// Lends the fid if it isn't open; None if it is.
     pub fn as_walked(&self) -> Option<&Fid<Walked>>
         ensures { option_copied result ≡ as_walked self.now }
     {
@@ -75,7 +75,7 @@ impl FidEntry {
         }
     }
 
-    /// The fid, lent; None if it isn't open.
+    /// Lends the fid if it is open; None if it isn't.
     pub fn as_opened(&self) -> Option<&Fid<Opened>>
         ensures { option_copied result ≡ as_opened self.now }
     {

@@ -1,4 +1,4 @@
-//! Why a table refused a call.
+//! Why a table of fids refused a call.
 ghost use Rattle.std.specs.Prelude.{◌≡◌, Some};
 ghost use Rattle.cs_fids.specs.declared.fault.FidFault.TheVariants.{Memory};
 ghost use Rattle.cs_fids.specs.Faults.{fault_text};
@@ -9,17 +9,17 @@ use std::fmt;
 /// Why a table of fids refused a call.
 #[derive(Clone, Copy, Debug, PartialEq, Eq)]
 pub enum FidFault {
-    /// The table has FIDS fids.
+    /// The table has FIDS fids, so there is room for no other.
     TableFull,
-    /// The table has no fid of that number.
+    /// The table has no fid of this number.
     Unknown,
     /// The fid is open.
     AlreadyOpen,
     /// The fid isn't open.
     NotOpen,
-    /// The table has a fid of that number.
+    /// The table has a fid of this number already.
     InUse,
-    /// Out of memory for one fid more.
+    /// There is no memory for one fid more.
     Memory,
 }
 
@@ -43,6 +43,7 @@ impl std::error::Error for FidFault {}
 impl From<AllocError> for FidFault {
     ghost from_gives = { λ _ fault. fault ≡ Memory };
 
+    /// Memory: only the allocation failed, and it says nothing about the fid.
     fn from(_refused: AllocError) -> FidFault {
         FidFault::Memory
     }

@@ -1,4 +1,4 @@
-//! Fids, whose states are types.
+//! Fids, whose states are types: a call that needs an open fid takes a `Fid<Opened>`.
 ghost use Rattle.std.specs.Prelude.{◌≡◌, IfOk};
 
 use crate::place::Place;
@@ -22,8 +22,9 @@ pub struct Opened {
     pub place: Place,
 }
 
-/// A file of a run for a user, in a state. `run` and `pass` are places at the port, and `number` is
-/// the file's in the run. Contracts see a record of these.
+/// A fid: a file of a run, for a user, in a state. `number` is the file's in the run. `run` and
+/// `pass` are places at the connection's port: of the run, and of the pass by which the user calls
+/// it. Contracts see a record of these.
 #[derive(Debug, Drop)]
 pub struct Fid<S> {
     run: u32,
@@ -90,8 +91,8 @@ impl<S: Drop> Fid<S> {
 impl Fid<Walked> {
     ghost use Rattle.cs_fids.specs.Fids.{moved_to, opened_fid, walked_fid};
 
-    /// A fid of the user for a file that isn't open. `run` and `pass` are places at the port, and
-    /// `number` is the file's in the run.
+    /// A fid of the user that isn't open. `run` and `pass` are places at the port, and `number` is
+    /// that of its file in the run.
     pub fn new(run: u32, pass: u32, number: u64, user: UserName) -> Fid<Walked>
         ensures { result ≡ walked_fid run pass number user }
     {
@@ -104,7 +105,7 @@ impl Fid<Walked> {
         }
     }
 
-    /// The fid, moved to another file of its run as by a walk (walk(5)).
+    /// The same fid, but of another file of its run, as after a walk (walk(5)).
     pub fn moved_to(mut self, number: u64) -> Fid<Walked>
         ensures { result ≡ moved_to self number }
     {
@@ -112,7 +113,8 @@ impl Fid<Walked> {
         self
     }
 
-    /// The fid, open, with the reads of a directory at their start (open(5)).
+    /// Opens the fid (open(5)). `open_number` is the number that its run gave to the open. The
+    /// reads of a directory begin at its start.
     pub fn open(self, mode: u8, open_number: u32) -> Fid<Opened>
         ensures { result ≡ opened_fid self mode open_number }
     {
@@ -129,7 +131,7 @@ impl Fid<Walked> {
         }
     }
 
-    /// A copy of the fid. Only the user's name takes memory.
+    /// Copies the fid. Only the user's name takes memory.
     pub fn try_clone(&self) -> Result<Fid<Walked>, AllocError>
         ensures { IfOk result (λ fid. fid ≡ self.now) }
     {
@@ -167,8 +169,8 @@ impl Fid<Opened> {
         &self.state.place
     }
 
-    /// The fid, with another place at which its reads of a directory continue.
-    pub(crate) fn at_place(mut self, place: Place) -> Fid<Opened>
+    /// The same fid, but its reads of a directory continue at this place.
+    pub(crate) fn with_place(mut self, place: Place) -> Fid<Opened>
         ensures { result ≡ with_place self place }
     {
         self.state.place = place;

@@ -5,7 +5,6 @@
 mod entry;
 mod fault;
 mod fid;
-mod fid_table;
 mod opens;
 mod place;
 mod slot;
@@ -14,5 +13,5 @@ mod table;
 pub use entry::FidEntry;
 pub use fault::FidFault;
 pub use fid::{Fid, NOFID, Opened, Walked};
-pub use fid_table::FidTable;
 pub use place::Place;
+pub use table::FidTable;

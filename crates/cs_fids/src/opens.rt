@@ -4,8 +4,9 @@ ghost use Rattle.std.specs.Prelude.{vec_capacity, vec_len};
 ghost use Rattle.std.specs.List.{AllWithin};
 ghost use Rattle.cs_fids.specs.Opens.{IsDescending, is_among};
 
-/// Adds a number at its place in the order. It takes no memory.
-pub(crate) fn put_in(opens: &mut Vec<u32>, fid: u32)
+/// Adds the number of a fid that was opened, so that the numbers still descend. It takes no memory:
+/// the caller has reserved it.
+pub(crate) fn add_open_fid(opens: &mut Vec<u32>, fid: u32)
     requires descending { IsDescending opens.old.items }
     requires new { is_among fid opens.old.items ≡ false }
     requires room { vec_len opens.old < vec_capacity opens.old }
@@ -14,15 +15,16 @@ pub(crate) fn put_in(opens: &mut Vec<u32>, fid: u32)
     ensures descending { IsDescending opens.new.items }
     ensures capacity { vec_capacity opens.new ≡ vec_capacity opens.old }
 {
-    let place = place_of(opens.as_slice(), fid);
-    match opens.insert(place, fid) {
+    let index = index_of(opens.as_slice(), fid);
+    match opens.insert(index, fid) {
         Ok(()) => {}
         Err(_) => unreachable!(),
     }
 }
 
-/// Removes a number; the rest keep their order.
-pub(crate) fn take_out(opens: &mut Vec<u32>, fid: u32)
+/// Removes the number of a fid that is no longer open. The others keep their order, and the vector
+/// its memory.
+pub(crate) fn remove_open_fid(opens: &mut Vec<u32>, fid: u32)
     requires descending { IsDescending opens.old.items }
     requires there { is_among fid opens.old.items ≡ true }
     ensures among { (n : ℕ)
@@ -30,12 +32,13 @@ pub(crate) fn take_out(opens: &mut Vec<u32>, fid: u32)
     ensures descending { IsDescending opens.new.items }
     ensures capacity { vec_capacity opens.new ≡ vec_capacity opens.old }
 {
-    let place = place_of(opens.as_slice(), fid);
-    opens.remove(place);
+    let index = index_of(opens.as_slice(), fid);
+    opens.remove(index);
 }
 
-/// The place of the first number that isn't greater than `fid`, or the length if all are greater.
-fn place_of(opens: &[u32], fid: u32) -> usize
+/// The index of the first number that isn't greater than `fid`, or the length if all are greater:
+/// the index at which `fid` is, or would be.
+fn index_of(opens: &[u32], fid: u32) -> usize
     requires { IsDescending opens.now }
     ensures within { result ≤ length opens.now }
     ensures greater { AllWithin (λ n. fid < n) opens.now 0 result }

@@ -22,7 +22,7 @@ impl Place {
         Place { end: 0, last: None }
     }
 
-    /// A copy of the place. Only the name takes memory.
+    /// Copies the place. Only the name takes memory.
     pub fn try_clone(&self) -> Result<Place, AllocError>
         ensures { IfOk result (λ place. place ≡ self.now) }
     {

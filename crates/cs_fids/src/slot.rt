@@ -1,4 +1,4 @@
-//! One place of a table, whose entry can be moved out while a call changes it.
+//! The slot of a fid in a table: its entry can be moved out while a call changes it.
 ghost use Rattle.std.specs.Prelude.{◌≡◌, OnErr, IfOk, Some};
 
 use crate::entry::FidEntry;
@@ -6,7 +6,7 @@ use crate::fault::FidFault;
 use crate::place::Place;
 use std::marker::Model;
 
-/// One place of a table. Contracts see its entry, which is missing only while a call changes it.
+/// The slot of a fid. Contracts see its entry, which is missing only while a call changes it.
 #[derive(Debug, Drop)]
 pub(crate) struct Slot {
     entry: Option<FidEntry>,
@@ -29,14 +29,14 @@ impl Slot {
     ghost use Rattle.cs_fids.specs.Fids.{moved_to, opened_fid, with_place};
     ghost use Rattle.cs_fids.specs.Tables.{FailsAs, opened_in, walked_in};
 
-    /// The place with this entry.
+    /// A slot with this entry.
     pub(crate) fn new(entry: FidEntry) -> Slot
         ensures { result ≡ entry }
     {
         Slot { entry: Some(entry) }
     }
 
-    /// The entry, lent.
+    /// Lends the entry.
     pub(crate) fn entry(&self) -> &FidEntry
         ensures { result.now ≡ self.now }
     {
@@ -46,7 +46,7 @@ impl Slot {
         }
     }
 
-    /// The entry, moved out.
+    /// Moves the entry out and drops the slot.
     pub(crate) fn into_entry(self) -> FidEntry
         ensures { result ≡ self }
     {
@@ -56,7 +56,7 @@ impl Slot {
         }
     }
 
-    /// Opens the fid. AlreadyOpen if it is open: it is unchanged.
+    /// Opens the fid. If it is open already, the error is AlreadyOpen and the fid is unchanged.
     pub(crate) fn open(&mut self, mode: u8, open_number: u32) -> Result<(), FidFault>
         ensures faults { FailsAs result (walked_in (Some self.old)) }
         ensures entry { IfOk (walked_in (Some self.old))
@@ -75,7 +75,8 @@ impl Slot {
         answer
     }
 
-    /// Makes the fid one of another file of its run. AlreadyOpen if it is open: it is unchanged.
+    /// Makes the fid one of another file of its run. If it is open, the error is AlreadyOpen and
+    /// the fid is unchanged.
     pub(crate) fn move_to(&mut self, number: u64) -> Result<(), FidFault>
         ensures faults { FailsAs result (walked_in (Some self.old)) }
         ensures entry { IfOk (walked_in (Some self.old))
@@ -91,8 +92,8 @@ impl Slot {
         answer
     }
 
-    /// Sets the place at which the next read of the fid's directory continues. NotOpen if the fid
-    /// isn't open: it is unchanged.
+    /// Sets the place at which the next read of the fid's directory continues. If the fid isn't
+    /// open, the error is NotOpen and the fid is unchanged.
     pub(crate) fn set_place(&mut self, place: Place) -> Result<(), FidFault>
         ensures faults { FailsAs result (opened_in (Some self.old)) }
         ensures entry { IfOk (opened_in (Some self.old))
@@ -100,7 +101,7 @@ impl Slot {
         ensures unchanged { OnErr result (self.new ≡ self.old) }
     {
         let (entry, answer) = match self.entry.take() {
-            Some(FidEntry::Opened(open)) => (FidEntry::Opened(open.at_place(place)), Ok(())),
+            Some(FidEntry::Opened(open)) => (FidEntry::Opened(open.with_place(place)), Ok(())),
             Some(walked) => (walked, Err(FidFault::NotOpen)),
             None => unreachable!(),
         };

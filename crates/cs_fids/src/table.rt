@@ -1,15 +1,16 @@
-//! The fids of a connection by their numbers, in any state.
+//! The fids of a connection, and which of them are open.
 ghost use Rattle.std.specs.Prelude.{◌≡◌, ◌≢◌, ◌+◌, ◌<◌, ◌≤◌, ◌↔◌, IfErr, IfOk, IfSome, IsErr};
 ghost use Rattle.std.specs.Prelude.{IsNone, IsOk, IsOkUnless, IsSome, IsTrue, MatchResult, None};
 ghost use Rattle.std.specs.Prelude.{OnErr, OnOk, option_copied};
 ghost use Rattle.std.specs.FinMap.{empty, insert, len, remove};
 ghost use Rattle.std.specs.Option.{ok_or};
 ghost use Rattle.cs_fids.specs.Fids.{moved_to, opened_fid, with_place};
-ghost use Rattle.cs_fids.specs.Tables.{FailsAs, fid_at, opened_in, walked_in};
+ghost use Rattle.cs_fids.specs.Tables.{FailsAs, fid_at, least_open, opened_in, walked_in};
 
 use crate::entry::FidEntry;
 use crate::fault::FidFault;
 use crate::fid::{Fid, NOFID, Opened, Walked};
+use crate::opens::{add_open_fid, remove_open_fid};
 use crate::place::Place;
 use crate::slot::Slot;
 use cs_names::limits::FIDS;
@@ -18,14 +19,19 @@ use std::alloc::Global;
 use std::marker::Model;
 
 /// The fids of a connection by their numbers: at most FIDS, and never NOFID. Contracts see a finite
-/// map, without an order, and the room for more.
+/// map, without an order, and the room for more. The open fids are also kept as a sorted list, so
+/// that the least is found at once.
 #[derive(Drop)]
-pub(crate) struct Table {
+pub struct FidTable {
     fids: IndexMap<u32, Slot>,
+    // the numbers of the open fids, the least last
+    opens: Vec<u32>,
 }
 
-impl Model for Table {
-    ghost use Rattle.cs_fids.specs.Tables.{AreFids, Fids, fids_code, map_of, room_beside};
+impl Model for FidTable {
+    ghost use Rattle.std.specs.Prelude.{vec_capacity};
+    ghost use Rattle.cs_fids.specs.Opens.{AreOpens, table_of};
+    ghost use Rattle.cs_fids.specs.Tables.{AreFids, Fids, fids_code, map_of};
     ghost use Rattle.indexmap.specs.IndexMap.{spare};
 
     ghost Value = { Fids };
@@ -33,35 +39,34 @@ impl Model for Table {
     ghost coded = { fids_code };
 
     ghost view = { λ table.
-        record {
-          fids = map_of table.fids.entries;
-          room =
-              room_beside table.fids.entries (spare table.fids);
-        } };
+        table_of table.fids.entries (spare table.fids) (vec_capacity table.opens) };
 
-    ghost invariant = { λ table. AreFids table.fids.entries };
+    ghost invariant = { λ table.
+        AreFids table.fids.entries
+        × AreOpens (map_of table.fids.entries) table.opens.items (vec_capacity table.opens) };
 }
 
-impl Table {
+impl FidTable {
     /// A table without fids. It takes no memory.
-    pub(crate) fn new(alloc: Global) -> Table
+    pub fn new(alloc: Global) -> FidTable
         ensures { result.fids ≡ empty }
     {
-        Table {
+        FidTable {
             fids: IndexMap::new(alloc),
+            opens: Vec::new(alloc),
         }
     }
 
-    /// How many fids there are.
-    pub(crate) fn len(&self) -> usize
+    /// The number of fids.
+    pub fn len(&self) -> usize
         ensures value { result ≡ len self.now.fids }
         ensures few { result ≤ FIDS }
     {
         self.fids.len()
     }
 
-    /// The entry of the fid, lent. None if the table has no such fid, and for NOFID.
-    pub(crate) fn look(&self, fid: u32) -> Option<&FidEntry>
+    /// Lends the entry of the fid. None if the table has no such fid, as for NOFID.
+    pub fn look(&self, fid: u32) -> Option<&FidEntry>
         ensures value { option_copied result ≡ fid_at self.now fid }
         ensures nofid { fid ≡ NOFID → IsNone result }
     {
@@ -71,16 +76,26 @@ impl Table {
         }
     }
 
-    /// Whether `put` may add one fid more: there are fewer than FIDS, and its memory is reserved.
-    pub(crate) fn has_room(&self) -> bool
-        ensures { IsTrue result ↔ (0 < self.now.room) }
+    /// The least number of an open fid; None if no fid is open.
+    pub fn least_open(&self) -> Option<u32>
+        ensures least { result ≡ least_open self.now.fids }
+        ensures found { IfSome result (λ fid. IsOk (opened_in (fid_at self.now fid))) }
     {
-        self.fids.len() < FIDS && self.fids.len() < self.fids.capacity()
+        self.opens.last().copied()
     }
 
-    /// Reserves memory for one fid more. TableFull if there are FIDS fids. Memory only if there was
-    /// no room yet. No fid changes, also after an error.
-    pub(crate) fn reserve(&mut self) -> Result<(), FidFault>
+    /// Whether `put` may add one fid more: there are fewer than FIDS, and memory for it is
+    /// reserved.
+    pub fn has_room(&self) -> bool
+        ensures { IsTrue result ↔ (0 < self.now.room) }
+    {
+        let len = self.fids.len();
+        len < FIDS && len < self.fids.capacity() && len < self.opens.capacity()
+    }
+
+    /// Reserves memory for one fid more. The error is TableFull if there are FIDS fids, and else
+    /// Memory, but only if there was no room yet. No fid changes, even after an error.
+    pub fn reserve(&mut self) -> Result<(), FidFault>
         ensures room { OnOk result (0 < self.new.room) }
         ensures full { FIDS ≤ len self.old.fids → result ≡ Err FidFault.TableFull }
         ensures memory { len self.old.fids < FIDS → IsOkUnless result FidFault.Memory }
@@ -92,12 +107,14 @@ impl Table {
             return Err(FidFault::TableFull);
         }
         self.fids.reserve(1)?;
+        let wanted = self.fids.len() + 1;
+        self.opens.reserve(wanted.saturating_sub(self.opens.len()))?;
         Ok(())
     }
 
-    /// Adds the fid with this entry. InUse if the table has that fid: the new entry is returned,
-    /// and the table is unchanged. It takes no memory.
-    pub(crate) fn put(&mut self, fid: u32, entry: FidEntry) -> Result<(), (FidFault, FidEntry)>
+    /// Adds the fid with this entry. If the table has that fid already, the error is InUse, the new
+    /// entry is returned, and the table is unchanged. It takes no memory.
+    pub fn put(&mut self, fid: u32, entry: FidEntry) -> Result<(), (FidFault, FidEntry)>
         requires room { 0 < self.old.room }
         requires named { fid ≢ NOFID }
         ensures in_use { IsErr result ↔ IsSome (fid_at self.old fid) }
@@ -109,15 +126,20 @@ impl Table {
         if self.look(fid).is_some() {
             return Err((FidFault::InUse, entry));
         }
+        let is_open = entry.as_opened().is_some();
         match self.fids.insert(fid, Slot::new(entry)) {
-            Ok(_) => Ok(()),
+            Ok(_) => {}
             Err(_) => unreachable!(),
         }
+        if is_open {
+            add_open_fid(&mut self.opens, fid);
+        }
+        Ok(())
     }
 
-    /// Removes the fid in any state and returns its entry. Unknown if the table has no such fid: it
-    /// is unchanged.
-    pub(crate) fn take_any(&mut self, fid: u32) -> Result<FidEntry, FidFault>
+    /// Removes the fid, open or not, and returns its entry. If the table has no such fid, the error
+    /// is Unknown and the table is unchanged.
+    pub fn take_any(&mut self, fid: u32) -> Result<FidEntry, FidFault>
         ensures value { result ≡ ok_or (fid_at self.old fid) FidFault.Unknown }
         ensures fids { OnOk result (self.new.fids ≡ remove self.old.fids fid) }
         ensures unchanged { OnErr result (self.new ≡ self.old) }
@@ -126,15 +148,19 @@ impl Table {
         if self.look(fid).is_none() {
             return Err(FidFault::Unknown);
         }
-        match self.fids.swap_remove(&fid) {
-            Some(slot) => Ok(slot.into_entry()),
-            None => unreachable!(),
+        let Some(slot) = self.fids.swap_remove(&fid) else {
+            unreachable!();
+        };
+        let entry = slot.into_entry();
+        if entry.as_opened().is_some() {
+            remove_open_fid(&mut self.opens, fid);
         }
+        Ok(entry)
     }
 
-    /// Removes the fid if it isn't open, and returns it. Unknown if the table has no such fid,
-    /// AlreadyOpen if the fid is open: the table is unchanged.
-    pub(crate) fn take_walked(&mut self, fid: u32) -> Result<Fid<Walked>, FidFault>
+    /// Removes the fid if it isn't open, and returns it. The error is Unknown if the table has no
+    /// such fid, AlreadyOpen if the fid is open; then the table is unchanged.
+    pub fn take_walked(&mut self, fid: u32) -> Result<Fid<Walked>, FidFault>
         ensures value { result ≡ walked_in (fid_at self.old fid) }
         ensures fids { OnOk result (self.new.fids ≡ remove self.old.fids fid) }
         ensures unchanged { OnErr result (self.new ≡ self.old) }
@@ -152,8 +178,9 @@ impl Table {
         }
     }
 
-    /// The open fid, lent. Unknown if the table has no such fid, NotOpen if the fid isn't open.
-    pub(crate) fn get_opened(&self, fid: u32) -> Result<&Fid<Opened>, FidFault>
+    /// Lends the fid if it is open. The error is Unknown if the table has no such fid, NotOpen if
+    /// the fid isn't open.
+    pub fn get_opened(&self, fid: u32) -> Result<&Fid<Opened>, FidFault>
         ensures { MatchResult result (λ found. opened_in (fid_at self.now fid) ≡ Ok found.now)
             (λ fault. opened_in (fid_at self.now fid) ≡ Err fault) }
     {
@@ -164,9 +191,9 @@ impl Table {
         }
     }
 
-    /// Opens the fid. Unknown if the table has no such fid, AlreadyOpen if the fid is open: the
-    /// table is unchanged. It takes no memory.
-    pub(crate) fn open(&mut self, fid: u32, mode: u8, open_number: u32) -> Result<(), FidFault>
+    /// Opens the fid. The error is Unknown if the table has no such fid, AlreadyOpen if the fid is
+    /// open; then the table is unchanged. It takes no memory.
+    pub fn open(&mut self, fid: u32, mode: u8, open_number: u32) -> Result<(), FidFault>
         ensures faults { FailsAs result (walked_in (fid_at self.old fid)) }
         ensures fids { IfOk (walked_in (fid_at self.old fid))
             (λ walked. self.new.fids
@@ -177,12 +204,14 @@ impl Table {
         let Some(slot) = self.fids.get_mut(&fid) else {
             return Err(FidFault::Unknown);
         };
-        slot.open(mode, open_number)
+        slot.open(mode, open_number)?;
+        add_open_fid(&mut self.opens, fid);
+        Ok(())
     }
 
-    /// Makes the fid one of another file of its run. Unknown if the table has no such fid,
-    /// AlreadyOpen if the fid is open: the table is unchanged. It takes no memory.
-    pub(crate) fn move_to(&mut self, fid: u32, number: u64) -> Result<(), FidFault>
+    /// Makes the fid one of another file of its run. The error is Unknown if the table has no such
+    /// fid, AlreadyOpen if the fid is open; then the table is unchanged. It takes no memory.
+    pub fn move_to(&mut self, fid: u32, number: u64) -> Result<(), FidFault>
         ensures faults { FailsAs result (walked_in (fid_at self.old fid)) }
         ensures fids { IfOk (walked_in (fid_at self.old fid))
             (λ walked. self.new.fids
@@ -196,10 +225,10 @@ impl Table {
         slot.move_to(number)
     }
 
-    /// Sets the place at which the next read of the open fid's directory continues. Unknown if the
-    /// table has no such fid, NotOpen if the fid isn't open: the table is unchanged. It takes no
-    /// memory.
-    pub(crate) fn set_place(&mut self, fid: u32, place: Place) -> Result<(), FidFault>
+    /// Sets the place at which the next read of the open fid's directory continues. The error is
+    /// Unknown if the table has no such fid, NotOpen if the fid isn't open; then the table is
+    /// unchanged. It takes no memory.
+    pub fn set_place(&mut self, fid: u32, place: Place) -> Result<(), FidFault>
         ensures faults { FailsAs result (opened_in (fid_at self.old fid)) }
         ensures fids { IfOk (opened_in (fid_at self.old fid))
             (λ found. self.new.fids
@@ -214,10 +243,11 @@ impl Table {
     }
 
     /// Removes every fid; the reserved memory stays.
-    pub(crate) fn clear(&mut self)
+    pub fn clear(&mut self)
         ensures fids { self.new.fids ≡ empty }
         ensures room { self.old.room ≤ self.new.room }
     {
         self.fids.clear();
+        self.opens.clear();
     }
 }

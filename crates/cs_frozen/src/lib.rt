@@ -1,5 +1,5 @@
 //! A tree that no longer changes, read as if nothing had ever changed it. It keeps the tree as it
-//! is, and a table of numbers.
+//! is, and two tables that translate its numbers.
 #![tactic(auto)]
 
 mod lower;

@@ -5,7 +5,7 @@ ghost use Rattle.cs_tree_model.specs.Record.{metadata_of_ref};
 ghost use Rattle.cs_tree_model.specs.Tree.{IsTree};
 ghost use Rattle.cs_frozen.specs.Numbers.{fresh_metadata, IsNumbered};
 
-use crate::numbering::table;
+use crate::numbering::number_tables;
 use cs_names::Name;
 use cs_tree_model::{ListedEntry, Metadata, TreeRead};
 use std::alloc::{AllocError, Global};
@@ -39,7 +39,7 @@ impl<T: TreeRead> Model for Lower<T> {
 }
 
 impl<T: TreeRead> Lower<T> {
-    /// The tree with its two tables of numbers.
+    /// Puts the tree and its two tables of numbers together.
     fn of(tree: T, numbers: Vec<u64>, places: Vec<u64>) -> Lower<T>
         requires { IsNumbered (T.tree tree) numbers.items places.items }
         ensures { result ≡ fresh (T.tree tree).files }
@@ -59,7 +59,7 @@ pub fn freeze<T: TreeRead>(alloc: Global, tree: T) -> Result<Lower<T>, (T, Alloc
     ensures ok { IfOk result (λ lower. lower ≡ fresh (T.tree tree).files) }
     ensures err { IfErr result (λ back. back.0 ≡ tree) }
 {
-    match table(alloc, &tree) {
+    match number_tables(alloc, &tree) {
         Ok((numbers, places)) => Ok(Lower::of(tree, numbers, places)),
         Err(error) => Err((tree, error)),
     }
@@ -68,34 +68,37 @@ pub fn freeze<T: TreeRead>(alloc: Global, tree: T) -> Result<Lower<T>, (T, Alloc
 impl<T: TreeRead> TreeRead for Lower<T> {
     ghost tree = { λ t. t };
 
-    /// The tree's record under its number here, never changed: its owner is its last writer.
+    /// The fields of the tree's record, under its number here and as if it had never changed: its
+    /// owner is its last writer. None if no file has the number.
     fn record(&self, number: u64) -> Option<Metadata<'_>> {
         let own = nth(&self.numbers, number)?;
         let metadata = self.tree.record(own)?;
         Some(fresh_metadata(number, metadata))
     }
 
-    /// Looks the name up in the tree, and returns the file's number here.
+    /// Looks the name up in the tree, and returns the file's number here; None if there is none.
     fn find_number(&self, directory: u64, name: &str) -> Option<u64> {
         let own = nth(&self.numbers, directory)?;
         let found = self.tree.find_number(own, name)?;
         nth(&self.places, found)
     }
 
-    /// The number here of the directory that has the file in the tree.
+    /// The number here of the directory that has the file in the tree; None if no file has the
+    /// number.
     fn parent_of(&self, number: u64) -> Option<u64> {
         let own = nth(&self.numbers, number)?;
         let parent = self.tree.parent_of(own)?;
         nth(&self.places, parent)
     }
 
-    /// The name that the tree has for the file.
+    /// The name that the tree has for the file; None for the root, and if no file has the number.
     fn name_of(&self, number: u64) -> Option<&Name> {
         let own = nth(&self.numbers, number)?;
         self.tree.name_of(own)
     }
 
-    /// The tree's next entry, with the file's number here.
+    /// The tree's next entry, with the file's number here; None if the tree has none before the
+    /// bound.
     fn entry_after(
         &self,
         directory: u64,
@@ -111,7 +114,7 @@ impl<T: TreeRead> TreeRead for Lower<T> {
         })
     }
 
-    /// One for each number here; the tree has as many records.
+    /// The number of numbers here, which is that of the tree's records.
     fn count(&self) -> usize {
         self.numbers.len()
     }
@@ -121,7 +124,8 @@ impl<T: TreeRead> TreeRead for Lower<T> {
         self.numbers.len() as u64 - 1
     }
 
-    /// Reads the tree's file, whose bytes are the same.
+    /// Reads the tree's file, whose bytes are the same; None if it is a directory, or no file has
+    /// the number.
     fn read_at(
         &self,
         alloc: Global,
@@ -137,14 +141,15 @@ impl<T: TreeRead> TreeRead for Lower<T> {
     }
 }
 
-/// The number at a place; None past the end.
+/// The number at a place in a table; None past its end.
 fn nth(numbers: &[u64], place: u64) -> Option<u64>
     ensures { result ≡ slice_get numbers.now place }
 {
     numbers.get(place as usize).copied()
 }
 
-/// A file's metadata as if nothing had changed it since it was made: the owner is the last writer.
+/// A file's metadata under this number, as if nothing had changed the file since it was made: the
+/// version and the times are 0, and the owner is the last writer.
 fn fresh_metadata(number: u64, metadata: Metadata<'_>) -> Metadata<'_>
     ensures { metadata_of_ref result ≡ fresh_metadata number (metadata_of_ref metadata.entry) }
 {

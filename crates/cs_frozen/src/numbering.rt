@@ -11,8 +11,13 @@ use cs_tree_model::{TreeRead, path_of};
 use std::alloc::{AllocError, Global};
 use std::collections::BTreeMap;
 
-/// Inserts the number under its path; does nothing if there is no path.
-fn enter(paths: &mut BTreeMap<Path, u64>, path: Option<Path>, number: u64) -> Result<(), AllocError>
+/// Inserts the number under its path. A number whose file was removed has no path, and nothing is
+/// inserted.
+fn insert_if_some(
+    paths: &mut BTreeMap<Path, u64>,
+    path: Option<Path>,
+    number: u64,
+) -> Result<(), AllocError>
     ensures { OnOk result
         ((q : List NameBytes)
         → get path_cmp paths.new q
@@ -25,7 +30,8 @@ fn enter(paths: &mut BTreeMap<Path, u64>, path: Option<Path>, number: u64) -> Re
     Ok(())
 }
 
-/// The numbers of a tree's files by their paths. `end` is above every number of a file.
+/// The numbers of a tree's files by their paths. It tries each number below `end`, which is above
+/// all of them.
 fn numbers_by_path<T: TreeRead>(
     alloc: Global,
     tree: &T,
@@ -39,12 +45,12 @@ fn numbers_by_path<T: TreeRead>(
     let mut paths = BTreeMap::new(alloc);
     for number in 0..end {
         let path = path_of(alloc, tree, number)?;
-        enter(&mut paths, path, number)?;
+        insert_if_some(&mut paths, path, number)?;
     }
     Ok(paths)
 }
 
-/// The numbers in the order of their paths. Memory is reserved for `count` of them.
+/// The numbers in the order of their paths. It reserves memory for `count` of them at once.
 fn numbers_in_order(
     alloc: Global,
     paths: &BTreeMap<Path, u64>,
@@ -60,8 +66,8 @@ fn numbers_in_order(
     Ok(numbers)
 }
 
-/// A table that has, at each of the numbers, that number's place in `numbers`; `end` is above all
-/// of them. Places that belong to none of the numbers are 0.
+/// A table of `end` places. At a place n it has the place of the number n in `numbers`, or 0 if n
+/// isn't there. The numbers are all different and below `end`.
 fn places_of(alloc: Global, numbers: &[u64], end: u64) -> Result<Vec<u64>, AllocError>
     requires below { (i : ℕ) (n : ℕ) → slice_get numbers.now i ≡ Some n → n < end }
     requires apart { (i : ℕ) (j : ℕ) (n : ℕ) → slice_get numbers.now i ≡ Some n
@@ -77,9 +83,13 @@ fn places_of(alloc: Global, numbers: &[u64], end: u64) -> Result<Vec<u64>, Alloc
     Ok(places)
 }
 
-/// The tree's number at each fresh number, and the fresh number at each of the tree's. Also out of
-/// memory if the tree has given every u64.
-pub fn table<T: TreeRead>(alloc: Global, tree: &T) -> Result<(Vec<u64>, Vec<u64>), AllocError>
+/// Two tables: the tree's number at each fresh number, and the fresh number at each of the tree's.
+/// The error also means that the tree has given every u64, so that the second table would be larger
+/// than any memory.
+pub fn number_tables<T: TreeRead>(
+    alloc: Global,
+    tree: &T,
+) -> Result<(Vec<u64>, Vec<u64>), AllocError>
     ensures { IfOk result (λ table. IsNumbered (T.tree tree.now) table.0.items table.1.items) }
 {
     let count = tree.count();

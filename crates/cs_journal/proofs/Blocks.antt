@@ -29,11 +29,11 @@ grown : (old new : List (List ℕ)) (more : ℕ → List ℕ) → length old ≤
     → ((n : ℕ) → n < length old → get_or new n [] ≡ get_or old n [] ++ more n) → Keeps old new
 grown old new more many front = record {
   within = λ p w.
-      let longer : length (get_or new p.block []) ≡ length (get_or old p.block []) + length (more p.block) =
-      ap length (front p.block w.block) ∙ length-append (get_or old p.block []) (more p.block) in
+      let longer : length (get_or new p.block_index []) ≡ length (get_or old p.block_index []) + length (more p.block_index) =
+      ap length (front p.block_index w.block) ∙ length-append (get_or old p.block_index []) (more p.block_index) in
       record { block = omega (arith, many, w.block); bytes = omega (arith, w.bytes, longer) };
-  same = λ p w. ap (λ (bs : List ℕ). take p.len (drop p.start bs)) (front p.block w.block) ∙ in_front (get_or old p.block []) (more p.block)
-      p.start p.len w.bytes;
+  same = λ p w. ap (λ (bs : List ℕ). take p.len (drop p.start bs)) (front p.block_index w.block) ∙
+      in_front (get_or old p.block_index []) (more p.block_index) p.start p.len w.bytes;
 }
 
 got_more : (old : List (List ℕ)) (i : ℕ) (more : List ℕ) (n : ℕ) (b : Bool) → i < length old → (n == i) ≡ b
@@ -65,15 +65,15 @@ module _ (blocks : List Block) (i : ℕ) (b b' : Block) (more : List ℕ) (withi
       subst (λ (bs : List (List ℕ)). Keeps (bytes_in blocks) bs) (sym new)
       (keeps_more (bytes_in blocks) i more (omega (arith, within, length-map blocks (λ (v : Block). v.items))))
 
-  module _ (p : Piece) (block : p.block ≡ i) (start : p.start ≡ length (get_or blocks i b).items) (len : p.len ≡ length more) where
-    got_put : get_or (bytes_in (set blocks i b')) p.block [] ≡ (get_or blocks i b).items ++ more
+  module _ (p : Piece) (block : p.block_index ≡ i) (start : p.start ≡ length (get_or blocks i b).items) (len : p.len ≡ length more) where
+    got_put : get_or (bytes_in (set blocks i b')) p.block_index [] ≡ (get_or blocks i b).items ++ more
     got_put =
         ap (λ n. get_or (bytes_in (set blocks i b')) n []) block ∙ get_or-map (λ (v : Block). v.items) (set blocks i b') i b' []
         (omega (arith, within, length-set blocks i b')) ∙ ap (λ (v : Block). v.items) (get_or-set_same blocks i b' b' within) ∙ is
 
     pub within_put : IsWithin (bytes_in (set blocks i b')) p
     within_put =
-        let long : length (get_or (bytes_in (set blocks i b')) p.block []) ≡ length (get_or blocks i b).items + length more =
+        let long : length (get_or (bytes_in (set blocks i b')) p.block_index []) ≡ length (get_or blocks i b).items + length more =
         ap length got_put ∙ length-append (get_or blocks i b).items more in
         record {
           block = omega (arith, block, within, length-map (set blocks i b') (λ (v : Block). v.items), length-set blocks i b');

@@ -10,12 +10,12 @@ bytes_in blocks = map (λ b. b.items) blocks
 
 -- the bytes of a piece
 abbrev pub bytes_at : List (List ℕ) → Piece → List ℕ
-bytes_at blocks p = take p.len (drop p.start (slice_index_or blocks p.block []))
+bytes_at blocks p = take p.len (drop p.start (slice_index_or blocks p.block_index []))
 
 -- a piece is within its block
 pub record IsWithin (blocks : List (List ℕ)) (p : Piece) : Type 0 where
-  pub block : p.block < length blocks
-  pub bytes : p.start + p.len ≤ length (slice_index_or blocks p.block [])
+  pub block : p.block_index < length blocks
+  pub bytes : p.start + p.len ≤ length (slice_index_or blocks p.block_index [])
 
 -- each piece that was in the old blocks is in the new ones, with the same bytes
 pub record Keeps (old new : List (List ℕ)) : Type 0 where

@@ -56,7 +56,8 @@ fn receipts_of(passes: &[Pass], number: u32) -> &[Receipt]
     &[]
 }
 
-/// The receipts of the first pass of each number that a run gives.
+/// For each number that a run gives to a pass, the receipts of the first pass of that number; none
+/// if no pass has it.
 fn receipts_by_number(passes: &[Pass]) -> [&[Receipt]; PASSES]
     ensures rests { AreRests (λ rest. rest.now) passes.now result 0 }
     ensures many { length result ≡ RUN_ATTACHES }
@@ -68,7 +69,7 @@ fn receipts_by_number(passes: &[Pass]) -> [&[Receipt]; PASSES]
     all
 }
 
-/// The receipts from the first on whose place is this one or a later one.
+/// The receipts whose place is this one or a later one: the end of the list, perhaps none.
 fn from_place(receipts: &[Receipt], place: u32) -> &[Receipt]
     requires { IsAscending receipts.now }
     ensures same { FindSame place result.now receipts.now }
@@ -83,7 +84,7 @@ fn from_place(receipts: &[Receipt], place: u32) -> &[Receipt]
     &[]
 }
 
-/// The first of the receipts, if it has that place.
+/// The first of the receipts, if it has that place. None if it has another or there are none.
 fn first_at(receipts: &[Receipt], place: u32) -> Option<&Receipt>
     requires ascending { IsAscending receipts.now }
     requires from { IfSome (slice_get receipts.now 0) (λ r. place ≤ r.place) }
@@ -97,8 +98,8 @@ fn first_at(receipts: &[Receipt], place: u32) -> Option<&Receipt>
     }
 }
 
-/// Ok if the receipt that was found for an entry's place is the entry's own; otherwise what is
-/// wrong.
+/// Ok if `receipt`, the one found for the entry's place, is the entry's own; Missing if none was
+/// found, else Changed.
 fn audit_entry(receipt: Option<&Receipt>, place: u32, entry: &EntryRef) -> Result<(), AuditFault>
     ensures { TellsOf (option_map (λ r. r.now) receipt.entry) place entry.now result }
 {
@@ -132,7 +133,7 @@ fn audit_entries(journal: &Journal, passes: &[Pass]) -> Result<(), AuditFault>
     Ok(())
 }
 
-/// Checks the number of receipts first (Count), and then each entry.
+/// Checks first that there are as many receipts as entries (Count if not), and then each entry.
 fn audit_journal(journal: &Journal, passes: &[Pass]) -> Result<(), AuditFault>
     requires { length journal.now.items ≤ JOURNAL_ENTRIES }
     ensures { Audits passes.now journal.now.items result }

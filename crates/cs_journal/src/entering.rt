@@ -10,7 +10,8 @@ use crate::kept::KeptCall;
 use crate::receipt::Receipt;
 use cs_run::{Outcome, Turn};
 
-/// Adds the entry of a call in that turn, and its receipt, into the room that both lists have.
+/// Adds the entry and the receipt of a call that had that turn and outcome, into the room that both
+/// lists have. `entry` and `receipt` are what they keep of the call.
 #[inline]
 pub(crate) fn enter(
     journal: &mut Journal,

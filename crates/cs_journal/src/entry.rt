@@ -43,7 +43,7 @@ impl<'a> EntryRef<'a> {
     ghost use Rattle.cs_journal.specs.Kept.{again_call};
     ghost use Rattle.cs_journal.specs.Summaries.{call_in, without_bytes};
 
-    /// The number of its pass.
+    /// The number of the pass under which its call came.
     pub(crate) fn pass(&self) -> usize
         ensures value { result ≡ self.now.pass }
         ensures few { result < RUN_ATTACHES }
@@ -51,7 +51,8 @@ impl<'a> EntryRef<'a> {
         self.entry.pass as usize
     }
 
-    /// The turn of its call, at that place.
+    /// The turn of its call. `place` is the entry's place in its journal, which an entry doesn't
+    /// store.
     pub(crate) fn turn(&self, place: u32) -> Turn
         ensures { result ≡ record {
           moment = self.now.moment;
@@ -80,7 +81,7 @@ impl<'a> EntryRef<'a> {
         self.entry.kept.summary()
     }
 
-    /// Its call, to be done again.
+    /// Its call, to be done again, with the bytes that it writes.
     pub(crate) fn again(&self, alloc: Global) -> Result<CallAgain<'a>, AllocError>
         ensures { IfOk result (λ again. again_call again ≡ self.now.call) }
     {

@@ -60,7 +60,8 @@ impl Journal {
         self.entries.len()
     }
 
-    /// Makes room for `more` entries, or for a whole journal if this one is long.
+    /// Makes room for `more` entries, or for a whole journal if this one is long. An error leaves
+    /// the entries as they are.
     #[inline]
     pub(crate) fn widen(&mut self, more: usize) -> Result<(), AllocError>
         ensures items { self.new.items ≡ self.old.items }
@@ -71,7 +72,8 @@ impl Journal {
         widen(&mut self.entries, more)
     }
 
-    /// Stores the bytes of a write, and returns what its entry and its receipt keep of it.
+    /// Stores the bytes of a write, and returns what its entry and its receipt keep of it, in this
+    /// order. It adds no entry; an error leaves the entries as they are.
     pub(crate) fn keep_write(
         &mut self,
         alloc: Global,
@@ -88,7 +90,7 @@ impl Journal {
         };
         let head = Arc::new(alloc, head)?;
         let shared = head.clone()?;
-        let piece = self.written.keep(alloc, call.bytes.as_slice())?;
+        let piece = self.written.push_bytes(alloc, call.bytes.as_slice())?;
         let entry = KeptCall::Write { piece, head };
         let receipt = KeptCall::Write {
             piece,
@@ -97,7 +99,7 @@ impl Journal {
         Ok((entry, receipt))
     }
 
-    /// Adds an entry into the room that `widen` made.
+    /// Adds an entry into the room that `widen` made. The bytes of its call are stored already.
     #[inline]
     pub(crate) fn push(&mut self, entry: Entry)
         requires room { length self.old.items < self.old.capacity }
@@ -110,7 +112,7 @@ impl Journal {
         self.entries.push_reserved(entry);
     }
 
-    /// The entry at that place.
+    /// The entry at that place, with the bytes that its call wrote.
     pub(crate) fn entry(&self, place: usize) -> EntryRef<'_>
         requires { place < length self.now.items }
         ensures { slice_get self.now.items place ≡ Some result }

@@ -30,8 +30,8 @@ pub(crate) fn is_write(call: &Call<'_>) -> bool
     }
 }
 
-/// The call in an Arc that its entry and its receipt share. It isn't a write, so it borrows no
-/// bytes.
+/// The call in an Arc, for its entry and its receipt to share. The call isn't a write, so it
+/// borrows no bytes.
 pub(crate) fn share(alloc: Global, call: Call<'_>) -> Result<Arc<Call<'static>>, AllocError>
     requires { is_write call ≡ false }
     ensures { IfOk result (λ shared. arc_value shared ≡ call.entry) }
@@ -51,8 +51,9 @@ pub(crate) fn share(alloc: Global, call: Call<'_>) -> Result<Arc<Call<'static>>,
     Ok(Arc::new(alloc, whole)?)
 }
 
-/// What the entry and the receipt of a call keep: the Arc if the call is shared, the stored bytes
-/// of a write, or a small call itself, for which memory can't run out.
+/// What the entry and the receipt of a call keep, in this order: the Arc if `shared` has one, the
+/// stored bytes of a write, or a small call itself, for which memory can't run out. An error takes
+/// no blank text, and leaves the journal's entries as they are.
 #[inline]
 pub(crate) fn keep_call(
     alloc: Global,
@@ -79,8 +80,8 @@ pub(crate) fn keep_call(
     match call {
         Call::Write(call) => journal.keep_write(alloc, call),
         _ => {
-            let entry = KeptCall::small(call, blanks);
-            Ok((entry, KeptCall::small(call, blanks)))
+            let entry = KeptCall::of_small(call, blanks);
+            Ok((entry, KeptCall::of_small(call, blanks)))
         }
     }
 }

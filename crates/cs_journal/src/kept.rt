@@ -68,9 +68,9 @@ impl KeptCall {
     ghost use Rattle.cs_journal.specs.Kept.{LiesIn, again_call, call_of};
     ghost use Rattle.cs_journal.specs.Summaries.{call_in, without_bytes};
 
-    /// What an entry or a receipt keeps of a small call. The user of a close or a remove is put on
-    /// the last of the blank texts, which it uses up.
-    pub(crate) fn small(call: &Call<'_>, blanks: &mut Vec<Box<UserText>>) -> KeptCall
+    /// What an entry or a receipt keeps of a small call (`is_small`). The user of a close or a
+    /// remove is written into the last of the blank texts, which it takes; other calls take none.
+    pub(crate) fn of_small(call: &Call<'_>, blanks: &mut Vec<Box<UserText>>) -> KeptCall
         requires small { is_small call.now ≡ true }
         requires blank { 1 ≤ vec_len blanks.old }
         ensures value { (blocks : List (List ℕ)) → call_of blocks result ≡ call.now }
@@ -98,7 +98,8 @@ impl KeptCall {
         }
     }
 
-    /// The call, to be done again. A write's bytes are borrowed.
+    /// The call, to be done again. A write's bytes are borrowed from `written`, and a shared call
+    /// from this.
     pub(crate) fn again<'a>(
         &'a self,
         alloc: Global,
@@ -109,7 +110,7 @@ impl KeptCall {
     {
         match self {
             KeptCall::Shared(call) => Ok(CallAgain::Shared(call)),
-            KeptCall::Write { piece, head } => write_again(alloc, head, written.piece(*piece)),
+            KeptCall::Write { piece, head } => write_again(alloc, head, written.bytes_of(*piece)),
             KeptCall::Close { open_number, user } => close_again(alloc, *open_number, user),
             KeptCall::Remove { number, user } => remove_again(alloc, *number, user, None),
             KeptCall::RemoveOpen {
@@ -160,7 +161,7 @@ impl KeptCall {
     }
 }
 
-/// A user's name on the last of the blank texts, which it uses up.
+/// A user's name, written into the last of the blank texts, which it takes from them.
 fn text_of(blanks: &mut Vec<Box<UserText>>, user: &UserName) -> Box<UserText>
     requires { 1 ≤ vec_len blanks.old }
     ensures value { result.value ≡ user.now }
@@ -175,7 +176,7 @@ fn text_of(blanks: &mut Vec<Box<UserText>>, user: &UserName) -> Box<UserText>
     }
 }
 
-/// The close that is kept by this number and user.
+/// The close that was kept as this open's number and this user.
 fn close_again(
     alloc: Global,
     open_number: u32,
@@ -187,7 +188,8 @@ fn close_again(
     Ok(CallAgain::Own(Call::Close(CloseCall { open_number, user })))
 }
 
-/// The remove that is kept by this number, user and open, if its fid was open.
+/// The remove that was kept as this file's number, this user, and the number of the open that it
+/// ends (None if its fid isn't open).
 fn remove_again(
     alloc: Global,
     number: u64,
@@ -204,7 +206,7 @@ fn remove_again(
     })))
 }
 
-/// The write that is kept by this head, with these bytes.
+/// The write that was kept as this head and these bytes.
 fn write_again<'a>(
     alloc: Global,
     head: &WriteHead,
@@ -220,7 +222,7 @@ fn write_again<'a>(
     })))
 }
 
-/// The read that is kept by these numbers; its place is the start.
+/// The read that was kept as these numbers; its place in a directory is the start.
 fn read_again(number: u64, offset: u64, count: u32) -> Call<'static>
     ensures { result ≡ read_call number offset count }
 {
@@ -232,7 +234,7 @@ fn read_again(number: u64, offset: u64, count: u32) -> Call<'static>
     })
 }
 
-/// What is kept of a remove.
+/// What is kept of a remove. `user` has the name of its user already.
 fn kept_remove(call: &RemoveCall, user: Box<UserText>) -> KeptCall
     requires { user.value ≡ call.now.user }
     ensures value { (blocks : List (List ℕ)) → call_of blocks result ≡ Remove call.now }
@@ -258,7 +260,8 @@ fn is_start(place: &Place) -> bool
     place.end == 0 && place.last.is_none()
 }
 
-/// Whether an entry can keep the call without allocating.
+/// Whether an entry can keep the call in memory that was allocated before: a close, a remove, a
+/// stat, or a read whose place is the start, as that of every read of a file is.
 pub(crate) fn is_small(call: &Call<'_>) -> bool
     ensures { result ≡ is_small call.now }
 {

@@ -1,5 +1,6 @@
 //! Runs with journals: a working copy of a tree that several clients change together, with an entry
-//! for every call.
+//! for every call. What a call does to the tree is in cs_run; the lock around a run is in
+//! cs_shared_runs.
 #![tactic(auto)]
 
 mod auditing;

@@ -10,8 +10,8 @@ use crate::receipt::Receipt;
 use crate::run::Run;
 use cs_tree_model::TreeRead;
 
-/// Whether the last receipt is that of the entry at this place; without such an entry, whether
-/// there is no receipt.
+/// Whether the last receipt is that of the entry at the place `last`. If there is no such entry,
+/// whether there are no receipts.
 fn is_last(receipts: &[Receipt], journal: &Journal, last: Option<u32>) -> bool
     ensures { IsTrue result ↔ (last_of receipts.now ≡ receipt_at journal.now.items last) }
 {
@@ -28,9 +28,9 @@ fn is_last(receipts: &[Receipt], journal: &Journal, last: Option<u32>) -> bool
     }
 }
 
-/// Whether the run's counts of a pass are this pass's, and its last receipt is of the last entry
-/// counted.
-fn tallies(counts: &PassCounts, journal: &Journal, pass: &Pass) -> bool
+/// Whether what a run counts of a pass fits this pass: it has as many receipts and as many reserved
+/// places, and its last receipt is that of the last entry counted.
+fn are_counts_of(counts: &PassCounts, journal: &Journal, pass: &Pass) -> bool
     ensures { IsTrue result ↔ Tallies counts.now journal.now.items pass.now }
 {
     if counts.entries != pass.receipts.len() {
@@ -49,7 +49,7 @@ impl<L: TreeRead + Drop> Run<L> {
         ensures { IsTrue result ↔ Fits self.now pass.now }
     {
         match self.passes.get(pass.number as usize) {
-            Some(counts) => tallies(counts, &self.journal, pass),
+            Some(counts) => are_counts_of(counts, &self.journal, pass),
             None => false,
         }
     }

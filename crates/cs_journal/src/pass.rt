@@ -34,14 +34,14 @@ impl Model for Pass {
 }
 
 impl Pass {
-    /// Its number among the passes of its run, from 0.
+    /// The pass's number among those of its run, from 0.
     pub fn number(&self) -> u32
         ensures { result ≡ self.now.number }
     {
         self.number
     }
 
-    /// The receipts of its entries, in order.
+    /// The receipts of the pass's entries, in the order of the journal.
     pub fn receipts(&self) -> &[Receipt]
         ensures value { result.now ≡ self.now.receipts }
         ensures ascending { IsAscending self.now.receipts }
@@ -49,7 +49,7 @@ impl Pass {
         self.receipts.as_slice()
     }
 
-    /// For how many opens a place is reserved for the receipt of the close.
+    /// How many places are reserved for receipts of closes to come.
     pub fn reserved(&self) -> usize
         ensures { result ≡ self.now.reserved }
     {

@@ -40,7 +40,7 @@ fn is_same_rule(rule: RuleId, other: RuleId) -> bool
     rule == other
 }
 
-/// Whether two calls ended the same way.
+/// Whether both outcomes are the same; for denials, whether by the same rule.
 fn is_same_end(outcome: Outcome, other: Outcome) -> bool
     ensures { IsTrue result ↔ (outcome ≡ other) }
 {
@@ -69,14 +69,15 @@ impl Receipt {
         self.outcome
     }
 
-    /// Whether its call is this one, except for the bytes that they write.
+    /// Whether its call is this one. The bytes of two writes aren't compared.
     pub fn is_for(&self, call: &Call<'_>) -> bool
         ensures { IsTrue result ↔ (self.now.call ≡ without_bytes call.now) }
     {
         are_same(self.kept.summary(), summary_of(call))
     }
 
-    /// Whether this is the receipt of the entry at that place: same place, call and outcome.
+    /// Whether this is the receipt of that entry, whose place is `place`: it has the same place,
+    /// call and outcome. The bytes of two writes aren't compared.
     pub(crate) fn is_of(&self, place: u32, entry: &EntryRef) -> bool
         ensures { IsTrue result ↔ (self.now ≡ receipt_of place entry.now) }
     {

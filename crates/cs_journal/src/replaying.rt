@@ -25,7 +25,7 @@ use cs_users::Users;
 use std::alloc::{AllocError, Global};
 use std::sync::Arc;
 
-/// Releases the open that the call ends, if there is one.
+/// Releases the open that the call ends, if it ends one and that is there.
 fn release(call: &Call<'_>, opens: &mut Opens, pass: u32)
     ensures { opens.new.items
         ≡ opens_without_if (closed_open_number call.now) pass opens.old.items }
@@ -35,8 +35,8 @@ fn release(call: &Call<'_>, opens: &mut Opens, pass: u32)
     }
 }
 
-/// Does a call that was granted. No rule denies it again: for an outcome other than Granted there
-/// can only be too little memory.
+/// Does a call that was granted before. No rule denies it now either, so any outcome other than
+/// Granted means that memory ran out.
 fn grant_again<T: TreeStore>(
     alloc: Global,
     call: &Call<'_>,
@@ -58,7 +58,8 @@ fn grant_again<T: TreeStore>(
     }
 }
 
-/// Does a call again, with the outcome that it had.
+/// Does a call again, with the outcome that it had. A call that was denied or ran out of memory
+/// only releases the open that it ends.
 fn redo<T: TreeStore>(
     alloc: Global,
     call: &Call<'_>,
@@ -110,7 +111,7 @@ fn redo_entry<T: TreeStore>(
     }
 }
 
-/// The answer to the call of the entry at that place, or None past the end.
+/// As `Run::answer_at`, for a run's journal, its users, and `lower`, the tree with which it began.
 fn answer_of<L: TreeRead + Drop>(
     alloc: Global,
     lower: &Arc<L>,

@@ -20,7 +20,7 @@ use cs_run::opens::Opens;
 use std::alloc::{AllocError, Global};
 use std::sync::Arc;
 
-/// A list of at least so many elements is long.
+/// A list of at least this many elements is long.
 const LONG: usize = 1_024;
 
 /// Whether a granted call of this kind adds an open.
@@ -40,8 +40,8 @@ fn opens_one(call: &Call<'_>) -> bool
     }
 }
 
-/// How many entries a call takes that are not reserved: its own, and of an open or a create also
-/// that of the close; none if it ends an open that is there.
+/// How many entries a call takes that aren't reserved: 0 if it ends an open that is there, whose
+/// close had one reserved; 2 for an open or a create, one of them for the close; else 1.
 pub(crate) fn charge_of(call: &Call<'_>, opens: &Opens, pass: u32) -> usize
     ensures value { result ≡ charge opens.now.items pass call.now }
     ensures few { result ≤ 2 }
@@ -54,7 +54,8 @@ pub(crate) fn charge_of(call: &Call<'_>, opens: &Opens, pass: u32) -> usize
     if opens_one(call) { 2 } else { 1 }
 }
 
-/// Allocates blank texts until there are `count`. Those that it made stay if memory runs out.
+/// Allocates blank texts until there are at least `count`. If memory runs out, those that it made
+/// stay.
 #[inline]
 fn fill_blanks(
     alloc: Global,
@@ -73,7 +74,7 @@ fn fill_blanks(
 
 /// Makes room for `more` elements in a list that has too little. A long list gets room for a whole
 /// journal at once, if there is memory, so that it isn't copied again: the operating system
-/// provides no page for the unused part.
+/// provides no page for the unused part. An error leaves the elements as they are.
 #[inline(never)]
 fn grow<T>(list: &mut Vec<T>, more: usize) -> Result<(), AllocError>
     ensures items { (list.new.items ≡ list.old.items) × (vec_len list.new ≡ vec_len list.old) }
@@ -88,7 +89,8 @@ fn grow<T>(list: &mut Vec<T>, more: usize) -> Result<(), AllocError>
     list.reserve(more)
 }
 
-/// Makes room for `more` elements, if the list has too little.
+/// Makes room for `more` elements, if the list has too little. An error leaves the elements as they
+/// are.
 #[inline]
 pub(crate) fn widen<T>(list: &mut Vec<T>, more: usize) -> Result<(), AllocError>
     ensures items { (list.new.items ≡ list.old.items) × (vec_len list.new ≡ vec_len list.old) }

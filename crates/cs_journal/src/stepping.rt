@@ -26,9 +26,10 @@ use std::sync::Arc;
 
 impl<L: TreeRead + Drop> Run<L> {
     /// Does a call under a pass at that moment (in seconds). Denied by L1 if the journal has no
-    /// room for its entry and, of an open or a create, for that of the close; Short if memory for
-    /// entry and receipt runs out; nothing changes then. Otherwise the journal has one more entry,
-    /// whose outcome follows from the run's rules and memory, and the pass has its receipt.
+    /// room for its entry and, for an open or a create, for that of the close. Short if memory for
+    /// entry and receipt runs out. In both cases nothing changes. Otherwise the journal has one
+    /// more entry, whose outcome follows from the run's rules and memory, and the pass has its
+    /// receipt.
     pub fn step(&mut self, alloc: Global, pass: &mut Pass, now: u32, call: Call<'_>) -> Answer
         requires fits { Fits self.old pass.old }
         ensures stepped { (mark : StepMark)
@@ -42,7 +43,7 @@ impl<L: TreeRead + Drop> Run<L> {
             → result ≡ Answer.Closed }
         ensures answer { FitsCall call.entry result }
     {
-        let Some(charged) = self.charge(pass, &call) else {
+        let Some(charged) = self.charge_if_room(pass, &call) else {
             return Answer::Denied(RuleId::L1);
         };
         // borrowed here, since moving a call would take much of a step's time
@@ -58,7 +59,7 @@ impl<L: TreeRead + Drop> Run<L> {
 
     /// How many entries the call takes that are not reserved; None if the journal has no room for
     /// them.
-    fn charge(&self, pass: &Pass, call: &Call<'_>) -> Option<usize>
+    fn charge_if_room(&self, pass: &Pass, call: &Call<'_>) -> Option<usize>
         ensures full { IsNone result → is_full (state_of self.now) pass.now.number call.now ≡ true }
         ensures room { IsSome result → is_full (state_of self.now) pass.now.number call.now
             ≡ false }
@@ -77,8 +78,9 @@ impl<L: TreeRead + Drop> Run<L> {
         Some(charge)
     }
 
-    /// Does a call for which the journal has room for `charged` more entries. `shared` is the call
-    /// in the Arc that its entry and its receipt share; None if they keep it otherwise.
+    /// Does a call as `step` does, after it was found that the journal has room for the `charged`
+    /// more entries that the call takes. `shared` is the call in the Arc that its entry and its
+    /// receipt share; None if the call is small or a write.
     fn make_call(
         &mut self,
         alloc: Global,

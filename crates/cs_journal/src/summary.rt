@@ -22,7 +22,7 @@ pub(crate) enum CallSummary<'a> {
     Wstat(u64, &'a [u8], &'a Stat),
 }
 
-/// The call without the bytes that it writes.
+/// The call's fields, borrowed, without the bytes that it writes.
 pub(crate) fn summary_of<'a>(call: &'a Call<'_>) -> CallSummary<'a>
     ensures { call_in result ≡ without_bytes call.now }
 {
@@ -60,14 +60,14 @@ pub(crate) fn summary_of<'a>(call: &'a Call<'_>) -> CallSummary<'a>
     }
 }
 
-/// Whether the texts are the same, one for one.
+/// Whether both lists have the same texts in the same order.
 fn are_same_texts(texts: &[String], others: &[String]) -> bool
     ensures { IsTrue result ↔ (map string_bytes texts.now ≡ map string_bytes others.now) }
 {
     texts == others
 }
 
-/// Whether the fields of two stats are the same.
+/// Whether all fields of two stats are the same.
 fn is_same_stat(stat: &Stat, other: &Stat) -> bool
     ensures { IsTrue result ↔ (sent_of stat.now ≡ sent_of other.now) }
 {
@@ -84,7 +84,7 @@ fn is_same_stat(stat: &Stat, other: &Stat) -> bool
         && stat.muid == other.muid
 }
 
-/// Whether two reads continue after the same name.
+/// Whether two reads of directories continue after the same name, or both from the first entry.
 fn is_same_last(name: Option<&Name>, other: Option<&Name>) -> bool
     ensures { IsTrue result ↔ (option_map (λ n. n.now) name.entry
         ≡ option_map (λ n. n.now) other.entry) }
@@ -96,7 +96,7 @@ fn is_same_last(name: Option<&Name>, other: Option<&Name>) -> bool
     }
 }
 
-/// Whether both are the same call.
+/// Whether both are the same call: of the same kind, with the same fields.
 pub(crate) fn are_same(call: CallSummary, other: CallSummary) -> bool
     ensures { IsTrue result ↔ (call_in call.entry ≡ call_in other.entry) }
 {

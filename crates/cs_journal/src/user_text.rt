@@ -25,7 +25,7 @@ impl Model for UserText {
 }
 
 impl UserText {
-    /// An empty text, to be filled later.
+    /// An empty text, to be replaced by a name's text later.
     pub(crate) fn blank() -> UserText {
         UserText {
             bytes: [0; USER_NAME_BYTES],
@@ -46,7 +46,8 @@ impl UserText {
         }
     }
 
-    /// The name as an owned UserName. It was one before, so only memory can run out.
+    /// The name as an owned UserName. It is asked of a text made by `of`, so the bytes are a name's
+    /// and an error means that memory ran out.
     pub(crate) fn name(&self, alloc: Global) -> Result<UserName, AllocError>
         ensures { IfOk result (λ name. name ≡ self.now) }
     {
@@ -56,7 +57,7 @@ impl UserText {
         }
     }
 
-    /// The bytes of the name.
+    /// The bytes of the name; empty for a blank text.
     pub(crate) fn as_bytes(&self) -> &[u8]
         ensures { result.now ≡ self.now }
     {

@@ -14,10 +14,10 @@ const LARGE_BLOCK: usize = 1_048_576;
 /// How many blocks are small, so that a run with few writes uses little memory.
 const SMALL_BLOCKS: usize = 4;
 
-/// The place of the bytes of a write: all in one block.
+/// The place of the bytes of a write: all are in the block of that index, from `start` on.
 #[derive(Clone, Copy)]
 pub(crate) struct Piece {
-    pub(crate) block: u32,
+    pub(crate) block_index: u32,
     pub(crate) start: u32,
     pub(crate) len: u32,
 }
@@ -48,8 +48,13 @@ fn has_room(blocks: &[Vec<u8>], more: usize) -> bool
     }
 }
 
-/// Adds an empty block if the last has no room for `more` bytes.
-fn begin_block(alloc: Global, blocks: &mut Vec<Vec<u8>>, more: usize) -> Result<(), AllocError>
+/// Adds an empty block if the last has no room for `more` bytes, or there is no block. An error
+/// adds none.
+fn add_block_if_full(
+    alloc: Global,
+    blocks: &mut Vec<Vec<u8>>,
+    more: usize,
+) -> Result<(), AllocError>
     ensures kept { Keeps (bytes_in blocks.old.items) (bytes_in blocks.new.items) }
     ensures some { OnOk result (0 < length blocks.new.items) }
 {
@@ -64,21 +69,25 @@ fn begin_block(alloc: Global, blocks: &mut Vec<Vec<u8>>, more: usize) -> Result<
     Ok(())
 }
 
-/// The piece of `len` bytes from `start` on in that block. None if a number has more than 32 bits,
-/// as the length of a write of 4 GiB, which no message can carry.
-fn piece_of(block: usize, start: usize, len: usize) -> Option<Piece>
-    ensures block { IfSome result (λ piece. piece.block ≡ block) }
+/// The piece of `len` bytes from `start` on in the block of that index. None if a number has more
+/// than 32 bits, as the length of a write of 4 GiB, which no message can carry.
+fn piece_of(block_index: usize, start: usize, len: usize) -> Option<Piece>
+    ensures block { IfSome result (λ piece. piece.block_index ≡ block_index) }
     ensures start { IfSome result (λ piece. piece.start ≡ start) }
     ensures len { IfSome result (λ piece. piece.len ≡ len) }
 {
-    let block = u32::try_from(block).ok()?;
+    let block_index = u32::try_from(block_index).ok()?;
     let start = u32::try_from(start).ok()?;
     let len = u32::try_from(len).ok()?;
-    Some(Piece { block, start, len })
+    Some(Piece {
+        block_index,
+        start,
+        len,
+    })
 }
 
-/// Appends the bytes to the last block. If a piece can't have their numbers, that counts as out of
-/// memory.
+/// Appends the bytes to the last block, and returns their piece. If `piece_of` has none for them,
+/// that counts as out of memory. An error leaves the bytes of older pieces as they are.
 fn put_last(blocks: &mut Vec<Vec<u8>>, bytes: &[u8]) -> Result<Piece, AllocError>
     requires some { 0 < length blocks.old.items }
     ensures kept { Keeps (bytes_in blocks.old.items) (bytes_in blocks.new.items) }
@@ -104,22 +113,23 @@ impl Written {
         }
     }
 
-    /// Stores the bytes of a write, and returns their piece. Pieces given before keep their bytes.
-    pub(crate) fn keep(&mut self, alloc: Global, bytes: &[u8]) -> Result<Piece, AllocError>
+    /// Stores the bytes of a write, and returns their piece. The pieces returned before keep their
+    /// bytes, even after an error.
+    pub(crate) fn push_bytes(&mut self, alloc: Global, bytes: &[u8]) -> Result<Piece, AllocError>
         ensures kept { Keeps self.old self.new }
         ensures within { IfOk result (λ piece. IsWithin self.new piece) }
         ensures bytes { IfOk result (λ piece. bytes_at self.new piece ≡ bytes.now) }
     {
-        begin_block(alloc, &mut self.blocks, bytes.len())?;
+        add_block_if_full(alloc, &mut self.blocks, bytes.len())?;
         put_last(&mut self.blocks, bytes)
     }
 
-    /// The bytes of a piece that `keep` returned.
-    pub(crate) fn piece(&self, piece: Piece) -> &[u8]
+    /// The bytes of a piece that `push_bytes` returned.
+    pub(crate) fn bytes_of(&self, piece: Piece) -> &[u8]
         requires { IsWithin self.now piece }
         ensures { result.now ≡ bytes_at self.now piece }
     {
-        let block = self.blocks[piece.block as usize].as_slice();
+        let block = self.blocks[piece.block_index as usize].as_slice();
         let start = piece.start as usize;
         &block[start..start + piece.len as usize]
     }

@@ -1,4 +1,4 @@
-//! The fids of a connection that may be on directories.
+//! The fids of a connection that may be on directories: a rename looks for its file in them.
 ghost use Rattle.std.specs.Prelude.{◌≡◌, ◌<◌, ◌≤◌, ◌+◌, ◌-◌, ◌^◌, [], ◌∷◌, ◌++◌, drop, min};
 ghost use Rattle.arrayvec.specs.ArrayVec.{array_vec_len};
 ghost use Rattle.cs_linux.specs.Directories.{came_to_directory};
@@ -11,7 +11,8 @@ use cs_wire::{RBody, TBody};
 pub const KEPT_FIDS: usize = 16;
 
 /// The fid that a walk made and that may be on a directory: the walk found all of its names, and
-/// the last is a directory, or it had no name, so that the fid is a copy of another.
+/// the last is a directory, or it had no name, so that the fid is a copy of another. None for every
+/// other request or reply.
 pub fn directory_of(request: &TBody<'_>, reply: &RBody) -> Option<u32>
     ensures { result ≡ came_to_directory request.now reply.now }
 {
@@ -39,7 +40,7 @@ pub struct Directories {
 }
 
 impl Directories {
-    /// No fid and no attach, as when a session begins.
+    /// No fids and no attach, as when a session begins.
     pub fn new() -> Directories
         ensures fids { result.fids.items ≡ [] }
         ensures attaches { result.attaches ≡ 0 }
@@ -50,16 +51,16 @@ impl Directories {
         }
     }
 
-    /// Counts an attach that was granted. A full count stays.
-    pub fn attach(&mut self)
+    /// Counts an attach that was granted. The greatest count stays as it is.
+    pub fn count_attach(&mut self)
         ensures fids { self.new.fids ≡ self.old.fids }
         ensures counted { self.new.attaches ≡ min (self.old.attaches + 1) (2 ^ 32 - 1) }
     {
         self.attaches = self.attaches.saturating_add(1);
     }
 
-    /// Keeps a fid as the latest. If there is no room the oldest is dropped.
-    pub fn keep(&mut self, fid: u32)
+    /// Adds a fid as the latest. If there is no room the oldest is dropped.
+    pub fn add(&mut self, fid: u32)
         ensures room { array_vec_len self.old.fids < KEPT_FIDS
             → self.new.fids.items ≡ self.old.fids.items ++ fid ∷ [] }
         ensures full { array_vec_len self.old.fids ≡ KEPT_FIDS

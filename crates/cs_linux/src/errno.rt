@@ -1,4 +1,5 @@
-//! The errors of Linux that its client reports.
+//! The errors of Linux that its client reports to programs, by the rules that the server's refusals
+//! name.
 ghost use Rattle.std.specs.Prelude.{◌≡◌, ◌≤◌, length};
 ghost use Rattle.cs_linux.specs.Errors.{errno_of, text_of};
 
@@ -36,7 +37,7 @@ pub enum Errno {
 }
 
 impl Errno {
-    /// The error for a request that this rule refused.
+    /// The error that Linux has for the refusal by this rule.
     pub fn of(rule: RuleId) -> Errno
         ensures { result ≡ errno_of rule }
     {
@@ -113,7 +114,7 @@ impl Errno {
         }
     }
 
-    /// The text by which Linux's client knows it.
+    /// The text by which Linux's client knows the error, of at most 25 bytes.
     pub fn text(self) -> &'static str
         ensures value { result.now ≡ text_of self }
         ensures short { length result.now ≤ 25 }

@@ -1,4 +1,5 @@
-//! The steps of a rename onto a name that is taken, from one reply to the next.
+//! The steps of a rename onto a name that is taken, from one reply to the next. Nothing is sent
+//! here: each step is a request for the server or the reply for the client.
 ghost use Rattle.std.specs.Prelude.{◌≡◌, ◌<◌, IsSome};
 ghost use Rattle.cs_linux.specs.Renames.{AfterDirectory, AfterRemoval, AfterSource, AfterTarget};
 ghost use Rattle.cs_linux.specs.Renames.{Begins, Ends, Follows, FreesTarget, Refuses, Tries};
@@ -10,15 +11,15 @@ use cs_names::RuleId;
 use cs_wire::{Qid, RBody, RMessage, TBody, TMessage};
 use std::alloc::Global;
 
-/// Ends the rename: the client gets the refusal of its own request, and nothing was changed.
+/// Ends the rename: the client gets the refusal of its own request.
 fn refuse(rename: Rename) -> Step
     ensures { Refuses result rename }
 {
     Step::Answer(rename.refusal)
 }
 
-/// Ends the rename after a reply that doesn't help: the client gets an error as it is, and for any
-/// other reply its refusal.
+/// Ends the rename after a reply that it can't go on with: the client gets an error as it is, and
+/// in place of any other reply its own request's refusal.
 fn end_after(rename: Rename, reply: RMessage) -> Step
     ensures { Ends result rename reply reply.body }
 {
@@ -28,7 +29,7 @@ fn end_after(rename: Rename, reply: RMessage) -> Step
     }
 }
 
-/// The last of the first `left` fids.
+/// The last of the first `left` fids; None if `left` is 0, or greater than their number.
 fn last_of(fids: &[u32], left: usize) -> Option<u32>
     ensures value { result ≡ last_of fids.now left }
     ensures some { IsSome result → 0 < left }
@@ -39,8 +40,8 @@ fn last_of(fids: &[u32], left: usize) -> Option<u32>
     fids.get(left - 1).copied()
 }
 
-/// Asks the last of the first `left` directories whether it has the file. If none is left, or
-/// memory runs out, the rename stays refused.
+/// Asks the last of the first `left` directories whether it has the file. If `left` is 0, or memory
+/// runs out, the rename stays refused.
 fn ask_last(alloc: Global, rename: Rename, file: File, left: usize) -> Step
     ensures { Tries result rename file left }
 {
@@ -62,8 +63,8 @@ fn ask_last(alloc: Global, rename: Rename, file: File, left: usize) -> Step
     }
 }
 
-/// The step after the Tstat of the source: a file is looked for in the client's directories; a
-/// directory stays refused.
+/// The step after the Tstat of the source: a file is looked for in the client's directories, and a
+/// rename of a directory stays refused.
 fn after_source(alloc: Global, rename: Rename, reply: RMessage) -> Step
     ensures { AfterSource result rename reply reply.body }
 {
@@ -82,7 +83,7 @@ fn after_source(alloc: Global, rename: Rename, reply: RMessage) -> Step
     }
 }
 
-/// Whether a walk found only the file of that number.
+/// Whether a walk's reply has exactly one qid, and it is of the file of that number.
 fn came_to(number: u64, wqid: &[Qid]) -> bool
     ensures { result ≡ came_to number wqid.now }
 {
@@ -93,7 +94,8 @@ fn came_to(number: u64, wqid: &[Qid]) -> bool
 }
 
 /// The step after the walk in `directory`: if the file is in it, a walk to the new name there, else
-/// the next of the `left` directories is asked.
+/// the last of the `left` directories that weren't asked. If memory runs out the rename stays
+/// refused.
 fn after_directory(
     alloc: Global,
     rename: Rename,
@@ -117,8 +119,9 @@ fn after_directory(
     }
 }
 
-/// The step after a walk that found these files at the new name: the fid of a directory is released
-/// and the rename stays refused, and a file is removed. Nothing there is a refusal too.
+/// The step after a walk that found these qids at the new name: a file there is removed; of a
+/// directory the fid is released, and the rename stays refused. It stays refused also if nothing is
+/// there.
 fn free_target(rename: Rename, wqid: &[Qid]) -> Step
     ensures { FreesTarget result rename wqid.now }
 {
@@ -130,7 +133,7 @@ fn free_target(rename: Rename, wqid: &[Qid]) -> Step
     }
 }
 
-/// The step after the walk to the new name.
+/// The step after the walk to the new name: what is there is freed, or the rename ends.
 fn after_target(rename: Rename, reply: RMessage) -> Step
     ensures { AfterTarget result rename reply reply.body }
 {
@@ -140,7 +143,8 @@ fn after_target(rename: Rename, reply: RMessage) -> Step
     }
 }
 
-/// The step after the removal of the file at the new name: the client's own request again.
+/// The step after the removal of the file at the new name: the client's own request again, or the
+/// end of the rename if nothing was removed.
 fn after_removal(rename: Rename, reply: RMessage) -> Step
     ensures { AfterRemoval result rename reply reply.body }
 {
@@ -153,7 +157,7 @@ fn after_removal(rename: Rename, reply: RMessage) -> Step
     }
 }
 
-/// Whether a request was refused because a file has the new name.
+/// Whether the reply is the refusal by Q7: a file has the new name.
 fn is_taken(body: &RBody) -> bool
     ensures { result ≡ is_taken body.now }
 {
@@ -187,7 +191,8 @@ pub fn renaming_of(request: TMessage<'_>, reply: RMessage, directories: Vec<u32>
 }
 
 impl Renaming {
-    /// The step after the reply to the request that was asked last.
+    /// The step after the reply to the last request. After the client's own request was sent again
+    /// its reply is the client's.
     pub fn next(self, alloc: Global, reply: RMessage) -> Step
         ensures { Follows self reply result }
     {

@@ -1,4 +1,5 @@
-//! The requests of a rename onto a name that is taken.
+//! The requests of a rename onto a name that is taken. All of them use one fid, `OWN_FID`, beside
+//! those of the client.
 ghost use Rattle.std.specs.Prelude.{◌≡◌, IfOk, [], ◌∷◌};
 ghost use Rattle.cs_wire.specs.Messages.{stat_of, t_view};
 ghost use Rattle.cs_linux.specs.Requests.{asks_name_alone, dot, is_directory, tclunk, tremove};
@@ -14,6 +15,7 @@ pub const OWN_FID: u32 = 0xffff_fffe;
 /// The bit of a qid's kind that a directory has (intro(5)).
 pub const QTDIR: u8 = 0x80;
 
+/// The qid of a wstat that says "don't touch".
 const NO_QID: Qid = Qid {
     kind: u8::MAX,
     vers: u32::MAX,
@@ -31,14 +33,14 @@ pub fn is_rename(stat: &Stat) -> bool
     untouched && kept && times && users
 }
 
-/// Whether the file is a directory.
+/// Whether the qid is of a directory: its kind has QTDIR, the highest bit.
 pub(crate) fn is_directory(qid: Qid) -> bool
     ensures { result ≡ is_directory qid }
 {
     QTDIR <= qid.kind
 }
 
-/// A Tstat of this fid.
+/// Makes a Tstat of this fid.
 pub(crate) fn tstat(tag: u16, fid: u32) -> TMessage<'static>
     ensures { t_view result ≡ tstat tag fid }
 {
@@ -48,7 +50,7 @@ pub(crate) fn tstat(tag: u16, fid: u32) -> TMessage<'static>
     }
 }
 
-/// A Twalk of `OWN_FID` by one name from this fid.
+/// Makes a Twalk from this fid by one name, to `OWN_FID`.
 pub(crate) fn twalk(
     alloc: Global,
     tag: u16,
@@ -69,8 +71,8 @@ pub(crate) fn twalk(
     })
 }
 
-/// A Twalk by a name and then by a dot, by which no walk goes on: so the reply shows whether the
-/// name is there, and no fid is made.
+/// Makes a Twalk from this fid by a name and then by a dot, by which no walk goes on: so the reply
+/// shows whether the name is there, and `OWN_FID` isn't made.
 pub(crate) fn twalk_on(
     alloc: Global,
     tag: u16,
@@ -92,7 +94,7 @@ pub(crate) fn twalk_on(
     })
 }
 
-/// A Tremove of `OWN_FID`.
+/// Makes a Tremove of `OWN_FID`.
 pub(crate) fn tremove(tag: u16) -> TMessage<'static>
     ensures { t_view result ≡ tremove tag }
 {
@@ -102,7 +104,7 @@ pub(crate) fn tremove(tag: u16) -> TMessage<'static>
     }
 }
 
-/// A Tclunk of `OWN_FID`.
+/// Makes a Tclunk of `OWN_FID`.
 pub(crate) fn tclunk(tag: u16) -> TMessage<'static>
     ensures { t_view result ≡ tclunk tag }
 {
@@ -112,7 +114,7 @@ pub(crate) fn tclunk(tag: u16) -> TMessage<'static>
     }
 }
 
-/// A Twstat of this fid.
+/// Makes a Twstat of this fid.
 pub(crate) fn twstat(tag: u16, fid: u32, stat: Stat) -> TMessage<'static>
     ensures { t_view result ≡ twstat tag fid (stat_of stat) }
 {

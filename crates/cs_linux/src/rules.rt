@@ -1,4 +1,4 @@
-//! A rule by its text.
+//! The rule that a refusal names, found by its text.
 ghost use Rattle.std.specs.Prelude.{◌≡◌, IfSome, Some};
 ghost use Rattle.cs_names.specs.Rules.{text_of};
 ghost use Rattle.cs_names.specs.declared.rule_id.RuleId.{RuleId};
@@ -6,7 +6,7 @@ ghost use Rattle.cs_linux.specs.Numbers.{place_of, rule_numbered, rules_of};
 
 use cs_names::RuleId;
 
-/// The rules of a letter, by their numbers.
+/// The rules of a letter, in the order of their numbers; none if no rule has the letter.
 #[tactic(auto, unfolding(crate::specs::Numbers::rules_of))]
 fn rules_of(letter: u8) -> &'static [RuleId]
     ensures { result.now ≡ rules_of letter }
@@ -29,8 +29,8 @@ fn rules_of(letter: u8) -> &'static [RuleId]
     }
 }
 
-/// The place of a rule among those of its letter, from the two bytes after the letter: a digit and
-/// a space, or two digits. For other bytes it is any place.
+/// The place of a rule among those of its letter, counted from 0, by the two bytes after the
+/// letter: a digit and a space, or two digits. For other bytes it is any place.
 #[tactic(auto, unfolding(crate::specs::Numbers::place_of))]
 fn place_of(first: u8, second: u8) -> usize
     ensures { result ≡ place_of first second }
@@ -44,7 +44,8 @@ fn place_of(first: u8, second: u8) -> usize
     }
 }
 
-/// The only rule whose text this may be.
+/// The only rule whose text this may be, by the first three bytes; None if there are fewer, or if
+/// the letter has no rule of that number.
 fn rule_numbered(text: &[u8]) -> Option<RuleId>
     ensures { result ≡ rule_numbered text.now }
 {
@@ -54,7 +55,7 @@ fn rule_numbered(text: &[u8]) -> Option<RuleId>
     rules_of(*letter).get(place_of(*first, *second)).copied()
 }
 
-/// The rule with this text, if there is one.
+/// The rule with this text; None if no rule has it.
 pub fn rule_of(text: &str) -> Option<RuleId>
     ensures found { IfSome result (λ rule. text_of rule ≡ text.now) }
     ensures each { (rule : RuleId) → text.now ≡ text_of rule → result ≡ Some rule }

@@ -1,4 +1,5 @@
-//! The lines that are printed of a micro-operation and of a state as JSON.
+//! One micro-operation, or one state, as a line of JSON. The whole list is made of them in
+//! `json_listing`; the lines without JSON are in `printed`.
 ghost use Rattle.std.specs.Prelude.{◌≡◌, IfOk, Some, string_bytes};
 ghost use Rattle.std.specs.Option.{option_copied};
 ghost use Rattle.cs_micro.specs.Texts.{mode_text};
@@ -18,14 +19,14 @@ use serde_json::Value;
 use std::alloc::{AllocError, Global};
 use std::fmt;
 
-/// The path as a JSON string.
+/// The path as a JSON string, with its quotation marks.
 fn quoted_path(alloc: Global, path: &Path) -> Result<String, AllocError>
     ensures { IfOk result (λ text. string_bytes text ≡ quoted (path_text path.now)) }
 {
     Value::String(path.to_string(alloc)?).to_string(alloc)
 }
 
-/// The path as a JSON string, or `null`.
+/// The path as a JSON string, with its quotation marks; `null` if there is none.
 fn quoted_path_or_null(alloc: Global, path: Option<&Path>) -> Result<String, AllocError>
     ensures { IfOk result
         (λ text. string_bytes text ≡ quoted_or_null (option_copied path.entry)) }
@@ -36,14 +37,14 @@ fn quoted_path_or_null(alloc: Global, path: Option<&Path>) -> Result<String, All
     }
 }
 
-/// The name as a JSON string.
+/// The name of a user or a group as a JSON string, with its quotation marks.
 fn quoted_name(alloc: Global, name: &str) -> Result<String, AllocError>
     ensures { IfOk result (λ text. string_bytes text ≡ quoted name.now) }
 {
     Value::String(String::from_str(alloc, name)?).to_string(alloc)
 }
 
-/// What a new entry is of.
+/// What a new entry is of: a directory, or the file of a number.
 #[derive(Clone, Copy)]
 struct NodeFields {
     node: Node,
@@ -52,6 +53,7 @@ struct NodeFields {
 impl fmt::Display for NodeFields {
     ghost output = { λ fields. Some (node_fields fields.node) };
 
+    /// Writes JSON fields without braces: `node`, and of a file `file`, its number.
     fn fmt<W: fmt::Write>(&self, f: &mut fmt::Formatter<W>) -> fmt::Result {
         match self.node {
             Node::Directory => f.write_str("\"node\":\"dir\""),
@@ -60,16 +62,16 @@ impl fmt::Display for NodeFields {
     }
 }
 
-/// The fields of a new entry: its path, and what it is an entry of.
+/// JSON fields without braces: the kind, the path of a new entry, and what the entry is of.
 fn fields_of_create(alloc: Global, path: &Path, node: Node) -> Result<String, AllocError>
     ensures { IfOk result (λ text. string_bytes text ≡ create_fields path.now node) }
 {
-    let path = quoted_path(alloc, path)?;
+    let quoted = quoted_path(alloc, path)?;
     let fields = NodeFields { node };
-    format!(in alloc; "\"kind\":\"create_dir_entry\",\"path\":{path},{fields}")
+    format!(in alloc; "\"kind\":\"create_dir_entry\",\"path\":{quoted},{fields}")
 }
 
-/// The word for what a deleted entry was of.
+/// The word for what a deleted entry was of: `dir` or `file`.
 fn kind_word(kind: EntryKind) -> &'static str
     ensures { result.now ≡ kind_of_entry kind }
 {
@@ -79,42 +81,42 @@ fn kind_word(kind: EntryKind) -> &'static str
     }
 }
 
-/// The fields of a deleted entry: its path, and what it was an entry of.
+/// JSON fields without braces: the kind, the path of a deleted entry, and what the entry was of.
 fn fields_of_delete(alloc: Global, path: &Path, kind: EntryKind) -> Result<String, AllocError>
     ensures { IfOk result (λ text. string_bytes text ≡ delete_fields path.now kind) }
 {
-    let path = quoted_path(alloc, path)?;
+    let quoted = quoted_path(alloc, path)?;
     let node = kind_word(kind);
-    format!(in alloc; "\"kind\":\"delete_dir_entry\",\"path\":{path},\"node\":\"{node}\"")
+    format!(in alloc; "\"kind\":\"delete_dir_entry\",\"path\":{quoted},\"node\":\"{node}\"")
 }
 
-/// The fields of a renamed entry: its path, and the new one.
+/// JSON fields without braces: the kind, the path that an entry had, and its new path.
 fn fields_of_move(alloc: Global, from: &Path, to: &Path) -> Result<String, AllocError>
     ensures { IfOk result (λ text. string_bytes text ≡ move_fields from.now to.now) }
 {
-    let from = quoted_path(alloc, from)?;
-    let to = quoted_path(alloc, to)?;
-    format!(in alloc; "\"kind\":\"move_dir_entry\",\"path\":{from},\"to\":{to}")
+    let quoted_from = quoted_path(alloc, from)?;
+    let quoted_to = quoted_path(alloc, to)?;
+    format!(in alloc; "\"kind\":\"move_dir_entry\",\"path\":{quoted_from},\"to\":{quoted_to}")
 }
 
-/// The fields of a new entry of a file that has one already.
+/// JSON fields without braces: the kind, the new path of a file that exists, and its number.
 fn fields_of_link(alloc: Global, path: &Path, file: u32) -> Result<String, AllocError>
     ensures { IfOk result (λ text. string_bytes text ≡ link_fields path.now file) }
 {
-    let path = quoted_path(alloc, path)?;
-    format!(in alloc; "\"kind\":\"link_dir_entry\",\"path\":{path},\"file\":{file}")
+    let quoted = quoted_path(alloc, path)?;
+    format!(in alloc; "\"kind\":\"link_dir_entry\",\"path\":{quoted},\"file\":{file}")
 }
 
-/// The number of a file, and one of its paths.
+/// JSON fields without braces: one path of a file, `null` if there is none, and its number.
 fn fields_of_file(alloc: Global, path: Option<&Path>, file: u32) -> Result<String, AllocError>
     ensures { IfOk result
         (λ text. string_bytes text ≡ file_fields (option_copied path.entry) file) }
 {
-    let path = quoted_path_or_null(alloc, path)?;
-    format!(in alloc; "\"path\":{path},\"file\":{file}")
+    let quoted = quoted_path_or_null(alloc, path)?;
+    format!(in alloc; "\"path\":{quoted},\"file\":{file}")
 }
 
-/// The fields of a new size, in bytes.
+/// JSON fields without braces: the kind, the file, and its new size in bytes.
 fn fields_of_size(
     alloc: Global,
     path: Option<&Path>,
@@ -124,11 +126,12 @@ fn fields_of_size(
     ensures { IfOk result
         (λ text. string_bytes text ≡ size_fields (option_copied path.entry) file length) }
 {
-    let file = fields_of_file(alloc, path, file)?;
-    format!(in alloc; "\"kind\":\"change_file_size\",{file},\"length\":{length}")
+    let fields = fields_of_file(alloc, path, file)?;
+    format!(in alloc; "\"kind\":\"change_file_size\",{fields},\"length\":{length}")
 }
 
-/// The fields of bytes that are written into one block.
+/// JSON fields without braces: the kind, the file, the number of a block of it, the place in the
+/// block of the first byte that is written, and how many bytes are written.
 fn fields_of_block(
     alloc: Global,
     path: Option<&Path>,
@@ -140,13 +143,14 @@ fn fields_of_block(
     ensures { IfOk result
         (λ text. string_bytes text ≡ block_fields (option_copied path.entry) file block at count) }
 {
-    let file = fields_of_file(alloc, path, file)?;
+    let fields = fields_of_file(alloc, path, file)?;
     format!(in alloc;
-        "\"kind\":\"write_block\",{file},\"block\":{block},\"at\":{at},\"count\":{count}"
+        "\"kind\":\"write_block\",{fields},\"block\":{block},\"at\":{at},\"count\":{count}"
     )
 }
 
-/// Whose rights are set: a file, of which this is a path, or a directory.
+/// JSON fields without braces, of what has its rights set: of a file `path`, which is one of its
+/// paths or None, and its number; of a directory its own path.
 fn fields_of_target(
     alloc: Global,
     path: Option<&Path>,
@@ -158,13 +162,13 @@ fn fields_of_target(
     match target {
         Target::File(file) => fields_of_file(alloc, path, *file),
         Target::Directory(directory) => {
-            let path = quoted_path(alloc, directory)?;
-            format!(in alloc; "\"path\":{path}")
+            let quoted = quoted_path(alloc, directory)?;
+            format!(in alloc; "\"path\":{quoted}")
         }
     }
 }
 
-/// Permissions as three octal digits.
+/// The permissions of owner, group and others.
 #[derive(Clone, Copy)]
 struct Mode {
     permissions: u16,
@@ -173,6 +177,7 @@ struct Mode {
 impl fmt::Display for Mode {
     ghost output = { λ mode. Some (mode_text mode.permissions) };
 
+    /// Writes three octal digits.
     fn fmt<W: fmt::Write>(&self, f: &mut fmt::Formatter<W>) -> fmt::Result {
         let permissions = self.permissions;
         let (first, second, third) = (permissions / 64, permissions / 8 % 8, permissions % 8);
@@ -180,7 +185,7 @@ impl fmt::Display for Mode {
     }
 }
 
-/// The mode in octal digits, the owner and the group.
+/// JSON fields without braces: the mode as three octal digits, the owner and the group.
 fn fields_of_rights(alloc: Global, rights: &Rights) -> Result<String, AllocError>
     ensures { IfOk result (λ text. string_bytes text ≡ rights_fields rights.now) }
 {
@@ -192,7 +197,7 @@ fn fields_of_rights(alloc: Global, rights: &Rights) -> Result<String, AllocError
     format!(in alloc; "\"mode\":\"{mode}\",\"owner\":{owner},\"group\":{group}")
 }
 
-/// The fields of new rights, and of what has them.
+/// JSON fields without braces: the kind, what has its rights set, and its new rights.
 fn fields_of_set_attr(
     alloc: Global,
     path: Option<&Path>,
@@ -202,13 +207,13 @@ fn fields_of_set_attr(
     ensures { IfOk result (λ text. string_bytes text
         ≡ set_attr_fields (option_copied path.entry) target.now rights.now) }
 {
-    let target = fields_of_target(alloc, path, target)?;
-    let rights = fields_of_rights(alloc, rights)?;
-    format!(in alloc; "\"kind\":\"set_attr\",{target},{rights}")
+    let target_fields = fields_of_target(alloc, path, target)?;
+    let rights_fields = fields_of_rights(alloc, rights)?;
+    format!(in alloc; "\"kind\":\"set_attr\",{target_fields},{rights_fields}")
 }
 
-/// The kind of a micro-operation and the fields of its kind. The path is one that the file has
-/// that it changes.
+/// JSON fields without braces: the kind of a micro-operation, and those of its kind. `path` is one
+/// path of the file whose size, block or rights it changes, and counts only if it changes one.
 fn fields_of(alloc: Global, op: &MicroOp, path: Option<&Path>) -> Result<String, AllocError>
     ensures { IfOk result
         (λ text. string_bytes text ≡ fields_text (option_copied path.entry) op.now) }
@@ -231,7 +236,7 @@ fn fields_of(alloc: Global, op: &MicroOp, path: Option<&Path>) -> Result<String,
     }
 }
 
-/// Places as a JSON array.
+/// Places that are shown as a JSON array.
 #[derive(Clone, Copy)]
 struct PlacesArray<'a> {
     places: &'a Places,
@@ -240,6 +245,7 @@ struct PlacesArray<'a> {
 impl fmt::Display for PlacesArray<'_> {
     ghost output = { λ array. Some (places_array array.places.now) };
 
+    /// Writes the places between brackets, with commas; `[]` if there is none.
     fn fmt<W: fmt::Write>(&self, f: &mut fmt::Formatter<W>) -> fmt::Result {
         if self.places.as_slice().is_empty() {
             return f.write_str("[]");
@@ -248,9 +254,9 @@ impl fmt::Display for PlacesArray<'_> {
     }
 }
 
-/// The line of a micro-operation: its place, what it does, the line of the trace that it came from,
-/// and the places of all that it needs by any chain, its own among them. The path is one that the
-/// file has that it changes.
+/// A JSON object and a line feed: the place of a micro-operation, its kind and fields, `line`,
+/// which is the number of the trace's line that it came from, and `needs`, the places of all that
+/// it needs by any chain and its own. `path` is as in `fields_of`.
 pub fn op_line(
     alloc: Global,
     place: usize,
@@ -267,7 +273,7 @@ pub fn op_line(
     format!(in alloc; "{{\"op\":{place},{fields},\"line\":{line},\"needs\":{array}}}\n")
 }
 
-/// Which micro-operations a state has.
+/// A recipe: which micro-operations a state has.
 #[derive(Clone, Copy)]
 struct RecipeFields<'a> {
     recipe: &'a Recipe,
@@ -276,6 +282,7 @@ struct RecipeFields<'a> {
 impl fmt::Display for RecipeFields<'_> {
     ghost output = { λ fields. Some (recipe_fields fields.recipe.now) };
 
+    /// Writes JSON fields without braces: the kind of the recipe, and those of its kind.
     fn fmt<W: fmt::Write>(&self, f: &mut fmt::Formatter<W>) -> fmt::Result {
         match self.recipe {
             Recipe::Prefix(end) => write!(f, "\"kind\":\"prefix\",\"end\":{end}"),
@@ -290,8 +297,8 @@ impl fmt::Display for RecipeFields<'_> {
     }
 }
 
-/// The line of a state: its number, its recipe, how many acknowledged lines it has, and the first
-/// state with an equal tree.
+/// A JSON object and a line feed: the number of a state, the kind and fields of its recipe, how
+/// many acknowledged lines it has, and `first`, the number of the first state with an equal tree.
 pub fn state_line(
     alloc: Global,
     number: usize,

@@ -1,4 +1,5 @@
-//! The command `list` as JSON: a line for each micro-operation, and then one for each state.
+//! The list as JSON: a line for each micro-operation, and then one for each state. How one line is
+//! spelled is in `json`; `listing` chooses between this form and the plain one.
 ghost use Rattle.std.specs.Prelude.{◌≡◌, ◌<◌, IfOk, length, string_bytes};
 ghost use Rattle.std.specs.Option.{option_copied};
 ghost use Rattle.cs_apm.specs.Orders.{needs_in};
@@ -16,8 +17,9 @@ use cs_plan::{Places, Scene};
 use cs_serve::ProgramFault;
 use std::alloc::{AllocError, Global};
 
-/// The line of the micro-operation at the place.
-fn line_at(
+/// The line of the micro-operation at the place. `path` is one path of the file that it changes, if
+/// it changes one; `line` is the number of the trace's line that it came from.
+fn op_line_at(
     alloc: Global,
     scene: &Scene,
     place: usize,
@@ -40,8 +42,9 @@ fn line_at(
     )
 }
 
-/// Adds the line of each micro-operation; the lines of the trace that they came from are given.
-pub fn push_ops(
+/// Adds the line of each micro-operation to the text. `lines` has for each the number of the
+/// trace's line that it came from. After an error the text has the lines that were made before it.
+pub fn push_op_objects(
     alloc: Global,
     scene: &Scene,
     lines: &[usize],
@@ -54,18 +57,19 @@ pub fn push_ops(
     for place in 0..ops.len() {
         let op = &ops[place];
         let line = number_at(lines, place);
-        let Ok(json) = line_at(alloc, scene, place, paths.changed(op), line) else {
+        let Ok(json) = op_line_at(alloc, scene, place, paths.path_of_changed_file(op), line) else {
             return Err(ProgramFault::Memory);
         };
-        if text.extend_from_slice(json.as_bytes()).is_err() || paths.take(alloc, op).is_err() {
+        if text.extend_from_slice(json.as_bytes()).is_err() || paths.apply(alloc, op).is_err() {
             return Err(ProgramFault::Memory);
         }
     }
     Ok(())
 }
 
-/// Adds the line of each state; for each the first one with an equal tree is given.
-pub fn push_states(
+/// Adds the line of each state to the text. `firsts` has for each the number of the first state
+/// with an equal tree. After an error the text has the lines that were made before it.
+pub fn push_state_objects(
     alloc: Global,
     scene: &Scene,
     firsts: &[u32],

@@ -1,5 +1,5 @@
-//! What `list` prints in addition to the micro-operations and the states: the line of each,
-//! which states have equal trees, and all of it as JSON.
+//! The command `list` with options: the number of the trace's line of each micro-operation, which
+//! states have equal trees, and all of it as JSON. The plain command is `list_of` of cs_serve.
 #![tactic(auto)]
 
 mod json;

@@ -1,11 +1,12 @@
-//! The line of a trace that each micro-operation came from.
+//! The number of the trace's line that each micro-operation came from. Lines count from 1.
 ghost use Rattle.std.specs.Prelude.{◌≡◌, ◌≤◌, ◌++◌, ◌^◌, IfOk, OnOk, length, replicate};
 ghost use Rattle.std.specs.Prelude.{slice_index};
 ghost use Rattle.std.specs.List.{All};
 ghost use Rattle.cs_trace_lines.specs.Versions.{block_bytes};
 ghost use Rattle.cs_trace.specs.States.{lines_in};
 ghost use Rattle.cs_micro.specs.MicroOperations.{IsWithinLimit};
-ghost use Rattle.cs_list_lines.specs.Lines.{lines_of, lines_told, spread, line_number_if_said};
+ghost use Rattle.cs_list_lines.specs.Lines.{lines_of, lines_of_operations, number_unless_blank};
+ghost use Rattle.cs_list_lines.specs.Lines.{numbers_not_blank};
 
 use cs_micro::micro_count;
 use cs_names::limits::TREE_RECORDS;
@@ -13,11 +14,12 @@ use cs_trace::{BlockSize, Operation, Trace};
 use cs_trace_lines::is_blank;
 use std::alloc::{AllocError, Global};
 
-/// Adds the number of the line at the place, if it says something.
-fn push_told(numbers: &mut Vec<usize>, place: usize, line: &str) -> Result<(), AllocError>
+/// Adds the number of the line at the place, which is one more than the place, unless the line is
+/// blank. After an error the numbers are unchanged.
+fn push_unless_blank(numbers: &mut Vec<usize>, place: usize, line: &str) -> Result<(), AllocError>
     requires { place ≤ 2 ^ 63 }
     ensures { OnOk result
-        (numbers.new.items ≡ numbers.old.items ++ line_number_if_said (place, line.now)) }
+        (numbers.new.items ≡ numbers.old.items ++ number_unless_blank (place, line.now)) }
 {
     if !is_blank(line) {
         numbers.push(place + 1)?;
@@ -25,26 +27,26 @@ fn push_told(numbers: &mut Vec<usize>, place: usize, line: &str) -> Result<(), A
     Ok(())
 }
 
-/// The numbers of the lines that say something. Lines count from 1.
-fn told_of(alloc: Global, text: &str) -> Result<Vec<usize>, AllocError>
-    ensures { IfOk result (λ numbers. numbers.items ≡ lines_told (lines_in text.now)) }
+/// The numbers of a text's lines that aren't blank, in their order.
+fn numbers_not_blank(alloc: Global, text: &str) -> Result<Vec<usize>, AllocError>
+    ensures { IfOk result (λ numbers. numbers.items ≡ numbers_not_blank (lines_in text.now)) }
 {
     let mut numbers = Vec::new(alloc);
     for (place, line) in text.split('\n').enumerate() {
-        push_told(&mut numbers, place, line)?;
+        push_unless_blank(&mut numbers, place, line)?;
     }
     Ok(numbers)
 }
 
-/// The number at the place.
+/// The number at the place; 0 if there is none.
 pub fn number_at(numbers: &[usize], place: usize) -> usize
     ensures { result ≡ slice_index numbers.now place }
 {
     numbers.get(place).copied().unwrap_or(0)
 }
 
-/// Adds the line so many times.
-fn push_line(
+/// Adds the number of a line `count` times. After an error the lines are unchanged.
+fn push_repeated(
     alloc: Global,
     lines: &mut Vec<usize>,
     line: usize,
@@ -56,8 +58,9 @@ fn push_line(
     lines.extend_from_slice(&same)
 }
 
-/// For each micro-operation of these operations its line: so many numbers come before the first's.
-fn spread(
+/// For each micro-operation that the operations make the number of its operation's line. `numbers`
+/// has those of all lines that aren't blank; the one at the place `first` is the first operation's.
+fn lines_of_operations(
     alloc: Global,
     block: BlockSize,
     numbers: &[usize],
@@ -67,24 +70,24 @@ fn spread(
     requires within { All IsWithinLimit operations.now }
     requires few { first ≤ TREE_RECORDS }
     ensures { IfOk result (λ lines. lines.items
-        ≡ spread (block_bytes block) numbers.now first operations.now) }
+        ≡ lines_of_operations (block_bytes block) numbers.now first operations.now) }
 {
     let mut lines = Vec::new(alloc);
     for (place, operation) in operations.iter().enumerate() {
         let line = number_at(numbers, first + place);
-        push_line(alloc, &mut lines, line, micro_count(block, operation))?;
+        push_repeated(alloc, &mut lines, line, micro_count(block, operation))?;
     }
     Ok(lines)
 }
 
-/// For each micro-operation of a trace the number of the line that it came from; lines count from
-/// 1. The first lines that say something are the header and those of the start, one for each
-/// record, and then each gives an operation.
+/// For each micro-operation of a trace the number of the line that it came from. The text is that
+/// of the trace: of its lines that aren't blank the first are the header and those of the start, as
+/// many as it has records, and each further one is an operation.
 pub fn lines_of(alloc: Global, text: &str, trace: &Trace) -> Result<Vec<usize>, AllocError>
     ensures { IfOk result (λ lines. lines.items ≡ lines_of text.now trace.now) }
 {
-    let numbers = told_of(alloc, text)?;
+    let numbers = numbers_not_blank(alloc, text)?;
     let first = trace.records().len();
     let block = trace.version().block_size();
-    spread(alloc, block, &numbers, first, trace.operations())
+    lines_of_operations(alloc, block, &numbers, first, trace.operations())
 }

@@ -1,4 +1,4 @@
-//! The command `list` with more about its lines.
+//! The command `list` with options. Without any it is `list_of` of cs_serve, and nothing here runs.
 ghost use Rattle.std.specs.Prelude.{◌≤◌};
 
 use crate::json_listing;
@@ -24,7 +24,8 @@ pub struct ListOptions {
     pub json: bool,
 }
 
-/// The lines of the micro-operations, if they are asked for.
+/// For each micro-operation the number of the trace's line that it came from. None if that isn't
+/// asked for, or if the trace isn't UTF-8, which a scene's trace is.
 fn asked_lines(
     alloc: Global,
     inputs: &Inputs,
@@ -40,7 +41,7 @@ fn asked_lines(
     Ok(Some(lines_of(alloc, text, scene.trace())?))
 }
 
-/// The first state with the tree of each, if that is asked for.
+/// For each state the number of the first one with an equal tree. None if that isn't asked for.
 fn asked_firsts(
     alloc: Global,
     scene: &Arc<Scene>,
@@ -52,8 +53,9 @@ fn asked_firsts(
     Ok(Some(first_same(alloc, scene)?))
 }
 
-/// Adds a line for each micro-operation.
-fn push_ops(
+/// Adds a line for each micro-operation to the text: with `lines`, the number of the trace's line
+/// that it came from, and the path of a file that it changes. After an error the text is cut.
+fn push_op_lines(
     alloc: Global,
     scene: &Scene,
     lines: &Option<Vec<usize>>,
@@ -63,27 +65,28 @@ fn push_ops(
         return Err(ProgramFault::Memory);
     };
     for (place, op) in scene.micros().ops().iter().enumerate() {
-        let line = told_at(lines, place);
-        let path = paths.changed(op);
+        let line = found_at(lines, place);
+        let path = paths.path_of_changed_file(op);
         let origin = Origin { line, path };
         write!(text, "{}", OpLine { place, op, origin }).map_err(|_| ProgramFault::Memory)?;
-        if paths.take(alloc, op).is_err() {
+        if paths.apply(alloc, op).is_err() {
             return Err(ProgramFault::Memory);
         }
     }
     Ok(())
 }
 
-/// What was found at the place, if it was asked for.
-fn told_at<T: Copy>(told: &Option<Vec<T>>, place: usize) -> Option<T> {
-    match told {
-        Some(told) => told.get(place).copied(),
+/// What was found for the place. None if it wasn't asked for, or if there is no such place.
+fn found_at<T: Copy>(found: &Option<Vec<T>>, place: usize) -> Option<T> {
+    match found {
+        Some(found) => found.get(place).copied(),
         None => None,
     }
 }
 
-/// Adds a line for each state.
-fn push_states(
+/// Adds a line for each state to the text: with `firsts`, the number of the first state with an
+/// equal tree. After an error the text is cut.
+fn push_state_lines(
     scene: &Scene,
     firsts: &Option<Vec<u32>>,
     text: &mut Vec<u8>,
@@ -93,22 +96,22 @@ fn push_states(
             number,
             recipe,
             says: scene.says(number as u32).unwrap_or(0),
-            first: told_at(firsts, number),
+            first: found_at(firsts, number),
         };
         write!(text, "{line}").map_err(|_| ProgramFault::Memory)?;
     }
     Ok(())
 }
 
-/// What is found at all places, or nothing.
-fn all_of<T>(found: &Option<Vec<T>>) -> &[T] {
+/// What was found, for each place. Empty if it wasn't asked for.
+fn all_found<T>(found: &Option<Vec<T>>) -> &[T] {
     match found {
         Some(found) => found.as_slice(),
         None => &[],
     }
 }
 
-/// Adds the lines as JSON.
+/// Adds all lines to the text as JSON: those of the micro-operations, then those of the states.
 fn push_json(
     alloc: Global,
     scene: &Scene,
@@ -116,12 +119,13 @@ fn push_json(
     firsts: &Option<Vec<u32>>,
     text: &mut Vec<u8>,
 ) -> Result<(), ProgramFault> {
-    json_listing::push_ops(alloc, scene, all_of(lines), text)?;
-    json_listing::push_states(alloc, scene, all_of(firsts), text)
+    json_listing::push_op_objects(alloc, scene, all_found(lines), text)?;
+    json_listing::push_state_objects(alloc, scene, all_found(firsts), text)
 }
 
-/// Prints the list in its form, and flushes it.
-fn list<W: Write>(
+/// Prints the list with what the options ask for, and flushes it. Nothing is printed before all of
+/// it is made.
+fn print_list<W: Write>(
     alloc: Global,
     inputs: &Inputs,
     options: ListOptions,
@@ -140,15 +144,16 @@ fn list<W: Write>(
     if options.json {
         push_json(alloc, &scene, &lines, &firsts, &mut text)?;
     } else {
-        push_ops(alloc, &scene, &lines, &mut text)?;
-        push_states(&scene, &firsts, &mut text)?;
+        push_op_lines(alloc, &scene, &lines, &mut text)?;
+        push_state_lines(&scene, &firsts, &mut text)?;
     }
     print_to(out, text.as_slice())?;
     out.flush().map_err(|_| ProgramFault::Output)
 }
 
-/// The command `list` with options: as `list_of`, and after each line what is asked for. Its
-/// status and its faults are those of `list_of`, which it is if nothing is asked for.
+/// The command `list` with options: prints on `out` what `list_of` does, with what the options ask
+/// for. Returns its status: 0, or 1 after a fault, which `err` gets as one line. If the options ask
+/// for nothing it is `list_of`.
 pub fn list_with<W: Write, E: Write>(
     alloc: Global,
     inputs: &Inputs,
@@ -161,7 +166,7 @@ pub fn list_with<W: Write, E: Write>(
     if !options.lines && !options.same && !options.json {
         return list_of(alloc, inputs, out, err);
     }
-    match list(alloc, inputs, options, out) {
+    match print_list(alloc, inputs, options, out) {
         Ok(()) => 0,
         Err(fault) => {
             let _printed = out.flush();

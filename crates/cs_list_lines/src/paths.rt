@@ -1,16 +1,16 @@
-//! The paths of each file while a trace goes on.
+//! The paths that each file has after the first micro-operations of a trace.
 use cs_micro::{MicroOp, Micros};
 use cs_names::Path;
 use cs_trace::{Node, Target};
 use std::alloc::{AllocError, Global};
 
-/// The paths of each file, by its number, from the oldest on; a file that was deleted has none.
+/// The paths of each file, by its number, from the oldest on. A file that was deleted has none.
 #[derive(Drop)]
 pub struct FilePaths<'a> {
     files: Vec<Vec<&'a Path>>,
 }
 
-/// Puts the new path in the place of the old one.
+/// Puts `new` in the place of each path that is equal to `old`.
 fn replace<'a>(paths: &mut [&'a Path], old: &Path, new: &'a Path) {
     for path in paths.iter_mut() {
         if *path == old {
@@ -20,7 +20,7 @@ fn replace<'a>(paths: &mut [&'a Path], old: &Path, new: &'a Path) {
 }
 
 impl<'a> FilePaths<'a> {
-    /// Those at the start of a trace.
+    /// The paths of the files with which a trace starts, before its first micro-operation.
     pub fn of(alloc: Global, micros: &'a Micros) -> Result<FilePaths<'a>, AllocError> {
         let mut files = FilePaths {
             files: Vec::new(alloc),
@@ -31,7 +31,7 @@ impl<'a> FilePaths<'a> {
         Ok(files)
     }
 
-    /// Adds a file of the start with these paths.
+    /// Adds the next file of the start, which has these paths. After an error it isn't added.
     fn push_start(&mut self, alloc: Global, paths: &'a [Path]) -> Result<(), AllocError> {
         let mut own = Vec::new(alloc);
         for path in paths {
@@ -41,7 +41,7 @@ impl<'a> FilePaths<'a> {
         Ok(())
     }
 
-    /// Adds a file that is made at the path.
+    /// Adds the next file that the trace makes, at this path. After an error it isn't added.
     fn push_made(&mut self, alloc: Global, path: &'a Path) -> Result<(), AllocError> {
         let mut own = Vec::new(alloc);
         own.push(path)?;
@@ -49,8 +49,10 @@ impl<'a> FilePaths<'a> {
         Ok(())
     }
 
-    /// The oldest path of the file that the micro-operation changes, if it changes one.
-    pub fn changed(&self, op: &MicroOp) -> Option<&'a Path> {
+    /// The oldest path of the file whose size, block or rights the micro-operation changes. None if
+    /// it changes no file, or one that has no path any more. `file_changed` of cs_families and
+    /// `changed_file` of cs_same_states have the same cases: change all three.
+    pub fn path_of_changed_file(&self, op: &MicroOp) -> Option<&'a Path> {
         let file = match op {
             MicroOp::ChangeFileSize { file, .. }
             | MicroOp::WriteBlock { file, .. }
@@ -64,14 +66,14 @@ impl<'a> FilePaths<'a> {
         paths.first().copied()
     }
 
-    /// No file has the path any more.
+    /// Takes the path from the file that has it, if one has.
     fn remove(&mut self, gone: &Path) {
         for paths in self.files.iter_mut() {
             paths.retain(|path| *path != gone);
         }
     }
 
-    /// The file at the one path has the other in its place.
+    /// Moves the file at `from` to `to`. A file that was at `to` loses that path.
     fn rename(&mut self, from: &Path, to: &'a Path) {
         self.remove(to);
         for paths in self.files.iter_mut() {
@@ -79,8 +81,8 @@ impl<'a> FilePaths<'a> {
         }
     }
 
-    /// Takes the next micro-operation.
-    pub fn take(&mut self, alloc: Global, op: &'a MicroOp) -> Result<(), AllocError> {
+    /// Changes the paths as the next micro-operation does. After an error they are unchanged.
+    pub fn apply(&mut self, alloc: Global, op: &'a MicroOp) -> Result<(), AllocError> {
         match op {
             MicroOp::CreateDirEntry {
                 path,

@@ -1,4 +1,4 @@
-//! The lines that are printed of a micro-operation and of a state.
+//! One micro-operation, or one state, as a plain line. The lines of JSON are in `json`.
 ghost use Rattle.std.specs.Prelude.{◌≡◌, ◌++◌, Some, codes, decimal};
 ghost use Rattle.std.specs.Option.{option_copied};
 ghost use Rattle.cs_micro.specs.Texts.{op_text};
@@ -10,8 +10,8 @@ use cs_names::Path;
 use cs_plan::Recipe;
 use std::fmt;
 
-/// Where a micro-operation came from, if that is asked for: the line of the trace, and of a change
-/// of a file the path that the file has there.
+/// Where a micro-operation came from: the number of the trace's line, None if that isn't asked for,
+/// and the path of the file that it changes, None if it changes none.
 #[derive(Clone, Copy)]
 pub struct Origin<'a> {
     pub line: Option<usize>,
@@ -21,6 +21,7 @@ pub struct Origin<'a> {
 impl fmt::Display for Origin<'_> {
     ghost output = { λ origin. Some (origin_text origin.line (option_copied origin.path)) };
 
+    /// Writes ` line `, the number and the path; nothing without a number.
     fn fmt<W: fmt::Write>(&self, f: &mut fmt::Formatter<W>) -> fmt::Result {
         match (self.line, self.path) {
             (None, _) => Ok(()),
@@ -30,7 +31,8 @@ impl fmt::Display for Origin<'_> {
     }
 }
 
-/// A micro-operation with its place and its origin.
+/// A micro-operation with its place in the trace and its origin. Without the origin its line is
+/// that of the plain list, which cs_plan's `Listing` writes: change both.
 #[derive(Clone, Copy)]
 pub struct OpLine<'a> {
     pub place: usize,
@@ -46,12 +48,13 @@ impl fmt::Display for OpLine<'_> {
         ++ (op_text l.op.now
         ++ (origin_text l.origin.line (option_copied l.origin.path) ++ codes "\n"))))) };
 
+    /// Writes the line, with its line feed.
     fn fmt<W: fmt::Write>(&self, f: &mut fmt::Formatter<W>) -> fmt::Result {
         write!(f, "op {} {}{}\n", self.place, self.op, self.origin)
     }
 }
 
-/// The first state with an equal tree, if it is asked for.
+/// The number of the first state with an equal tree. None if it isn't asked for.
 #[derive(Clone, Copy)]
 struct Same {
     first: Option<u32>,
@@ -60,6 +63,7 @@ struct Same {
 impl fmt::Display for Same {
     ghost output = { λ same. Some (same_text same.first) };
 
+    /// Writes ` same ` and the number; nothing without one.
     fn fmt<W: fmt::Write>(&self, f: &mut fmt::Formatter<W>) -> fmt::Result {
         match self.first {
             None => Ok(()),
@@ -68,8 +72,9 @@ impl fmt::Display for Same {
     }
 }
 
-/// A state: its number, its recipe, how many acknowledged lines it has, and the first state with
-/// an equal tree, if that is asked for.
+/// A state: its number, its recipe, how many acknowledged lines it has, and the number of the first
+/// state with an equal tree, None if that isn't asked for. Without the last its line is that of the
+/// plain list, which cs_plan's `Listing` writes: change both.
 #[derive(Clone, Copy)]
 pub struct StateLine<'a> {
     pub number: usize,
@@ -86,6 +91,7 @@ impl fmt::Display for StateLine<'_> {
         ++ (recipe_text l.recipe.now
         ++ (codes " says " ++ (decimal l.says ++ (same_text l.first ++ codes "\n"))))))) };
 
+    /// Writes the line, with its line feed.
     fn fmt<W: fmt::Write>(&self, f: &mut fmt::Formatter<W>) -> fmt::Result {
         let same = Same { first: self.first };
         write!(

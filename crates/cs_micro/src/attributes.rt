@@ -1,17 +1,18 @@
-//! Whose rights a micro-operation sets, and to which, as a list of micro-operations shows them.
+//! How the list of a trace's micro-operations prints whose rights are set, and to which.
 ghost use Rattle.std.specs.Prelude.{Some};
 ghost use Rattle.cs_micro.specs.Texts.{rights_text, target_text};
 
 use cs_trace::{Rights, Target};
 use std::fmt;
 
-/// Prints a file by its number, or a directory by its path.
+/// Whose rights are set, to be printed: a file by its number, or a directory by its path.
 #[derive(Clone, Copy)]
 pub struct TargetText<'a>(pub &'a Target);
 
 impl fmt::Display for TargetText<'_> {
     ghost output = { λ text. Some (target_text text.0.now) };
 
+    /// Prints `file` and the number, or `dir` and the path.
     fn fmt<W: fmt::Write>(&self, f: &mut fmt::Formatter<W>) -> fmt::Result {
         match self.0 {
             Target::File(file) => write!(f, "file {file}"),
@@ -20,13 +21,14 @@ impl fmt::Display for TargetText<'_> {
     }
 }
 
-/// Prints the permissions as three octal digits, then the owner and the group.
+/// Rights, to be printed: the permissions as three octal digits, then the owner and the group.
 #[derive(Clone, Copy)]
 pub struct RightsText<'a>(pub &'a Rights);
 
 impl fmt::Display for RightsText<'_> {
     ghost output = { λ text. Some (rights_text text.0.now) };
 
+    /// Prints them with blanks between, as in `644 ann users`.
     fn fmt<W: fmt::Write>(&self, f: &mut fmt::Formatter<W>) -> fmt::Result {
         let Rights {
             owner,

@@ -1,4 +1,5 @@
-//! The blocks of a file that a write touches.
+//! The blocks of a file that a write touches, and what it writes into each. `size` is the size of a
+//! block, `block` the number of one, and offsets are in bytes from the start of the file.
 ghost use Rattle.std.specs.Prelude.{◌≡◌, ◌++◌, ◌+◌, ◌<◌, ◌≤◌, length, IfOk, OnOk};
 ghost use Rattle.std.specs.List.{flat_map};
 ghost use Rattle.cs_trace_lines.specs.Versions.{block_bytes};
@@ -11,7 +12,7 @@ use cs_names::limits::FILE_BYTES;
 use cs_trace::BlockSize;
 use std::alloc::{AllocError, Global};
 
-/// The number of the block, from 0, that has the byte at this place of a file.
+/// The number, from 0, of the block that has the byte at the offset `place` of a file.
 pub fn block_of(size: BlockSize, place: u64) -> u64
     ensures value { result ≡ block_of (block_bytes size) place }
     ensures few { result ≤ place }
@@ -19,7 +20,8 @@ pub fn block_of(size: BlockSize, place: u64) -> u64
     place / size.bytes()
 }
 
-/// The write of those bytes that fall into this block. At least one of them does.
+/// The write into one block of those of the bytes that fall into it. At least one must. The bytes
+/// begin at `offset` in the file.
 fn write_block(
     alloc: Global,
     size: BlockSize,
@@ -42,12 +44,12 @@ fn write_block(
         block,
         start,
         at: from - start,
-        bytes: Bytes::keep(alloc, piece)?,
+        bytes: Bytes::copy_of(alloc, piece)?,
     })
 }
 
-/// Appends a write of at least one byte, as one micro-operation for each block that it touches.
-/// After an error, some of them may have been appended.
+/// Appends a write of at least one byte at the offset, as one micro-operation for each block that
+/// it touches, in their order. After an error, some of them may have been appended.
 pub fn push_blocks(
     alloc: Global,
     ops: &mut Vec<MicroOp>,
@@ -69,8 +71,8 @@ pub fn push_blocks(
     Ok(())
 }
 
-/// The parts of a write in the blocks that it touches, one after another, are its bytes. The call
-/// does nothing; its contract is the law.
+/// A law: the parts of a write in the blocks that it touches, one after another, are its bytes. The
+/// call does nothing.
 pub fn blocks_make_up_a_write(size: BlockSize, offset: u64, bytes: &[u8])
     requires { 0 < length bytes.now }
     ensures { flat_map (λ block. bytes_in (block_bytes size) block offset bytes.now)

@@ -1,4 +1,6 @@
-//! The micro-operations and the sync points of a list of operations.
+//! Breaks a list of operations into micro-operations and sync points. `block` is the size of a
+//! block here, and `size` that of a file before the operation. An error is that memory ran out; the
+//! lists are then dropped, so only `push_micros` says what they have.
 ghost use Rattle.std.specs.Prelude.{◌≡◌, ◌++◌, ◌∷◌, [], ◌+◌, ◌<◌, ◌≤◌, ◌↔◌, length, IfOk, IsErr};
 ghost use Rattle.std.specs.Prelude.{IsTrue, OnOk, ℕ};
 ghost use Rattle.std.specs.List.{All};
@@ -17,8 +19,9 @@ use cs_names::limits::{FILE_BYTES, MICRO_OPERATIONS};
 use cs_trace::{BlockSize, Node, Operation, Rights, Target};
 use std::alloc::{AllocError, Global};
 
-/// How many micro-operations a write breaks into, from a file of `size` bytes: none if it has no
-/// bytes. It allocates nothing.
+/// How many micro-operations a write to a file of `size` bytes breaks into: one for each block that
+/// it touches, and one more if it grows the file. A write of no byte breaks into none. It allocates
+/// nothing.
 fn count_of_write(block: BlockSize, size: u64, offset: u64, bytes: &[u8]) -> usize
     requires { 0 < length bytes.now → offset + length bytes.now ≤ FILE_BYTES }
     ensures { (file : ℕ)
@@ -33,14 +36,15 @@ fn count_of_write(block: BlockSize, size: u64, offset: u64, bytes: &[u8]) -> usi
     blocks as usize + changes
 }
 
-/// Whether owner, group and permissions are the same.
+/// Whether owner, group and permissions are the same, so that a chmod or a chown changes nothing.
 fn are_same_rights(rights: &Rights, others: &Rights) -> bool
     ensures { result ≡ same_rights rights.now others.now }
 {
     rights == others
 }
 
-/// How many micro-operations an operation breaks into. It allocates nothing.
+/// How many micro-operations an operation breaks into; 0 if it changes nothing, or is a sync. It
+/// allocates nothing.
 pub fn micro_count(block: BlockSize, operation: &Operation) -> usize
     requires { IsWithinLimit operation.now }
     ensures { result ≡ length (micros_of (block_bytes block) operation.now) }
@@ -65,8 +69,8 @@ pub fn micro_count(block: BlockSize, operation: &Operation) -> usize
     }
 }
 
-/// Whether the operations break into no more than MICRO_OPERATIONS micro-operations. It allocates
-/// nothing.
+/// Whether the operations break into at most MICRO_OPERATIONS micro-operations together. It
+/// allocates nothing.
 pub fn has_room(block: BlockSize, operations: &[Operation]) -> bool
     requires { All IsWithinLimit operations.now }
     ensures { IsTrue result
@@ -83,7 +87,8 @@ pub fn has_room(block: BlockSize, operations: &[Operation]) -> bool
     true
 }
 
-/// Appends the creation of an entry.
+/// Appends the creation of an entry at the path: of a new directory, or of the new file of the
+/// number in `node`.
 fn push_create(
     alloc: Global,
     ops: &mut Vec<MicroOp>,
@@ -102,7 +107,7 @@ fn push_create(
     Ok(())
 }
 
-/// Appends the removal of an entry.
+/// Appends the removal of the entry at the path, of a file or a directory as `kind` says.
 fn push_delete(
     alloc: Global,
     ops: &mut Vec<MicroOp>,
@@ -119,7 +124,7 @@ fn push_delete(
     Ok(())
 }
 
-/// Appends a move, unless both paths are the same.
+/// Appends the move of a file's entry; nothing if both paths are the same.
 fn push_move(
     alloc: Global,
     ops: &mut Vec<MicroOp>,
@@ -139,7 +144,7 @@ fn push_move(
     Ok(())
 }
 
-/// Appends the creation of one more entry of a file.
+/// Appends the creation of one more entry, at the path, of the file of that number.
 fn push_link(
     alloc: Global,
     ops: &mut Vec<MicroOp>,
@@ -156,8 +161,9 @@ fn push_link(
     Ok(())
 }
 
-/// Appends a change of size if the write grows the file of `size` bytes, and then its blocks;
-/// nothing if it has no bytes.
+/// Appends the micro-operations of a write to a file of `size` bytes: a change of size, if the
+/// write grows the file, and then the write into each block that it touches. Nothing if it has no
+/// bytes.
 fn push_write(
     alloc: Global,
     ops: &mut Vec<MicroOp>,
@@ -183,7 +189,7 @@ fn push_write(
     push_blocks(alloc, ops, block, file, offset, bytes)
 }
 
-/// Appends a change from `size` bytes to another size, unless they are the same.
+/// Appends a change of a file's size from `size` bytes to `to`; nothing if they are the same.
 fn push_size(ops: &mut Vec<MicroOp>, file: u32, size: u64, to: u64) -> Result<(), AllocError>
     ensures value { OnOk result (ops.new.items ≡ ops.old.items ++ truncate_micros file size to) }
     ensures memory { IsErr result → 0 < length (truncate_micros file size to) }
@@ -194,7 +200,7 @@ fn push_size(ops: &mut Vec<MicroOp>, file: u32, size: u64, to: u64) -> Result<()
     Ok(())
 }
 
-/// Appends a change of rights, unless both are the same.
+/// Appends a change of the target's rights to `after`; nothing if they were the same `before`.
 fn push_rights(
     alloc: Global,
     ops: &mut Vec<MicroOp>,
@@ -216,7 +222,7 @@ fn push_rights(
     Ok(())
 }
 
-/// Appends a text that the application acknowledges to its users.
+/// Appends an acknowledgement to the application's users, whose text isn't kept.
 fn push_say(ops: &mut Vec<MicroOp>) -> Result<(), AllocError>
     ensures { OnOk result (ops.new.items ≡ ops.old.items ++ MicroOp.Say ∷ []) }
 {
@@ -265,8 +271,8 @@ fn push_micros(
     }
 }
 
-/// Appends the sync point of the operation, if it is a sync; `count` micro-operations come before
-/// it.
+/// Appends the sync point of the operation, before which `count` micro-operations come; nothing if
+/// the operation is no sync.
 fn push_sync(
     alloc: Global,
     syncs: &mut Vec<SyncPoint>,
@@ -286,8 +292,8 @@ fn push_sync(
     Ok(())
 }
 
-/// The micro-operations of these operations, and their sync points. It runs out of memory only if
-/// there is at least one of either.
+/// The micro-operations of these operations, and their sync points, both in the order of the
+/// operations. It runs out of memory only if there is at least one of either.
 pub fn micros_and_syncs(
     alloc: Global,
     block: BlockSize,

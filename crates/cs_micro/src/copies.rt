@@ -1,10 +1,10 @@
-//! Copies of parts of a trace's operations.
+//! Copies of parts of a trace's operations, for its micro-operations and sync points.
 ghost use Rattle.std.specs.Prelude.{◌≡◌, IfOk};
 
 use cs_trace::{Covers, Target};
 use std::alloc::{AllocError, Global};
 
-/// A copy of the target. A file's allocates nothing.
+/// A copy of whose rights are set. Only that of a directory allocates.
 pub fn copy_target(alloc: Global, target: &Target) -> Result<Target, AllocError>
     ensures { IfOk result (λ copy. copy ≡ target.now) }
 {
@@ -14,7 +14,7 @@ pub fn copy_target(alloc: Global, target: &Target) -> Result<Target, AllocError>
     }
 }
 
-/// A copy of what a sync covers.
+/// A copy of what a sync covers. Only that of a directory allocates.
 pub fn copy_covers(alloc: Global, covers: &Covers) -> Result<Covers, AllocError>
     ensures { IfOk result (λ copy. copy ≡ covers.now) }
 {

@@ -1,4 +1,4 @@
-//! Why a trace is not broken up.
+//! Why a trace can't be broken into micro-operations.
 ghost use Rattle.std.specs.Prelude.{◌≡◌, Some};
 ghost use Rattle.cs_micro.specs.Texts.{fault_text};
 ghost use Rattle.cs_micro.specs.declared.fault.MicroFault.TheVariants.{Memory};
@@ -6,7 +6,7 @@ ghost use Rattle.cs_micro.specs.declared.fault.MicroFault.TheVariants.{Memory};
 use std::alloc::AllocError;
 use std::fmt;
 
-/// Why a trace is not broken up.
+/// Why a trace can't be broken into micro-operations.
 #[derive(Clone, Copy, Debug, PartialEq, Eq)]
 pub enum MicroFault {
     /// It has more than MICRO_OPERATIONS micro-operations.
@@ -18,6 +18,7 @@ pub enum MicroFault {
 impl fmt::Display for MicroFault {
     ghost output = { λ fault. Some (fault_text fault) };
 
+    /// Prints the fault as the program reports it.
     fn fmt<W: fmt::Write>(&self, f: &mut fmt::Formatter<W>) -> fmt::Result {
         f.write_str(match self {
             MicroFault::TooMany => "too many micro-operations",
@@ -29,6 +30,7 @@ impl fmt::Display for MicroFault {
 impl From<AllocError> for MicroFault {
     ghost from_gives = { λ _ fault. fault ≡ Memory };
 
+    /// A failed allocation is Memory.
     fn from(_refused: AllocError) -> MicroFault {
         MicroFault::Memory
     }

@@ -8,8 +8,8 @@ ghost use Rattle.cs_micro.specs.SyncPoints.{sync_points_of};
 
 use cs_trace::Trace;
 
-/// In the first two versions of traces, operations break into blocks of 4,096 bytes, and each file
-/// of a start without links has one path.
+/// In the first two versions of traces, writes break into blocks of 4,096 bytes, and each file of a
+/// start without links has one path.
 pub fn earlier_versions_break_up_as_before(trace: &Trace)
     requires { is_third trace.now.version ≡ false }
     ensures ops { (micros_in trace.now).ops ≡ micro_operations_of 4096 trace.now.operations }

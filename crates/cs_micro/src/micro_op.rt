@@ -1,4 +1,4 @@
-//! A step that reaches the disk by itself.
+//! The kinds of micro-operations, and how a list of them prints each.
 ghost use Rattle.std.specs.Prelude.{◌≡◌, Some};
 ghost use Rattle.cs_micro.specs.Texts.{kind_text, op_text};
 
@@ -14,7 +14,8 @@ pub enum EntryKind {
     Directory,
 }
 
-/// A step that reaches the disk by itself. It names a file by its number, and an entry by its path.
+/// A micro-operation: a step that reaches the disk by itself. It names a file by its number, and an
+/// entry of a directory by its path.
 #[derive(Debug, Drop)]
 pub enum MicroOp {
     /// A new entry: of a directory, or of the file of that number.
@@ -64,7 +65,7 @@ pub enum MicroOp {
     Say,
 }
 
-/// The word for what a new entry is of.
+/// The word for the kind of a new entry: `dir` or `file`.
 fn node_word(node: Node) -> &'static str
     ensures { result.now ≡ kind_text node }
 {
@@ -81,6 +82,7 @@ fn node_word(node: Node) -> &'static str
 impl fmt::Display for MicroOp {
     ghost output = { λ op. Some (op_text op) };
 
+    /// Prints one line without its end, as in `write_block 0 1 0 904`.
     fn fmt<W: fmt::Write>(&self, f: &mut fmt::Formatter<W>) -> fmt::Result {
         match self {
             MicroOp::CreateDirEntry { path, node, .. } => {

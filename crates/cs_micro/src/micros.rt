@@ -1,4 +1,4 @@
-//! A trace that is broken up.
+//! A trace that is broken into micro-operations.
 ghost use Rattle.std.specs.Prelude.{◌≡◌, ◌<◌, ◌≤◌, ◌↔◌, length, map, IfOk, IsErrOf};
 ghost use Rattle.cs_trace.specs.Traces.{start_paths};
 ghost use Rattle.cs_micro.specs.Legal.{AreLegal};
@@ -59,8 +59,8 @@ impl Micros {
         self.syncs.as_slice()
     }
 
-    /// The paths of each file at the start, in the order of the files' numbers: its own, and then
-    /// those of the start lines that link it.
+    /// The paths of each file at the start, in the order of the files' numbers: first the path that
+    /// its start line gives, and then those of the start lines that link it.
     pub fn starts(&self) -> &[Vec<Path>]
         ensures { map (λ paths. paths.items) result.now ≡ self.now.starts }
     {

@@ -7,7 +7,7 @@ ghost use Rattle.cs_micro.specs.Micros.{paths_of_files};
 use cs_names::Path;
 use std::alloc::{AllocError, Global};
 
-/// For each file a list that has only its own path.
+/// For each file, a list that has only its first path, the one in `files`.
 fn own_paths(alloc: Global, files: &[Path]) -> Result<Vec<Vec<Path>>, AllocError>
     ensures value { IfOk result (λ starts. map (λ paths. paths.items) starts.items
         ≡ map (λ path. path ∷ []) files.now) }
@@ -22,8 +22,8 @@ fn own_paths(alloc: Global, files: &[Path]) -> Result<Vec<Vec<Path>>, AllocError
     Ok(starts)
 }
 
-/// The paths of each file, in the order of the files' numbers: its own, and then those that link
-/// it.
+/// The paths of each file, in the order of the files' numbers: its first path, from `files`, and
+/// then those that `links` has with its number, in their order.
 pub fn paths_of_files(
     alloc: Global,
     files: &[Path],

@@ -1,4 +1,5 @@
-//! What a proof needs of a call, and a body doesn't.
+//! A function that lets a body make a call only for its contract.
 
-/// Takes the result of a call that is made for what its contract says, and does nothing with it.
+/// Does nothing. It takes the result of a call that a body makes only because the proof needs the
+/// call's contract.
 pub fn know<T: Copy>(_fact: T) {}

@@ -1,4 +1,5 @@
-//! What has a name: a file, a user or group, and a run.
+//! The kinds of thing that have a name, and the rule that each kind's names follow. The names
+//! themselves are in `name`.
 ghost use Rattle.std.specs.Prelude.{◌≡◌, ◌≢◌, ◌||◌, ◌==◌, List, ℕ, Result, Ok, Err, MatchResult};
 ghost use Rattle.std.specs.List.{list_any, list_all};
 ghost use Rattle.cs_names.specs.declared.fault.NameFault.{NameFault};
@@ -15,7 +16,7 @@ use crate::fault::NameFault;
 use crate::limits::{NAME_BYTES, RUN_NAME_BYTES, USER_NAME_BYTES};
 use crate::text::{as_utf8, contains_nul, short_text};
 
-/// A kind of thing that has a name, by the texts that may be its name.
+/// A kind of thing that has a name: which texts are names of that kind.
 pub trait Named {
     /// Which bytes are a name of the kind.
     ghost IsLegal: { List ℕ → Type 0 };
@@ -62,9 +63,10 @@ impl Named for File {
 
     ghost no_memory = { name_in-no_memory };
 
+    /// The first of the faults Empty, Long (over NAME_BYTES), NotText and Forbidden.
     fn check(bytes: &[u8]) -> Result<&str, NameFault> {
         let text = short_text(bytes, NAME_BYTES)?;
-        if has_forbidden(bytes) {
+        if is_forbidden(bytes) {
             return Err(NameFault::Forbidden);
         }
         Ok(text)
@@ -82,6 +84,8 @@ impl Named for User {
 
     ghost no_memory = { user_name_in-no_memory };
 
+    /// The first of the faults Empty, Long (over USER_NAME_BYTES), NotText and Forbidden, which
+    /// here means that a byte is NUL.
     fn check(bytes: &[u8]) -> Result<&str, NameFault> {
         let text = short_text(bytes, USER_NAME_BYTES)?;
         if contains_nul(bytes) {
@@ -102,6 +106,7 @@ impl Named for Run {
 
     ghost no_memory = { run_name_in-no_memory };
 
+    /// Every fault is Forbidden.
     fn check(bytes: &[u8]) -> Result<&str, NameFault> {
         if !is_run_name(bytes) {
             return Err(NameFault::Forbidden);
@@ -113,22 +118,22 @@ impl Named for Run {
     }
 }
 
-/// Whether a byte is `/` or NUL.
+/// Whether some byte is `/` or NUL.
 fn has_slash_or_nul(bytes: &[u8]) -> bool
     ensures { result ≡ list_any (λ c. c == 47 || c == 0) bytes.now }
 {
     bytes.iter().any(|c| *c == b'/' || *c == 0)
 }
 
-/// Whether the bytes have a `/` or a NUL, or are `.` or `..`.
-fn has_forbidden(bytes: &[u8]) -> bool
+/// Whether a file's name may not be these bytes: one is `/` or NUL, or they are `.` or `..`.
+fn is_forbidden(bytes: &[u8]) -> bool
     ensures { result ≡ is_forbidden bytes.now }
 {
     has_slash_or_nul(bytes) || bytes == b".".as_slice() || bytes == b"..".as_slice()
 }
 
-/// Whether each byte may be in a run's name.
-fn has_run_letters(bytes: &[u8]) -> bool
+/// Whether each byte may be in a run's name; true of no bytes.
+fn has_only_run_letters(bytes: &[u8]) -> bool
     ensures { result ≡ list_all is_run_letter bytes.now }
 {
     bytes
@@ -136,9 +141,9 @@ fn has_run_letters(bytes: &[u8]) -> bool
         .all(|c| matches!(*c, b'a'..=b'z' | b'0'..=b'9' | b'_' | b'-'))
 }
 
-/// Whether the bytes spell the name of a run.
+/// Whether the bytes spell the name of a run. `RunName::is_legal` offers it to other crates.
 pub(crate) fn is_run_name(bytes: &[u8]) -> bool
     ensures { result ≡ is_run_name bytes.now }
 {
-    !bytes.is_empty() && bytes.len() <= RUN_NAME_BYTES && has_run_letters(bytes)
+    !bytes.is_empty() && bytes.len() <= RUN_NAME_BYTES && has_only_run_letters(bytes)
 }

@@ -1,4 +1,4 @@
-//! The names of a path, one after another.
+//! The names of a path, lent: an iterator that copies nothing. The path itself is in `path`.
 ghost use Rattle.std.specs.Prelude.{◌≡◌, ◌≢◌, ◌==◌, ◌∷◌, ◌++◌, [], MatchOption, length};
 ghost use Rattle.std.specs.Prelude.{string_bytes};
 ghost use Rattle.std.specs.Cmp.{partial_equiv_from_equiv};
@@ -11,11 +11,11 @@ ghost use Rattle.cs_names.specs.Pieces.{pieces};
 use crate::pieces::Pieces;
 use std::marker::Model;
 
-/// The names of a path from the root down, lent as texts, or those that are still to come.
-/// Contracts see the list of their bytes.
+/// The names of a path from the root down, lent. As an iterator it yields them in that order, and
+/// then has only those that it hasn't yielded yet. Contracts see the list of the names' bytes.
 #[derive(Debug, Drop)]
 pub struct Names<'a> {
-    // with a NUL between two names
+    // the names, separated by NULs; empty if there is none
     text: &'a str,
 }
 
@@ -30,14 +30,15 @@ impl<'a> Model for Names<'a> {
     ghost invariant = { λ names. AreLegalNames (path_at names.text.now) };
 }
 
-/// How many pieces a text has between the NULs.
+/// How many pieces NULs divide the bytes into: one more than there are NULs, so 1 of no bytes.
 fn count_pieces(bytes: &[u8]) -> usize
     ensures { result ≡ length (pieces 0 bytes.now) }
 {
     Pieces::of(bytes, 0).count()
 }
 
-/// The first name of the text, and the text of those after it.
+/// Splits a text that isn't empty after its first name. Returns the name and the text of the names
+/// after it, which is empty if there is none.
 fn cut_name(text: &str) -> (&str, &str)
     requires some { length text.now ≢ 0 }
     requires legal { AreLegalNames (path_at text.now) }
@@ -51,7 +52,7 @@ fn cut_name(text: &str) -> (&str, &str)
 }
 
 impl<'a> Names<'a> {
-    /// The names of a text that has a NUL between two of them.
+    /// The names in a text, which NULs separate; no names if it is empty.
     pub(crate) fn of(text: &'a str) -> Names<'a>
         requires { AreLegalNames (path_at text.now) }
         ensures { result ≡ path_at text.now }
@@ -59,7 +60,7 @@ impl<'a> Names<'a> {
         Names { text }
     }
 
-    /// The text, with a NUL between two names.
+    /// The names as one text, separated by NULs; empty if there is none.
     pub(crate) fn as_text(&self) -> &'a str
         ensures value { path_at result.now ≡ self.now }
         ensures legal { AreLegalNames (path_at result.now) }
@@ -84,7 +85,7 @@ impl<'a> Names<'a> {
         count_pieces(self.text.as_bytes())
     }
 
-    /// The names before the last one, and the last one.
+    /// The names before the last one, and the last one; None if there are no names.
     pub fn split_last(&self) -> Option<(Names<'a>, &'a str)>
         ensures { MatchOption result (self.now ≡ [])
             (λ parts. (self.now ≡ parts.0 ++ parts.1.now ∷ []) × IsLegalName parts.1.now) }
@@ -98,7 +99,8 @@ impl<'a> Names<'a> {
         }
     }
 
-    /// The names of the parent's path; the root's parent is the root.
+    /// The names without the last one, so those of the parent's path. The root's parent is the
+    /// root.
     pub fn parent(&self) -> Names<'a>
         ensures { result ≡ parent_path self.now }
     {
@@ -116,6 +118,7 @@ impl<'a> Iterator for Names<'a> {
 
     ghost remaining = { item_count (λ names. names) };
 
+    /// Removes the first name and returns it; None if there is none left.
     fn next(&mut self) -> Option<&'a str> {
         if self.text.is_empty() {
             return None;
@@ -131,6 +134,7 @@ impl<'a> PartialEq for Names<'a> {
 
     ghost laws = { partial_equiv_from_equiv path_equiv };
 
+    /// Whether both have the same names in the same order.
     fn eq(&self, other: &Names<'a>) -> bool {
         self.text == other.text
     }

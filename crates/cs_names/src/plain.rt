@@ -1,4 +1,5 @@
-//! A text, texts and bytes as they came, which contracts see as their bytes alone.
+//! Owned text, texts and bytes of any content, which contracts see as their bytes. Text that has
+//! rules is in `name` and `path`.
 ghost use Rattle.std.specs.Prelude.{◌≡◌, IfOk, length, map, string_bytes};
 ghost use Rattle.std.specs.Cmp.{partial_equiv_from_equiv};
 ghost use Rattle.std.specs.Cmp.Lexicographic.{lists_equiv, nat_list_eq_equiv};
@@ -8,7 +9,7 @@ ghost use Rattle.cs_names.specs.Texts.{same_bytes};
 use std::alloc::{AllocError, Global};
 use std::marker::Model;
 
-/// A text, whatever it says. Contracts see its bytes.
+/// A text of any content. Contracts see its bytes.
 #[derive(Debug, Drop)]
 pub struct Text {
     text: String,
@@ -58,9 +59,9 @@ impl Text {
         Text { text }
     }
 
-    /// Copies the text.
-    pub fn keep(alloc: Global, text: &str) -> Result<Text, AllocError>
-        ensures { IfOk result (λ kept. kept ≡ text.now) }
+    /// Copies a lent text.
+    pub fn copy_of(alloc: Global, text: &str) -> Result<Text, AllocError>
+        ensures { IfOk result (λ copy. copy ≡ text.now) }
     {
         Ok(Text {
             text: String::from_str(alloc, text)?,
@@ -132,23 +133,23 @@ impl Texts {
 }
 
 impl Bytes {
-    /// These bytes. It takes no memory.
+    /// Wraps the bytes. It takes no memory.
     pub fn new(bytes: Vec<u8>) -> Bytes
         ensures { result ≡ bytes.items }
     {
         Bytes { bytes }
     }
 
-    /// The same bytes, in memory of their own.
-    pub fn keep(alloc: Global, bytes: &[u8]) -> Result<Bytes, AllocError>
-        ensures { IfOk result (λ kept. kept ≡ bytes.now) }
+    /// Copies lent bytes.
+    pub fn copy_of(alloc: Global, bytes: &[u8]) -> Result<Bytes, AllocError>
+        ensures { IfOk result (λ copy. copy ≡ bytes.now) }
     {
         Ok(Bytes {
             bytes: Vec::from_slice(alloc, bytes)?,
         })
     }
 
-    /// The bytes as a slice.
+    /// Lends the bytes.
     pub fn as_slice(&self) -> &[u8]
         ensures { result.now ≡ self.now }
     {
@@ -162,7 +163,7 @@ impl Bytes {
         self.bytes.len()
     }
 
-    /// The bytes, to keep.
+    /// Unwraps the bytes.
     pub fn into_vec(self) -> Vec<u8>
         ensures { result.items ≡ self }
     {
@@ -179,7 +180,7 @@ impl Bytes {
     }
 }
 
-/// Copies each text; none is kept if memory runs out.
+/// Copies the texts, in their order. If memory runs out, the copies made so far are dropped.
 fn copy_texts(alloc: Global, texts: &[String]) -> Result<Vec<String>, AllocError>
     ensures { IfOk result (λ copy. map string_bytes copy.items ≡ map string_bytes texts.now) }
 {
@@ -190,7 +191,7 @@ fn copy_texts(alloc: Global, texts: &[String]) -> Result<Vec<String>, AllocError
     Ok(copy)
 }
 
-/// Copies the bytes.
+/// Copies the bytes, with a contract that names the list of them.
 fn copy_bytes(bytes: &Vec<u8>) -> Result<Vec<u8>, AllocError>
     ensures { IfOk result (λ copy. copy.items ≡ bytes.now.items) }
 {
@@ -202,6 +203,7 @@ impl PartialEq for Text {
 
     ghost laws = { partial_equiv_from_equiv nat_list_eq_equiv };
 
+    /// Compares the bytes.
     fn eq(&self, other: &Text) -> bool {
         self.text == other.text
     }
@@ -216,6 +218,7 @@ impl PartialEq for Texts {
 
     ghost laws = { partial_equiv_from_equiv (lists_equiv nat_list_eq_equiv) };
 
+    /// Whether both have equal texts in the same order.
     fn eq(&self, other: &Texts) -> bool {
         self.texts == other.texts
     }
@@ -230,6 +233,7 @@ impl PartialEq for Bytes {
 
     ghost laws = { partial_equiv_from_equiv nat_list_eq_equiv };
 
+    /// Compares the bytes.
     fn eq(&self, other: &Bytes) -> bool {
         self.bytes == other.bytes
     }

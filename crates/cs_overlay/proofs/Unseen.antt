@@ -124,6 +124,16 @@ changed_at P c e n None new is has goes stays all =
 changed_at P c e n (Some d) None is has goes stays all = absurd (false≢true (stays refl))
 changed_at P c e n (Some d) (Some v) is has goes stays all = (d, v, sym is, all, goes)
 
+-- the entry of a number that has a node is that node
+pub some_node : (c : Upper) (n : ℕ) (o : Option Node) → Some o ≡ c n → HasNode c n → IsSome o
+some_node c n None is has =
+    absurd (false≢true (ap is_some (let two : Some None ≡ Some (Some has.0) = is ∙ has.1 in let one : None ≡ Some has.0 = cc in one)))
+some_node c n (Some d) is has = refl
+
+-- a number that has a node has an entry
+pub no_entry : (c : Upper) (n : ℕ) → None ≡ c n → HasNode c n → ⊥
+no_entry c n none has = false≢true (ap is_some (none ∙ has.1))
+
 pub steps_of : (t : Tree) (c e : Upper) (n : ℕ) (f : Record → Record) (d v : Node) → c n ≡ Some (Some d)
     → IsStep (content_numbered t n) n f d v → SameNodes (with_at c n (Some (Some v))) e → StepsAt t n f c e
 steps_of t c e n f d v here step goes = record { was = d; here = here; is = v; step = step; goes = goes }

@@ -5,12 +5,12 @@ use Rattle.std.specs.declared.string.String.{String}
 use Rattle.cs_tree_model.specs.Maps.Texts.{by_bytes}
 use Rattle.cs_tree_model.specs.Maps.Values.{map_values}
 use Rattle.cs_tree_model.specs.Tree.{NameBytes, name_cmp}
-use Rattle.cs_overlay.specs.declared.names.Said.{Said}
+use Rattle.cs_overlay.specs.declared.answers.Answer.{Answer}
 
 -- the answer for each name
-abbrev pub numbers_of : {Y : Type 0} → List (String Y × Said) → FinMap name_cmp (Option ℕ)
+abbrev pub numbers_of : {Y : Type 0} → List (String Y × Answer) → FinMap name_cmp (Option ℕ)
 numbers_of es = map_values (λ s. s.number) (from_entries (by_bytes es))
 
 -- the answer for a name has the name
-abbrev pub AreNamed : (NameBytes → Option Said) → Type 0
-AreNamed said = (x : NameBytes) (s : Said) → said x ≡ Some s → s.name ≡ x
+abbrev pub AreNamed : (NameBytes → Option Answer) → Type 0
+AreNamed said = (x : NameBytes) (s : Answer) → said x ≡ Some s → s.name ≡ x

@@ -1,4 +1,4 @@
-//! The blocks of a file that an overlay changed.
+//! A block of a file that an overlay changed.
 ghost use Rattle.std.specs.Prelude.{◌≡◌, ◌+◌, ◌++◌, ◌≤◌, ◌<◌, ◌^◌, ℕ, length, map, replicate, take};
 ghost use Rattle.std.specs.Prelude.{drop, slice_index, OnOk};
 ghost use Rattle.std.specs.List.{range_with_len};
@@ -22,14 +22,14 @@ impl Model for Block {
 }
 
 impl Block {
-    /// A block with these bytes.
+    /// Wraps a block's bytes.
     pub fn of(bytes: Vec<u8>) -> Block
         ensures { result ≡ bytes.items }
     {
         Block { bytes }
     }
 
-    /// The block's bytes, lent.
+    /// Lends the block's bytes.
     pub fn bytes(&self) -> &[u8]
         ensures { result.now ≡ self.now }
     {
@@ -44,14 +44,15 @@ impl Block {
     }
 
     /// Replaces the bytes from `start` on by the piece, which doesn't reach past the end.
-    pub fn put(&mut self, start: usize, piece: &[u8])
+    pub fn overwrite(&mut self, start: usize, piece: &[u8])
         requires { start + length piece.now ≤ length self.old }
         ensures { self.new ≡ put_in start piece.now self.old }
     {
-        put_over(&mut self.bytes, start, piece);
+        overwrite_bytes(&mut self.bytes, start, piece);
     }
 
-    /// Appends zeros until the block has at least `n` bytes. After an error some may be there.
+    /// Appends zeros until the block has at least `n` bytes; a longer block stays as it is. After
+    /// an error some of the zeros may be there, which no read sees.
     pub fn lengthen(&mut self, n: usize) -> Result<(), AllocError>
         ensures longer { (z : ℕ) × (self.new ≡ self.old ++ replicate z 0) }
         ensures there { OnOk result (n ≤ length self.new) }
@@ -63,7 +64,7 @@ impl Block {
 }
 
 /// At most `count` bytes from `start` on: fewer at the end, none past it.
-fn part(bytes: &[u8], start: usize, count: usize) -> &[u8]
+fn part_of(bytes: &[u8], start: usize, count: usize) -> &[u8]
     ensures { result.now ≡ take count (drop start bytes.now) }
 {
     let start = bytes.len().min(start);
@@ -72,7 +73,8 @@ fn part(bytes: &[u8], start: usize, count: usize) -> &[u8]
     &rest[..end]
 }
 
-/// Appends `count` bytes of the source from `start` on, with zeros past its end.
+/// Appends `count` bytes of the source from `start` on, and zeros for those past its end. After an
+/// error some of them may be there.
 pub fn append_part(
     out: &mut Vec<u8>,
     source: &[u8],
@@ -85,13 +87,13 @@ pub fn append_part(
         ++ map (slice_index source.now) (range_with_len start count)) }
 {
     let end = out.len() + count;
-    out.extend_from_slice(part(source, start, count))?;
+    out.extend_from_slice(part_of(source, start, count))?;
     out.resize(end, 0)?;
     Ok(())
 }
 
-/// Replaces the bytes from `start` on by the piece, which doesn't reach past the end.
-fn put_over(bytes: &mut [u8], start: usize, piece: &[u8])
+/// Does what `Block::overwrite` does, to the bytes of a block.
+fn overwrite_bytes(bytes: &mut [u8], start: usize, piece: &[u8])
     requires { start + length piece.now ≤ length bytes.old }
     ensures bytes { bytes.new ≡ put_in start piece.now bytes.old }
     ensures length { length bytes.new ≡ length bytes.old }

@@ -1,4 +1,5 @@
-//! Reads of one number: of the overlay's entry there, or of the lower tree if it has none.
+//! Reads of one number. The overlay's entry there decides, which is a node, or None if the file was
+//! removed; without an entry the lower tree is read.
 ghost use Rattle.std.specs.Prelude.{◌≡◌, ◌≢◌, [], IfOk, IsErr, IsSomeAnd, take, drop};
 ghost use Rattle.std.specs.Option.{option_copied, option_map};
 ghost use Rattle.cs_tree_model.specs.Record.{metadata_of_ref};
@@ -26,8 +27,8 @@ pub fn record<'a, L: TreeRead>(
     }
 }
 
-/// The number of the file of that name in the directory, if there is one. It asks the lower tree if
-/// the directory has no answer of its own.
+/// The number of the file of that name in the directory; None if no file has it. It asks the lower
+/// tree if the directory has no answer of its own.
 pub fn find<L: TreeRead>(
     lower: &L,
     entry: Option<&Option<Node>>,
@@ -73,8 +74,8 @@ pub fn name<'a, L: TreeRead>(
     }
 }
 
-/// At most `count` bytes of the file from `offset` on; None if the number isn't a file's. Only the
-/// bytes take memory.
+/// At most `count` bytes of the file from `offset` on, none past its end. None if the number isn't
+/// a file's. If no byte is returned, it takes no memory.
 pub fn read<L: TreeRead>(
     alloc: Global,
     lower: &L,

@@ -1,4 +1,5 @@
-//! Copies of lower blocks, made before they are written. No read shows the difference.
+//! Copies of the lower file's blocks, made before a write changes them. No read shows the
+//! difference. `kept` is the number of the lower file's first bytes that still show.
 ghost use Rattle.std.specs.Prelude.{◌≡◌, ◌≤◌, ◌<◌, ◌^◌, ℕ, List, Some, length, IfOk, IfSome};
 ghost use Rattle.std.specs.Prelude.{IsSome, OnOk};
 ghost use Rattle.std.specs.Ordering.{nat_cmp};
@@ -10,7 +11,8 @@ use cs_tree_model::TreeRead;
 use std::alloc::{AllocError, Global};
 use std::collections::BTreeMap;
 
-/// The block that the file shows now, if it has no copy of it: what still shows of the lower file.
+/// The block as the file shows it while it has no copy: what still shows of the lower file, so
+/// fewer than 4,096 bytes, or none, at and past the end of that.
 fn shown_block<L: TreeRead>(
     alloc: Global,
     lower: &L,
@@ -29,8 +31,13 @@ fn shown_block<L: TreeRead>(
     Ok(Block::of(bytes))
 }
 
-/// Appends zeros to a block, if the file has it, until it has at least `end` bytes.
-fn lengthen(blocks: &mut BTreeMap<u64, Block>, index: u64, end: usize) -> Result<(), AllocError>
+/// Appends zeros to a block until it has at least `end` bytes; does nothing if the file has no copy
+/// of the block. After an error some of the zeros may be there.
+fn lengthen_block(
+    blocks: &mut BTreeMap<u64, Block>,
+    index: u64,
+    end: usize,
+) -> Result<(), AllocError>
     ensures longer { AreLonger (get nat_cmp blocks.old) (get nat_cmp blocks.new) }
     ensures there { OnOk result (IfSome (get nat_cmp blocks.new index) (λ s. end ≤ length s)) }
 {
@@ -40,8 +47,9 @@ fn lengthen(blocks: &mut BTreeMap<u64, Block>, index: u64, end: usize) -> Result
     Ok(())
 }
 
-/// Copies a block of the lower file up, unless the file has the block.
-fn bring_block_up<L: TreeRead>(
+/// Copies a block of the lower file up, unless the file has a copy already. After an error the file
+/// has none.
+fn copy_block_up<L: TreeRead>(
     alloc: Global,
     lower: &L,
     number: u64,
@@ -65,8 +73,9 @@ fn bring_block_up<L: TreeRead>(
     Ok(())
 }
 
-/// Copies a block of the lower file up, and lengthens it to at least `end` bytes.
-fn reach<L: TreeRead>(
+/// Copies a block of the lower file up, unless the file has a copy already, and lengthens the copy
+/// to at least `end` bytes. After an error no read shows a difference.
+fn make_block_reach<L: TreeRead>(
     alloc: Global,
     lower: &L,
     number: u64,
@@ -84,14 +93,14 @@ fn reach<L: TreeRead>(
     ensures there { OnOk result
         ((s : List ℕ) × (get nat_cmp blocks.new index ≡ Some s) × (end ≤ length s)) }
 {
-    bring_block_up(alloc, lower, number, kept, blocks, index)?;
-    lengthen(blocks, index, end)?;
+    copy_block_up(alloc, lower, number, kept, blocks, index)?;
+    lengthen_block(blocks, index, end)?;
     Ok(())
 }
 
 /// Copies up all blocks from `offset` to `end`, so that a write there takes no memory. After an
 /// error some may be copied; no read shows the difference.
-pub fn bring_up<L: TreeRead>(
+pub fn copy_blocks_up<L: TreeRead>(
     alloc: Global,
     lower: &L,
     number: u64,
@@ -110,7 +119,7 @@ pub fn bring_up<L: TreeRead>(
     while at < end {
         let index = at / 4096;
         let stop = end.min((index + 1) * 4096);
-        reach(
+        make_block_reach(
             alloc,
             lower,
             number,

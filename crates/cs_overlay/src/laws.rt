@@ -1,5 +1,5 @@
-//! For each changing call of a store the law that it leaves the lower tree unchanged, as the
-//! contract of a function that makes the call.
+//! Laws: no call that changes an overlay changes the lower tree. Each law is the contract of a
+//! function that makes the call.
 ghost use Rattle.std.specs.Prelude.{◌≡◌, ◌≢◌, ◌+◌, ◌<◌, ◌^◌, ℕ, List, None, IfOk, IfSome, IsSome};
 ghost use Rattle.std.specs.Prelude.{length};
 ghost use Rattle.std.specs.Arc.{arc_value};
@@ -16,7 +16,8 @@ use std::alloc::{AllocError, Global};
 use std::sync::Arc;
 
 /// A write into an overlay doesn't change the lower tree: a second overlay, made over it
-/// afterwards, starts with the same tree as the first.
+/// afterwards, starts with the same tree as the first. Returns both, the written one first, unless
+/// memory runs out.
 pub fn lower_stays<L: TreeRead + Drop>(
     alloc: Global,
     lower: &Arc<L>,

@@ -1,13 +1,14 @@
 //! A tree that changes, over a lower one that is shared and never changes. It keeps only what
-//! differs.
+//! differs: a node for each file that changed, and in it the blocks or the answers for names that
+//! did.
 #![tactic(auto)]
 
+mod answers;
 mod block;
 mod entry;
 mod growing;
 pub mod laws;
 mod listing;
-mod names;
 mod node;
 mod overlay;
 mod patched;

@@ -1,34 +1,37 @@
-//! The entries of a directory over the lower one's.
+//! Listings of a directory: its own answers merged with the lower directory's entries. Each
+//! function returns the first entry after `last`, or the first of all if that is None, and None if
+//! there is none before the bound.
 ghost use Rattle.std.specs.Prelude.{◌≡◌, Some, IfSome, IsSome};
 ghost use Rattle.std.specs.Option.{option_copied, option_map};
 ghost use Rattle.std.specs.FinMap.{get};
 ghost use Rattle.cs_tree_model.specs.Nexts.{entry_name, IsEntryBelow};
 ghost use Rattle.cs_overlay.specs.Layers.{found_at, own_in, said_over};
 
-use crate::names::Names;
+use crate::answers::Answers;
 use crate::node::{Body, Node};
 use cs_names::Name;
 use cs_tree_model::{ListedEntry, TreeRead};
 
-/// The next entry of a directory that has its own answers for these names. Each step passes one of
-/// them, and asks the lower directory only for entries before it.
-fn merged<'a, L: TreeRead>(
+/// The next entry of a directory that has these answers of its own. Each step of the loop looks at
+/// one of them: it asks the lower directory for an entry before it, and passes it if no file has
+/// the name.
+fn next_of_both<'a, L: TreeRead>(
     lower: &'a L,
-    names: &'a Names,
+    answers: &'a Answers,
     directory: u64,
     last: Option<&Name>,
     bound: Option<&Name>,
 ) -> Option<ListedEntry<'a>>
     ensures name { IsEntryBelow
-        (λ y. IsSome (said_over (L.tree lower.now) directory y (get names.now y)))
+        (λ y. IsSome (said_over (L.tree lower.now) directory y (get answers.now y)))
         (option_copied last.entry) (option_copied bound.entry) (option_map entry_name result) }
     ensures number { IfSome result
-        (λ e. said_over (L.tree lower.now) directory (entry_name e) (get names.now (entry_name e))
+        (λ e. said_over (L.tree lower.now) directory (entry_name e) (get answers.now (entry_name e))
         ≡ Some e.number) }
 {
     let mut from = last;
     loop {
-        let Some((name, number)) = names.after(from, bound) else {
+        let Some((name, number)) = answers.first_after(from, bound) else {
             return lower.entry_after(directory, from, bound);
         };
         if let Some(entry) = lower.entry_after(directory, from, Some(name)) {
@@ -42,8 +45,9 @@ fn merged<'a, L: TreeRead>(
     }
 }
 
-/// The next entry of a directory that has a node.
-fn node_after<'a, L: TreeRead>(
+/// The next entry of a directory whose node has this body. The body of a file has no answers, so
+/// then it is the lower tree's next entry.
+fn next_in_node<'a, L: TreeRead>(
     lower: &'a L,
     body: &'a Body,
     directory: u64,
@@ -58,12 +62,13 @@ fn node_after<'a, L: TreeRead>(
         ≡ Some e.number) }
 {
     match body {
-        Body::Directory(names) => merged(lower, names, directory, last, bound),
+        Body::Directory(answers) => next_of_both(lower, answers, directory, last, bound),
         Body::File(_) => lower.entry_after(directory, last, bound),
     }
 }
 
-/// The next entry of a directory, given the overlay's entry at its number.
+/// The next entry of a directory, given the overlay's entry at its number: a node, None if the
+/// directory was removed, or no entry, and then the lower tree is asked.
 pub fn entry_after<'a, L: TreeRead>(
     lower: &'a L,
     entry: Option<&'a Option<Node>>,
@@ -79,7 +84,7 @@ pub fn entry_after<'a, L: TreeRead>(
         ≡ Some e.number) }
 {
     match entry {
-        Some(Some(node)) => node_after(lower, &node.body, directory, last, bound),
+        Some(Some(node)) => next_in_node(lower, &node.body, directory, last, bound),
         Some(None) => None,
         None => lower.entry_after(directory, last, bound),
     }

@@ -1,4 +1,4 @@
-//! The nodes of an overlay.
+//! The nodes of an overlay: the files that differ from the lower tree's.
 ghost use Rattle.std.specs.Prelude.{◌≡◌, ◌+◌, ◌<◌, ◌^◌, ℕ, List, Option, None, Some, OnOk, OnErr};
 ghost use Rattle.std.specs.Prelude.{IfOk, IfSome, IsSome, length};
 ghost use Rattle.std.specs.Option.{option_copied};
@@ -10,21 +10,21 @@ ghost use Rattle.cs_tree_model.specs.Tree.{content_numbered};
 ghost use Rattle.cs_overlay.specs.Layers.{content_over, own_in, with_answer};
 ghost use Rattle.cs_overlay.specs.Layers.{IsCopy, IsNewFile, IsNode, IsStep, HidesPast};
 
-use crate::names::Names;
+use crate::answers::Answers;
 use crate::patched::Patched;
 use cs_names::{Name, UserName};
 use cs_tree_model::{Change, Kind, MetadataBuf, New, Stamp, TreeRead, is_directory_mode};
 use std::alloc::{AllocError, Global};
 
-/// The answers of a directory, or the bytes of a file.
+/// A directory's own answers, or a file's bytes.
 #[derive(Drop)]
 pub enum Body {
-    Directory(Names),
+    Directory(Answers),
     File(Patched),
 }
 
 impl Body {
-    /// The body of a copy of a lower file or directory: it takes no memory.
+    /// The body of a copy of a lower file or directory, which shows the same. It takes no memory.
     fn of_copy(alloc: Global, kind: Kind) -> Body
         ensures content { (low : Option (List ℕ)) → kind ≡ kind_of low
             → content_over low result ≡ low }
@@ -32,17 +32,18 @@ impl Body {
         ensures own { (x : List ℕ) → own_in result x ≡ None }
     {
         match kind {
-            Kind::Directory => Body::Directory(Names::new(alloc)),
-            Kind::File { length } => Body::File(Patched::lower(alloc, length)),
+            Kind::Directory => Body::Directory(Answers::new(alloc)),
+            Kind::File { length } => Body::File(Patched::of_lower(alloc, length)),
         }
     }
 
-    /// The directory's own answer for a name; None if it has none, and in a file.
+    /// The directory's own answer for a name: the number of its file, or None inside if no file has
+    /// it. None outside if there is no own answer, and in a file.
     pub fn answer(&self, name: &str) -> Option<Option<u64>>
         ensures { result ≡ own_in self.now name.now }
     {
         match self {
-            Body::Directory(names) => names.get(name),
+            Body::Directory(answers) => answers.get(name),
             Body::File(_) => None,
         }
     }
@@ -59,8 +60,8 @@ pub struct Node {
 }
 
 impl Node {
-    /// A node that shows what the lower tree has at the number; None if that has nothing there. It
-    /// copies no byte of a file, and no entry of a directory.
+    /// A node that shows what the lower tree has at the number; None if the lower tree has nothing
+    /// there. It copies no byte of a file, and no entry of a directory.
     pub fn copy_of<L: TreeRead>(
         alloc: Global,
         lower: &L,
@@ -87,7 +88,8 @@ impl Node {
         }))
     }
 
-    /// The node of a new file or directory, which the stamp's user made at the stamp's moment.
+    /// The node of a new file or directory, which the stamp's user made at the stamp's moment. It
+    /// has no bytes or entries, and version 0.
     pub fn new_file(
         alloc: Global,
         number: u64,
@@ -103,9 +105,9 @@ impl Node {
         let owner = stamp.user.try_clone()?;
         let muid = stamp.user.try_clone()?;
         let (kind, body) = if is_directory_mode(new.mode) {
-            (Kind::Directory, Body::Directory(Names::new(alloc)))
+            (Kind::Directory, Body::Directory(Answers::new(alloc)))
         } else {
-            let empty = Patched::lower(alloc, 0);
+            let empty = Patched::of_lower(alloc, 0);
             (Kind::File { length: 0 }, Body::File(empty))
         };
         let metadata = MetadataBuf {
@@ -127,28 +129,30 @@ impl Node {
         })
     }
 
-    /// Sets the directory's answer for a name: the file that has it, or that no file has it.
+    /// Sets the directory's answer for a name: the file that has it, or that no file has it. Does
+    /// nothing to a file. After an error the node is unchanged.
     pub fn insert_answer(&mut self, name: Name, answer: Option<u64>) -> Result<(), AllocError>
         ensures ok { OnOk result (self.new ≡ with_answer self.old name answer) }
         ensures err { OnErr result (self.new ≡ self.old) }
     {
-        if let Body::Directory(names) = &mut self.body {
-            names.insert(name, answer)?;
+        if let Body::Directory(answers) = &mut self.body {
+            answers.insert(name, answer)?;
         }
         Ok(())
     }
 
-    /// Replaces the directory's answer for a name that has one. It takes no memory.
+    /// Replaces the directory's answer for a name that has one; does nothing to a file. It takes no
+    /// memory.
     pub fn set_answer(&mut self, name: &str, answer: Option<u64>)
         requires { IsSome (own_in self.old.body name.now) }
         ensures { self.new ≡ with_answer self.old name.now answer }
     {
-        if let Body::Directory(names) = &mut self.body {
-            names.set(name, answer);
+        if let Body::Directory(answers) = &mut self.body {
+            answers.replace(name, answer);
         }
     }
 
-    /// Writes bytes into the file over the lower file of the number, and stamps it. It copies only
+    /// Writes bytes into the file, and stamps it. `number` is the lower file's. It copies only
     /// the blocks that the bytes touch. After an error no read shows a difference.
     pub fn write<L: TreeRead>(
         &mut self,
@@ -178,7 +182,8 @@ impl Node {
         Ok(())
     }
 
-    /// Sets the file's length, and its mtime and muid to the stamp's. The version stays.
+    /// Sets the file's length to `n`, and its mtime and muid to the stamp's. The version stays.
+    /// After an error no read shows a difference.
     fn set_length(&mut self, n: u64, stamp: Stamp) -> Result<(), AllocError>
         ensures ok { OnOk result
             ((low : Option (List ℕ)) (m : ℕ) → IsNode low m self.old
@@ -199,7 +204,9 @@ impl Node {
         Ok(())
     }
 
-    /// Sets the fields that a change names, except the name: `group` is the change's group.
+    /// Sets the fields that a change names, except the name. `group` is a copy of the change's
+    /// group, which the caller makes before it changes anything. After an error no read shows a
+    /// difference.
     pub fn change(
         &mut self,
         fields: &Change,
@@ -225,7 +232,7 @@ impl Node {
     }
 }
 
-/// A copy of a name, if there is one.
+/// Copies a file's name; None if there is none, as of the root.
 pub fn try_clone_name(name: Option<&Name>) -> Result<Option<Name>, AllocError>
     ensures { IfOk result (λ copy. copy ≡ option_copied name.entry) }
 {

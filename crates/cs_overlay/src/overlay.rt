@@ -1,4 +1,4 @@
-//! A tree over a lower one.
+//! The store: a tree over a lower one, with the calls that read and change it.
 ghost use Rattle.std.specs.Prelude.{◌≡◌, ◌≢◌, None, Some, IfErr, IfOk, IfSome, IsSome, OnErr, OnOk};
 ghost use Rattle.std.specs.Arc.{arc_value};
 ghost use Rattle.cs_tree_model.specs.Fresh.{fresh};
@@ -8,8 +8,8 @@ ghost use Rattle.cs_tree_model.specs.Tree.{record_numbered};
 
 use crate::node::{Node, try_clone_name};
 use crate::table::{
-    change, copy_up, insert_answer, insert_both_answers, make_room, move_name, put, stamp_node,
-    write,
+    change, copy_up, insert_answer, insert_both_answers, make_room, move_name, set_entry,
+    stamp_directory, write,
 };
 use crate::{entry, listing};
 use cs_frozen::Lower;
@@ -27,7 +27,7 @@ use std::sync::Arc;
 #[derive(Drop)]
 pub struct Overlay<L: TreeRead> {
     lower: Arc<L>,
-    // None: the lower tree's file was removed
+    // at the numbers that changed; None if the file was removed
     nodes: HashMap<u64, Option<Node>>,
     // the greatest number that was ever given to a file
     greatest: u64,
@@ -54,7 +54,7 @@ impl<L: TreeRead> Model for Overlay<L> {
 }
 
 impl<L: TreeRead> Overlay<L> {
-    /// An overlay without changes. It takes no memory.
+    /// An overlay without changes, which shows the lower tree. It takes no memory.
     pub fn over(alloc: Global, lower: Arc<L>) -> Overlay<L>
         ensures { result ≡ L.tree (arc_value lower) }
     {
@@ -78,7 +78,8 @@ impl<L: TreeRead> Overlay<L> {
         cs_frozen::freeze(alloc, self)
     }
 
-    /// Sets a file's fields by a change that has no name: `group` is the change's group.
+    /// Makes a change of a file that keeps its name. `group` is a copy of the change's group, made
+    /// before anything changes, so that after an error the tree is unchanged.
     fn set_fields(
         &mut self,
         alloc: Global,
@@ -100,8 +101,8 @@ impl<L: TreeRead> Overlay<L> {
         Ok(())
     }
 
-    /// Renames a file and sets the other fields of the change: `group` and `name` are the change's
-    /// group and name.
+    /// Makes a change of a file that renames it. `group` and `name` are copies of the change's,
+    /// made before anything changes, so that after an error the tree is unchanged.
     fn rename(
         &mut self,
         alloc: Global,
@@ -130,12 +131,14 @@ impl<L: TreeRead> Overlay<L> {
             unreachable!();
         };
         let old = old.try_clone()?;
-        let said = old.try_clone()?;
-        let free = name.try_clone()?;
+        let old_answer = old.try_clone()?;
+        let new_answer = name.try_clone()?;
         let moment = stamp.try_clone()?;
         let (lower, nodes) = (&*self.lower, &mut self.nodes);
         copy_up(alloc, lower, nodes, number)?;
-        insert_both_answers(alloc, lower, nodes, directory, number, said, free)?;
+        insert_both_answers(
+            alloc, lower, nodes, directory, number, old_answer, new_answer,
+        )?;
         change(nodes, number, fields, group, moment)?;
         move_name(nodes, directory, number, old.as_str(), name, stamp);
         Ok(())
@@ -145,22 +148,25 @@ impl<L: TreeRead> Overlay<L> {
 impl<L: TreeRead> TreeRead for Overlay<L> {
     ghost tree = { λ t. t };
 
-    /// The node's metadata, or the lower tree's record.
+    /// The fields that the node has, or if there is no node the lower tree; None if neither has the
+    /// number, or its file was removed.
     fn record(&self, number: u64) -> Option<Metadata<'_>> {
         entry::record(&*self.lower, self.nodes.get(&number), number)
     }
 
-    /// The directory's own answer for the name, or the lower tree's.
+    /// The directory's own answer for the name, or else the lower tree's; None if no file has it.
     fn find_number(&self, directory: u64, name: &str) -> Option<u64> {
         entry::find(&*self.lower, self.nodes.get(&directory), directory, name)
     }
 
-    /// The directory's number, as the node has it or the lower tree.
+    /// The directory's number, which the node has, or else the lower tree; None if no file has the
+    /// number.
     fn parent_of(&self, number: u64) -> Option<u64> {
         entry::parent(&*self.lower, self.nodes.get(&number), number)
     }
 
-    /// The name, as the node has it or the lower tree.
+    /// The name, which the node has, or else the lower tree; None for the root, and if no file has
+    /// the number.
     fn name_of(&self, number: u64) -> Option<&Name> {
         let nodes = &self.nodes;
         if number == 0 {
@@ -169,7 +175,8 @@ impl<L: TreeRead> TreeRead for Overlay<L> {
         entry::name(&*self.lower, nodes.get(&number), number)
     }
 
-    /// Merges the directory's own answers with the lower directory's entries.
+    /// The next entry, from the directory's own answers merged with the lower directory's entries;
+    /// None if there is none before the bound.
     fn entry_after(
         &self,
         directory: u64,
@@ -180,17 +187,18 @@ impl<L: TreeRead> TreeRead for Overlay<L> {
         listing::entry_after(&*self.lower, entry, directory, last, bound)
     }
 
-    /// The number of files, which is kept.
+    /// The number of files, which the overlay keeps.
     fn count(&self) -> usize {
         self.count
     }
 
-    /// The greatest number, which is kept.
+    /// The greatest number ever given, which the overlay keeps.
     fn last_number(&self) -> u64 {
         self.greatest
     }
 
-    /// Joins the file's own blocks with what still shows of the lower file.
+    /// Joins the file's own blocks with what still shows of the lower file; None if the number
+    /// isn't a file's.
     fn read_at(
         &self,
         alloc: Global,
@@ -206,7 +214,7 @@ impl<L: TreeRead> TreeRead for Overlay<L> {
 
 impl<L: TreeRead> TreeStore for Overlay<L> {
     /// Adds a node and the directory's answer for the name. The directory's node is copied up
-    /// first.
+    /// first. After an error the tree is unchanged.
     fn add(
         &mut self,
         alloc: Global,
@@ -228,14 +236,15 @@ impl<L: TreeRead> TreeStore for Overlay<L> {
         let node = Node::new_file(alloc, number, directory, name, group, new, &stamp)?;
         make_room(alloc, &*self.lower, &mut self.nodes, directory)?;
         insert_answer(&mut self.nodes, directory, key, Some(number))?;
-        stamp_node(&mut self.nodes, directory, stamp);
-        put(&mut self.nodes, number, Some(node));
+        stamp_directory(&mut self.nodes, directory, stamp);
+        set_entry(&mut self.nodes, number, Some(node));
         self.greatest = number;
         self.count = count;
         Ok(number)
     }
 
-    /// Marks the number as removed, and its name as one that no file has.
+    /// Marks the number as removed, and its name as one that no file has. After an error the tree
+    /// is unchanged.
     fn remove(&mut self, alloc: Global, number: u64, stamp: Stamp) -> Result<(), AllocError> {
         let Some(directory) = self.parent_of(number) else {
             unreachable!();
@@ -246,13 +255,14 @@ impl<L: TreeRead> TreeStore for Overlay<L> {
         let name = name.try_clone()?;
         make_room(alloc, &*self.lower, &mut self.nodes, directory)?;
         insert_answer(&mut self.nodes, directory, name, None)?;
-        stamp_node(&mut self.nodes, directory, stamp);
-        put(&mut self.nodes, number, None);
+        stamp_directory(&mut self.nodes, directory, stamp);
+        set_entry(&mut self.nodes, number, None);
         self.count -= 1;
         Ok(())
     }
 
-    /// Copies the node and the blocks up, and then writes into them.
+    /// Copies the node and the blocks up, and then writes into them. After an error the tree is
+    /// unchanged.
     fn write_at(
         &mut self,
         alloc: Global,
@@ -274,7 +284,7 @@ impl<L: TreeRead> TreeStore for Overlay<L> {
         Ok(())
     }
 
-    /// Copies the nodes up, and then changes them.
+    /// Copies the nodes up, and then changes them. After an error the tree is unchanged.
     fn change(
         &mut self,
         alloc: Global,
@@ -291,7 +301,7 @@ impl<L: TreeRead> TreeStore for Overlay<L> {
     }
 }
 
-/// A copy of the user's name, if there is one.
+/// Copies the name of a user or group; None if there is none.
 fn try_clone_user(name: &Option<UserName>) -> Result<Option<UserName>, AllocError>
     ensures { IfOk result (λ again. again ≡ name.now) }
 {

@@ -1,4 +1,5 @@
-//! The bytes of a file over a lower one, and its length.
+//! The bytes of a file over a lower one, and its length. Reads are in `reading`, writes in
+//! `writing`.
 ghost use Rattle.std.specs.Prelude.{◌≡◌, ◌≤◌, ◌++◌, ℕ, List, [], length, min, take, replicate};
 ghost use Rattle.std.specs.Prelude.{None, OnOk, OnErr};
 ghost use Rattle.std.specs.Ordering.{nat_cmp};
@@ -14,17 +15,17 @@ use std::collections::BTreeMap;
 /// lower file. Only its own blocks take memory.
 #[derive(Drop)]
 pub struct Patched {
-    /// How many bytes the file has.
+    /// The number of bytes of the file.
     pub size: u64,
-    /// How many of the lower file's first bytes still show, if no block covers them.
+    /// The number of the lower file's first bytes that still show if no block covers them.
     pub kept: u64,
-    /// By number: block k has the bytes from 4,096 k on.
+    /// The file's own blocks by number: block k has the bytes from 4,096 k on.
     pub blocks: BTreeMap<u64, Block>,
 }
 
 impl Patched {
     /// The lower file, which has `size` bytes, without changes.
-    pub fn lower(alloc: Global, size: u64) -> Patched
+    pub fn of_lower(alloc: Global, size: u64) -> Patched
         ensures bytes { (lower : List ℕ) → length lower ≡ size → file_bytes lower result ≡ lower }
         ensures hides { (lower : List ℕ) → NothingHidden lower result }
         ensures size { result.size ≡ size }
@@ -36,7 +37,8 @@ impl Patched {
         }
     }
 
-    /// Sets the length to n: new bytes read as zero, and bytes that were cut off never show again.
+    /// Sets the length to `n`: new bytes read as zero, and bytes that were cut off never show
+    /// again. After an error no read shows a difference.
     pub fn resize(&mut self, n: u64) -> Result<(), AllocError>
         ensures size { OnOk result (self.new.size ≡ n) }
         ensures hides { (lower : List ℕ) → NothingHidden lower self.old
@@ -56,7 +58,8 @@ impl Patched {
         Ok(())
     }
 
-    /// Sets a length that isn't greater. After an error no read shows a difference.
+    /// Sets the length to `n`, which isn't greater than now. After an error no read shows a
+    /// difference.
     fn shrink(&mut self, n: u64) -> Result<(), AllocError>
         requires shorter { n ≤ self.old.size }
         ensures size { OnOk result (self.new.size ≡ n) }
@@ -74,7 +77,7 @@ impl Patched {
         Ok(())
     }
 
-    /// Sets a length that isn't less: the new bytes read as zero.
+    /// Sets the length to `n`, which isn't less than now: the new bytes read as zero.
     fn grow(&mut self, n: u64)
         requires longer { self.old.size ≤ n }
         ensures size { self.new.size ≡ n }
@@ -87,7 +90,8 @@ impl Patched {
     }
 }
 
-/// Drops the blocks' bytes from the file's byte n on, and keeps the first n.
+/// Drops the bytes of the blocks from the file's byte `n` on, and whole blocks after it. After an
+/// error the blocks are unchanged.
 fn truncate_blocks(blocks: &mut BTreeMap<u64, Block>, n: u64) -> Result<(), AllocError>
     ensures ok { OnOk result
         ((k : ℕ) → get nat_cmp blocks.new k ≡ cut_blocks n (get nat_cmp blocks.old) k) }

@@ -14,9 +14,9 @@ use cs_tree_model::TreeRead;
 use std::alloc::{AllocError, Global};
 
 impl Patched {
-    /// At most `count` bytes from `offset` on, of a file over the lower one of the number. It reads
-    /// only what shows of the lower file, and copies nothing twice if the file has no blocks. Only
-    /// the bytes that are returned take memory.
+    /// At most `count` bytes of the file, from `offset` on: fewer at its end, none past it.
+    /// `number` is the lower file's. If no byte is returned, it takes no memory. Bytes that all
+    /// come from the lower file are copied once if the file has no block of its own.
     pub fn read_at<L: TreeRead>(
         &self,
         alloc: Global,
@@ -41,12 +41,13 @@ impl Patched {
         if self.blocks.is_empty() && shown.len() == n {
             return Ok(shown);
         }
-        let bytes = self.pieces(alloc, &shown, offset, n)?;
+        let bytes = self.join_pieces(alloc, &shown, offset, n)?;
         Ok(bytes)
     }
 
-    /// The n bytes from `offset` on, given what shows of the lower file there.
-    fn pieces(
+    /// The `n` bytes from `offset` on, joined block by block. `shown` is what shows of the lower
+    /// file from `offset` on. The error also means that no memory has room for `n` bytes.
+    fn join_pieces(
         &self,
         alloc: Global,
         shown: &[u8],
@@ -100,7 +101,8 @@ fn append_piece(
     }
 }
 
-/// At most `count` bytes of what shows of the lower file, from `offset` on.
+/// At most `count` bytes of what shows of the lower file, from `offset` on: fewer at the end of
+/// what shows, none past it.
 fn lower_part<L: TreeRead>(
     alloc: Global,
     lower: &L,

@@ -1,4 +1,5 @@
-//! The nodes of an overlay by their numbers. None at a number: the lower tree's file was removed.
+//! The entries of an overlay by number, and how each call changes them. An entry is a node, or None
+//! if the file of the number was removed. A number without an entry shows what the lower tree has.
 ghost use Rattle.std.specs.Prelude.{◌≡◌, ◌≢◌, ◌+◌, ◌<◌, ◌^◌, ℕ, List, nat_eq, Option, None, Some};
 ghost use Rattle.std.specs.Prelude.{OnOk, OnErr, IfSome, IsSome, IsSomeAnd, length};
 ghost use Rattle.std.specs.Option.{option_map};
@@ -17,8 +18,8 @@ use cs_tree_model::{Change, Stamp, TreeRead};
 use std::alloc::{AllocError, Global};
 use std::collections::HashMap;
 
-/// Copies a file's node up from the lower tree, unless the overlay has a node for it. No read shows
-/// the difference.
+/// Makes a node for a file from the lower tree, unless the table has an entry for it. No read shows
+/// the difference, even after an error.
 pub fn copy_up<L: TreeRead>(
     alloc: Global,
     lower: &L,
@@ -39,8 +40,8 @@ pub fn copy_up<L: TreeRead>(
     Ok(())
 }
 
-/// Copies a directory's node up, and reserves memory for one number more. No read shows the
-/// difference.
+/// Copies a directory's node up, and reserves memory for one entry more. No read shows the
+/// difference, even after an error.
 pub fn make_room<L: TreeRead>(
     alloc: Global,
     lower: &L,
@@ -57,19 +58,21 @@ pub fn make_room<L: TreeRead>(
     Ok(())
 }
 
-/// Sets the answer for a name in the entry of a directory.
-fn insert_answer_in(
+/// Sets the answer for a name in a directory's entry, which is a node. After an error the entry is
+/// unchanged.
+fn insert_node_answer(
     entry: &mut Option<Node>,
     name: Name,
     answer: Option<u64>,
 ) -> Result<(), AllocError>
+    requires { IsSome entry.old }
     ensures ok { OnOk result (entry.new ≡ option_map (λ d. with_answer d name answer) entry.old) }
     ensures err { OnErr result (entry.new ≡ entry.old) }
 {
-    if let Some(node) = entry {
-        node.insert_answer(name, answer)?;
+    match entry {
+        Some(node) => node.insert_answer(name, answer),
+        None => unreachable!(),
     }
-    Ok(())
 }
 
 /// Sets a directory's answer for a name: the file that has it, or that no file has it. After an
@@ -80,6 +83,7 @@ pub fn insert_answer(
     name: Name,
     answer: Option<u64>,
 ) -> Result<(), AllocError>
+    requires { HasNode (get nat_eq nodes.old) directory }
     ensures ok { OnOk result
         (SameNodes (step_at (get nat_eq nodes.old) directory (λ d. with_answer d name answer))
         (get nat_eq nodes.new)) }
@@ -87,13 +91,13 @@ pub fn insert_answer(
     ensures spare { spare nodes.new ≡ spare nodes.old }
 {
     match nodes.get_mut(&directory) {
-        Some(entry) => insert_answer_in(entry, name, answer),
-        None => Ok(()),
+        Some(entry) => insert_node_answer(entry, name, answer),
+        None => unreachable!(),
     }
 }
 
-/// Stamps the node of an entry; does nothing to a removed file's entry.
-fn stamp_in(entry: &mut Option<Node>, stamp: Stamp)
+/// Stamps the node of an entry; does nothing if the file was removed.
+fn stamp_node(entry: &mut Option<Node>, stamp: Stamp)
     requires { IfSome entry.old (λ d. d.metadata.vers + 1 < 2 ^ 32) }
     ensures { entry.new ≡ option_map (λ d. with_stamp d stamp) entry.old }
 {
@@ -102,21 +106,21 @@ fn stamp_in(entry: &mut Option<Node>, stamp: Stamp)
     }
 }
 
-/// Stamps a directory after a change of its entries.
-pub fn stamp_node(nodes: &mut HashMap<u64, Option<Node>>, number: u64, stamp: Stamp)
+/// Stamps a directory after a change of its entries; does nothing if it has no node.
+pub fn stamp_directory(nodes: &mut HashMap<u64, Option<Node>>, number: u64, stamp: Stamp)
     requires { CanStampNode (get nat_eq nodes.old) number }
     ensures step { SameNodes (step_at (get nat_eq nodes.old) number (λ d. with_stamp d stamp))
         (get nat_eq nodes.new) }
     ensures spare { spare nodes.new ≡ spare nodes.old }
 {
     if let Some(entry) = nodes.get_mut(&number) {
-        stamp_in(entry, stamp);
+        stamp_node(entry, stamp);
     }
 }
 
-/// Sets the entry at a number in a table that has room for it: a node, or None if the lower tree's
-/// file was removed.
-pub fn put(nodes: &mut HashMap<u64, Option<Node>>, number: u64, node: Option<Node>)
+/// Sets the entry at a number, in a table that has room for it: a node, or None if the file was
+/// removed.
+pub fn set_entry(nodes: &mut HashMap<u64, Option<Node>>, number: u64, node: Option<Node>)
     requires { 0 < spare nodes.old }
     ensures { SameNodes (with_at (get nat_eq nodes.old) number (Some node)) (get nat_eq nodes.new) }
 {
@@ -126,8 +130,9 @@ pub fn put(nodes: &mut HashMap<u64, Option<Node>>, number: u64, node: Option<Nod
     }
 }
 
-/// Writes bytes into the node of an entry, and stamps it.
-fn write_in<L: TreeRead>(
+/// Writes bytes into the entry of a file, which is a node, and stamps it. After an error no read
+/// shows a difference.
+fn write_node<L: TreeRead>(
     alloc: Global,
     lower: &L,
     entry: &mut Option<Node>,
@@ -136,6 +141,7 @@ fn write_in<L: TreeRead>(
     bytes: &[u8],
     stamp: Stamp,
 ) -> Result<(), AllocError>
+    requires there { IsSome entry.old }
     requires vers { IfSome entry.old (λ d. d.metadata.vers + 1 < 2 ^ 32) }
     requires some { 0 < length bytes.now }
     requires room { offset + length bytes.now < 2 ^ 63 }
@@ -153,7 +159,7 @@ fn write_in<L: TreeRead>(
 {
     match entry {
         Some(node) => node.write(alloc, lower, number, offset, bytes, stamp),
-        None => Ok(()),
+        None => unreachable!(),
     }
 }
 
@@ -180,18 +186,20 @@ pub fn write<L: TreeRead>(
         (StepsAt (L.tree lower.now) number (λ r. r) (get nat_eq nodes.old) (get nat_eq nodes.new)) }
 {
     match nodes.get_mut(&number) {
-        Some(entry) => write_in(alloc, lower, entry, number, offset, bytes, stamp),
-        None => Ok(()),
+        Some(entry) => write_node(alloc, lower, entry, number, offset, bytes, stamp),
+        None => unreachable!(),
     }
 }
 
-/// Sets the fields that a change names, except the name, in the node of an entry.
-fn change_in(
+/// Sets the fields that a change names, except the name, in an entry that is a node. After an error
+/// no read shows a difference.
+fn change_node(
     entry: &mut Option<Node>,
     fields: &Change,
     group: Option<UserName>,
     stamp: Stamp,
 ) -> Result<(), AllocError>
+    requires there { IsSome entry.old }
     requires vers { IfSome entry.old (λ d. d.metadata.vers + 1 < 2 ^ 32) }
     requires group { group ≡ fields.now.group }
     ensures ok { OnOk result
@@ -208,12 +216,13 @@ fn change_in(
 {
     match entry {
         Some(node) => node.change(fields, group, stamp),
-        None => Ok(()),
+        None => unreachable!(),
     }
 }
 
-/// Sets the fields that a change names, except the name, of a file that has a node. `group` is the
-/// change's group.
+/// Sets the fields that a change names, except the name, of a file that has a node. `group` is a
+/// copy of the change's group, which the caller makes before it changes anything. After an error no
+/// read shows a difference.
 pub fn change(
     nodes: &mut HashMap<u64, Option<Node>>,
     number: u64,
@@ -235,13 +244,14 @@ pub fn change(
     ensures others { (q : ℕ) → q ≢ number → get nat_eq nodes.new q ≡ get nat_eq nodes.old q }
 {
     match nodes.get_mut(&number) {
-        Some(entry) => change_in(entry, fields, group, stamp),
-        None => Ok(()),
+        Some(entry) => change_node(entry, fields, group, stamp),
+        None => unreachable!(),
     }
 }
 
 /// Gives a directory its own answers for a file's old name and for its new one, which no file has
-/// yet. Both are what a look-up finds already, so no read shows the difference.
+/// yet. Both are what a look-up finds already, so no read shows the difference, even after an
+/// error.
 pub fn insert_both_answers<L: TreeRead>(
     alloc: Global,
     lower: &L,
@@ -266,9 +276,10 @@ pub fn insert_both_answers<L: TreeRead>(
     Ok(())
 }
 
-/// Exchanges the answers for the old and the new name in a directory's entry, and stamps it. It
-/// takes no memory.
-fn move_in(entry: &mut Option<Node>, old: &str, new: &str, number: u64, stamp: Stamp)
+/// Exchanges the answers for the old and the new name in a directory's entry, so that the new name
+/// is the file's and the old one nobody's, and stamps it. Does nothing if the directory was
+/// removed.
+fn exchange_answers(entry: &mut Option<Node>, old: &str, new: &str, number: u64, stamp: Stamp)
     requires vers { IfSome entry.old (λ d. d.metadata.vers + 1 < 2 ^ 32) }
     requires old { IfSome entry.old (λ d. IsSome (own_in d.body old.now)) }
     requires new { IfSome entry.old (λ d. IsSome (own_in d.body new.now)) }
@@ -284,8 +295,8 @@ fn move_in(entry: &mut Option<Node>, old: &str, new: &str, number: u64, stamp: S
     }
 }
 
-/// Sets the name in the node of an entry.
-fn name_in(entry: &mut Option<Node>, name: Name)
+/// Sets the name in the node of an entry; does nothing if the file was removed.
+fn set_node_name(entry: &mut Option<Node>, name: Name)
     ensures { entry.new ≡ option_map (λ d. with_name d name) entry.old }
 {
     if let Some(node) = entry {
@@ -294,7 +305,7 @@ fn name_in(entry: &mut Option<Node>, name: Name)
 }
 
 /// Renames a file in its directory, which has its own answers for both names, and stamps the
-/// directory. It takes no memory.
+/// directory. Does nothing to a node that isn't there. It takes no memory.
 pub fn move_name(
     nodes: &mut HashMap<u64, Option<Node>>,
     directory: u64,
@@ -311,9 +322,9 @@ pub fn move_name(
         number (λ d. with_name d name)) (get nat_eq nodes.new) }
 {
     if let Some(entry) = nodes.get_mut(&directory) {
-        move_in(entry, old, name.as_str(), number, stamp);
+        exchange_answers(entry, old, name.as_str(), number, stamp);
     }
     if let Some(entry) = nodes.get_mut(&number) {
-        name_in(entry, name);
+        set_node_name(entry, name);
     }
 }

@@ -9,15 +9,16 @@ ghost use Rattle.cs_overlay.specs.Patch.{byte_at, put_in, written_byte, Reaches,
 ghost use Rattle.cs_tree_model.specs.Effects.{bytes_after_write};
 
 use crate::block::Block;
-use crate::growing::bring_up;
+use crate::growing::copy_blocks_up;
 use crate::patched::Patched;
 use cs_tree_model::TreeRead;
 use std::alloc::{AllocError, Global};
 use std::collections::BTreeMap;
 
 impl Patched {
-    /// Writes bytes into a file over the lower one of the number. If the offset is past the end,
-    /// the bytes between are zeros. It copies only the blocks that the bytes touch.
+    /// Writes bytes into the file. `number` is the lower file's. If the offset is past the end, the
+    /// bytes between are zeros. It copies only the blocks that the bytes touch. After an error no
+    /// read shows a difference.
     pub fn write_at<L: TreeRead>(
         &mut self,
         alloc: Global,
@@ -41,7 +42,7 @@ impl Patched {
         ensures err_size { OnErr result (self.new.size ≡ self.old.size) }
     {
         let end = offset + bytes.len() as u64;
-        bring_up(
+        copy_blocks_up(
             alloc,
             lower,
             number,
@@ -50,13 +51,13 @@ impl Patched {
             offset,
             end,
         )?;
-        self.write(offset, bytes);
+        self.write_in_place(offset, bytes);
         Ok(())
     }
 
-    /// Writes bytes into a file that has all blocks that they touch. If the offset is past the end,
-    /// the bytes between are zeros. It takes no memory.
-    fn write(&mut self, offset: u64, bytes: &[u8])
+    /// Writes bytes into a file that has its own copy of each block that they touch, long enough
+    /// for them. If the offset is past the end, the bytes between are zeros. It takes no memory.
+    fn write_in_place(&mut self, offset: u64, bytes: &[u8])
         requires reaches { Reaches (get nat_cmp self.old.blocks) offset
             (offset + length bytes.now) }
         requires some { 0 < length bytes.now }
@@ -68,13 +69,14 @@ impl Patched {
             → file_bytes lower self.new
             ≡ bytes_after_write offset bytes.now (file_bytes lower self.old) }
     {
-        overwrite(&mut self.blocks, offset, bytes);
+        write_blocks(&mut self.blocks, offset, bytes);
         self.size = self.size.max(offset + bytes.len() as u64);
     }
 }
 
-/// Replaces bytes of the blocks, which reach as far as the new bytes. It takes no memory.
-fn overwrite(blocks: &mut BTreeMap<u64, Block>, offset: u64, bytes: &[u8])
+/// Replaces bytes of the blocks, which are there and reach as far as the new bytes. It takes no
+/// memory.
+fn write_blocks(blocks: &mut BTreeMap<u64, Block>, offset: u64, bytes: &[u8])
     requires reaches { Reaches (get nat_cmp blocks.old) offset (offset + length bytes.now) }
     requires room { offset + length bytes.now < 2 ^ 63 }
     ensures { (lower : List ℕ) (kept i : ℕ)
@@ -86,13 +88,13 @@ fn overwrite(blocks: &mut BTreeMap<u64, Block>, offset: u64, bytes: &[u8])
     while at < end {
         let stop = end.min((at / 4096 + 1) * 4096);
         let piece = &bytes[(at - offset) as usize..(stop - offset) as usize];
-        put(blocks, at, piece);
+        write_block(blocks, at, piece);
         at = stop;
     }
 }
 
-/// Writes a piece that touches only one block into that block.
-fn put(blocks: &mut BTreeMap<u64, Block>, at: u64, piece: &[u8])
+/// Writes a piece at the file's byte `at` into the only block that it touches, which is there.
+fn write_block(blocks: &mut BTreeMap<u64, Block>, at: u64, piece: &[u8])
     requires there { IsSome (get nat_cmp blocks.old (at / 4096)) }
     requires reaches { IfSome (get nat_cmp blocks.old (at / 4096))
         (λ s. at % 4096 + length piece.now ≤ length s) }
@@ -100,6 +102,6 @@ fn put(blocks: &mut BTreeMap<u64, Block>, at: u64, piece: &[u8])
         (option_map (put_in (at % 4096) piece.now) (get nat_cmp blocks.old (at / 4096))) }
 {
     if let Some(block) = blocks.get_mut(&(at / 4096)) {
-        block.put((at % 4096) as usize, piece);
+        block.overwrite((at % 4096) as usize, piece);
     }
 }

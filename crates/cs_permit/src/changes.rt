@@ -23,7 +23,8 @@ fn new_u16(present: u16, sent: u16) -> Option<u16>
     }
 }
 
-/// The new value of a field of four bytes, as `new_u16`.
+/// The new value of a field of four bytes; None for "don't touch" (all ones) and for the present
+/// value.
 fn new_u32(present: u32, sent: u32) -> Option<u32>
     ensures { result ≡ new_number ones_4 present sent }
 {
@@ -34,7 +35,8 @@ fn new_u32(present: u32, sent: u32) -> Option<u32>
     }
 }
 
-/// The new value of a field of eight bytes, as `new_u16`.
+/// The new value of a field of eight bytes; None for "don't touch" (all ones) and for the present
+/// value.
 fn new_u64(present: u64, sent: u64) -> Option<u64>
     ensures { result ≡ new_number ones_8 present sent }
 {
@@ -45,7 +47,7 @@ fn new_u64(present: u64, sent: u64) -> Option<u64>
     }
 }
 
-/// The new value of a text; None for "don't touch" (no byte) and for the present value.
+/// The new value of a text; None for "don't touch" (an empty text) and for the present value.
 fn new_text<'a>(present: &str, sent: &'a str) -> Option<&'a str>
     ensures { option_copied result ≡ new_text present.now sent.now }
 {
@@ -56,7 +58,7 @@ fn new_text<'a>(present: &str, sent: &'a str) -> Option<&'a str>
     }
 }
 
-/// The new name, if the wstat has one. The root's present name is `/`.
+/// The new name; None if the wstat leaves the name. The present name of the root is `/`.
 pub fn new_name<'a, T: TreeRead>(tree: &T, call: &'a WstatCall) -> Option<&'a str>
     ensures { option_copied result ≡ new_name (T.tree tree.now) call.now }
 {
@@ -66,28 +68,28 @@ pub fn new_name<'a, T: TreeRead>(tree: &T, call: &'a WstatCall) -> Option<&'a st
     )
 }
 
-/// The new length, if the wstat has one. A directory's present length is 0.
+/// The new length; None if the wstat leaves the length. The present length of a directory is 0.
 pub fn new_length(call: &WstatCall, file: &Metadata) -> Option<u64>
     ensures { result ≡ new_length call.now (metadata_of_ref file.now) }
 {
     new_u64(shown_length(file.kind), call.stat.as_stat().length)
 }
 
-/// The new mode, if the wstat has one.
+/// The new mode; None if the wstat leaves the mode.
 pub fn new_mode(call: &WstatCall, file: &Metadata) -> Option<u32>
     ensures { result ≡ new_mode call.now (metadata_of_ref file.now) }
 {
     new_u32(file.mode, call.stat.as_stat().mode)
 }
 
-/// The new mtime, if the wstat has one.
+/// The new mtime; None if the wstat leaves the mtime.
 pub fn new_mtime(call: &WstatCall, file: &Metadata) -> Option<u32>
     ensures { result ≡ new_mtime call.now (metadata_of_ref file.now) }
 {
     new_u32(file.mtime, call.stat.as_stat().mtime)
 }
 
-/// The new group, if the wstat has one.
+/// The new group; None if the wstat leaves the group.
 pub fn new_group<'a>(call: &'a WstatCall, file: &Metadata) -> Option<&'a str>
     ensures { option_copied result ≡ new_group call.now (metadata_of_ref file.now) }
 {
@@ -101,14 +103,15 @@ const ONES_QID: Qid = Qid {
     path: u64::MAX,
 };
 
-/// Whether both have the same three fields.
+/// Whether the qids have the same kind, version and path.
 fn is_same_qid(a: Qid, b: Qid) -> bool
     ensures { result ≡ same_qid a b }
 {
     a.kind == b.kind && a.vers == b.vers && a.path == b.path
 }
 
-/// Whether a field changes that can't be: type, dev, qid, atime, uid or muid.
+/// Whether the wstat changes a field that no wstat may: type, dev, qid, atime, uid or muid. The
+/// present type and dev are 0.
 pub fn changes_fixed(call: &WstatCall, file: &Metadata) -> bool
     ensures { result ≡ changes_fixed call.now (metadata_of_ref file.now) }
 {
@@ -121,7 +124,7 @@ pub fn changes_fixed(call: &WstatCall, file: &Metadata) -> bool
         || new_text(file.muid.as_str(), stat.muid.as_str()).is_some()
 }
 
-/// Whether the mode or the mtime changes.
+/// Whether the wstat changes the mode or the mtime.
 pub fn changes_attributes(call: &WstatCall, file: &Metadata) -> bool
     ensures { result ≡ changes_attributes call.now (metadata_of_ref file.now) }
 {

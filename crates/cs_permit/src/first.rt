@@ -1,4 +1,6 @@
-//! The first rule of a call on a run that fails, without allocating.
+//! The first rule of a call on a run that fails, without allocating. Each `first_of_` function has
+//! the rules of one kind of call, in their order, and returns None if all of them pass. Those of a
+//! read, of a name of a walk and of a wstat have files of their own.
 ghost use Rattle.std.specs.Prelude.{◌≡◌, if◌then◌else◌};
 ghost use Rattle.cs_tree_model.specs.Record.{metadata_of_ref};
 ghost use Rattle.cs_permit.specs.Attaches.{attach_rules};
@@ -27,7 +29,7 @@ use cs_names::limits::{FILE_BYTES, TREE_RECORDS};
 use cs_tree_model::{Metadata, TreeRead};
 use cs_users::{Right, Users};
 
-/// The run's only rule of an attach, A6, if it fails: the user must be known.
+/// A6 if the user isn't known, else None: it is the run's only rule of an attach.
 fn first_of_attach(call: &AttachCall, users: &Users) -> Option<RuleId>
     ensures { result ≡ first_failing (attach_rules users.now call.now) }
 {
@@ -37,8 +39,8 @@ fn first_of_attach(call: &AttachCall, users: &Users) -> Option<RuleId>
     None
 }
 
-/// The first rule of a walk that fails: K5, or a rule that its first name fails. Later names only
-/// shorten the reply (walk(5)).
+/// The first rule of a walk that fails: K5, or a rule that its first name fails; None if none does.
+/// Later names only shorten the reply (walk(5)).
 pub fn first_of_walk<T: TreeRead>(call: &WalkCall, tree: &T, users: &Users) -> Option<RuleId>
     ensures { result ≡ first_failing (walk_rules (T.tree tree.now) users.now call.now) }
 {
@@ -50,13 +52,13 @@ pub fn first_of_walk<T: TreeRead>(call: &WalkCall, tree: &T, users: &Users) -> O
 }
 
 /// Whether one of the opens is of this file.
-fn is_open(opens: &[OpenFile], file: u64) -> bool
+fn is_file_open(opens: &[OpenFile], file: u64) -> bool
     ensures { result ≡ is_open opens.now file }
 {
     opens.iter().any(|open_file| open_file.file == file)
 }
 
-/// The first of O4 to O10 that fails.
+/// The first of O4 to O10 that fails; None if none does.
 fn first_of_open<T: TreeRead>(
     call: &OpenCall,
     tree: &T,
@@ -85,13 +87,13 @@ fn first_of_open<T: TreeRead>(
     {
         return Some(RuleId::O9);
     }
-    if is_exclusive(&file) && is_open(opens, call.number) {
+    if is_exclusive(&file) && is_file_open(opens, call.number) {
         return Some(RuleId::O10);
     }
     None
 }
 
-/// The first of C6 to C10 that fails.
+/// The first of C6 to C10 that fails; None if none does.
 fn first_of_create<T: TreeRead>(call: &CreateCall, tree: &T, users: &Users) -> Option<RuleId>
     ensures { result ≡ first_failing (create_rules (T.tree tree.now) users.now call.now) }
 {
@@ -113,7 +115,7 @@ fn first_of_create<T: TreeRead>(call: &CreateCall, tree: &T, users: &Users) -> O
     None
 }
 
-/// Whether `count` bytes from `start` on end above the limit of a file's length.
+/// Whether `count` bytes from `start` on end above the greatest length of a file.
 fn ends_too_late(start: u64, count: u64) -> bool
     ensures { result ≡ ends_too_late start count }
 {
@@ -132,7 +134,7 @@ pub fn write_start(call: &WriteCall<'_>, file: &Metadata) -> u64
     }
 }
 
-/// The first of E3 and E4 that fails. A write of no byte can't fail E4.
+/// The first of E3 and E4 that fails; None if neither does. A write of no byte can't fail E4.
 fn first_of_write<T: TreeRead>(call: &WriteCall<'_>, tree: &T) -> Option<RuleId>
     ensures { result ≡ first_failing (write_rules (T.tree tree.now) call.now) }
 {
@@ -146,14 +148,14 @@ fn first_of_write<T: TreeRead>(call: &WriteCall<'_>, tree: &T) -> Option<RuleId>
     None
 }
 
-/// Whether the directory of this number has an entry.
+/// Whether the directory of this number has an entry; false if it isn't a directory.
 fn has_entries<T: TreeRead>(tree: &T, number: u64) -> bool
     ensures { result ≡ has_entries (T.tree tree.now) number }
 {
     tree.entry_after(number, None, None).is_some()
 }
 
-/// The first of M2 to M5 that fails.
+/// The first of M2 to M5 that fails; None if none does.
 fn first_of_remove<T: TreeRead>(call: &RemoveCall, tree: &T, users: &Users) -> Option<RuleId>
     ensures { result ≡ first_failing (remove_rules (T.tree tree.now) users.now call.now) }
 {
@@ -172,7 +174,7 @@ fn first_of_remove<T: TreeRead>(call: &RemoveCall, tree: &T, users: &Users) -> O
     None
 }
 
-/// The run's only rule of a stat, H2, if it fails: the file must exist.
+/// H2 if the file is gone, else None: it is the run's only rule of a stat.
 fn first_of_stat<T: TreeRead>(call: &StatCall, tree: &T) -> Option<RuleId>
     ensures { result ≡ first_failing (stat_rules (T.tree tree.now) call.now) }
 {
@@ -182,7 +184,8 @@ fn first_of_stat<T: TreeRead>(call: &StatCall, tree: &T) -> Option<RuleId>
     None
 }
 
-/// The first rule of the run that the call fails, if any. It allocates nothing.
+/// The first rule of the run that the call fails; None if all pass. A close has no rule. It
+/// allocates nothing.
 #[tactic(auto, unfolding(crate::specs::Calls::failing_rule))]
 pub fn failing_rule<T: TreeRead>(
     call: &Call<'_>,

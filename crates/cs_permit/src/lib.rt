@@ -1,5 +1,6 @@
 //! The calls on a run as plain values, and the rules of every call: those that look at a
-//! connection's fids, and those that look at a run's tree, its opens and the users.
+//! connection's fids, and those that look at a run's tree, its opens and the users. Here a call is
+//! only judged, and nothing is changed. A user's rights on a file are worked out in cs_users.
 #![tactic(auto)]
 
 pub mod call;
@@ -36,4 +37,4 @@ pub use shown::{
 };
 pub use table::first_table_rule;
 pub use tree_name::TreeName;
-pub use walk::{element, element_of};
+pub use walk::{walk_element, walk_element_at};

@@ -1,4 +1,5 @@
-//! The modes of opens, and the permissions that a client may give (open(5), stat(5)).
+//! The bits of an open's mode and of a file's permissions, and what each of them asks for (open(5),
+//! stat(5)).
 ghost use Rattle.std.specs.Prelude.{◌≡◌};
 ghost use Rattle.cs_permit.specs.Modes.{are_bad_permissions, asks_execute, asks_read, asks_write};
 ghost use Rattle.cs_permit.specs.Modes.{covers_read, covers_write, given_bits, has_bit_outside};
@@ -17,7 +18,7 @@ pub const OPEN_BITS: u8 = 0x53;
 /// All bits that a client may give a file.
 pub const GIVEN_BITS: u32 = DMDIR | DMAPPEND | DMEXCL | DMTMP | 0o777;
 
-/// Whether an open in that mode asks to read.
+/// Whether an open in that mode asks to read: its low two bits are 0 or 2.
 pub fn asks_read(mode: u8) -> bool
     ensures { result ≡ asks_read mode }
 {
@@ -31,7 +32,7 @@ pub fn asks_write(mode: u8) -> bool
     covers_write(mode) || truncates(mode)
 }
 
-/// Whether an open in that mode asks to execute.
+/// Whether an open in that mode asks to execute: its low two bits are 3.
 pub fn asks_execute(mode: u8) -> bool
     ensures { result ≡ asks_execute mode }
 {
@@ -52,21 +53,21 @@ pub fn removes_on_close(mode: u8) -> bool
     mode & ORCLOSE != 0
 }
 
-/// Whether an open in that mode allows reads. One to execute does too.
+/// Whether an open in that mode allows reads. One that asks to execute does too.
 pub fn covers_read(mode: u8) -> bool
     ensures { result ≡ covers_read mode }
 {
     asks_read(mode) || asks_execute(mode)
 }
 
-/// Whether an open in that mode allows writes.
+/// Whether an open in that mode allows writes: its low two bits are 1 or 2.
 pub fn covers_write(mode: u8) -> bool
     ensures { result ≡ covers_write mode }
 {
     mode % 4 == 1 || mode % 4 == 2
 }
 
-/// Whether no open can have that mode.
+/// Whether the mode has a bit that no open's mode has.
 pub fn is_bad_open_mode(mode: u8) -> bool
     ensures { result ≡ is_bad_open_mode mode }
 {
@@ -80,14 +81,16 @@ pub fn is_append_or_exclusive(mode: u32) -> bool
     has_bit(mode, DMAPPEND) || has_bit(mode, DMEXCL)
 }
 
-/// Whether the permissions have a bit that no client may give.
+/// Whether the permissions have a bit that no client may give a file.
 pub fn has_bit_outside(mode: u32) -> bool
     ensures { result ≡ has_bit_outside given_bits mode }
 {
     mode & GIVEN_BITS != mode
 }
 
-/// Whether no file can be made with these permissions and opened in that mode.
+/// Whether no file can be made with these permissions and opened in that mode: they have a bit that
+/// no client may give, or are those of a directory that is append-only, exclusive, or opened in
+/// another mode than 0.
 pub fn are_bad_permissions(perm: u32, mode: u8) -> bool
     ensures { result ≡ are_bad_permissions perm mode }
 {

@@ -28,7 +28,7 @@ pub fn name_before(call: &ReadCall) -> Option<&Name>
     }
 }
 
-/// Whether there is a next entry, and it has more bytes than the read asks for.
+/// Whether there is a next entry, and it has more bytes than the read asks for; false at the end.
 fn needs_more<T: TreeRead>(tree: &T, call: &ReadCall) -> bool
     ensures { result ≡ needs_more (T.tree tree.now) call.now }
 {
@@ -38,7 +38,8 @@ fn needs_more<T: TreeRead>(tree: &T, call: &ReadCall) -> bool
     }
 }
 
-/// The first of G3 to G5 that fails. Only a read of a directory can fail G4 or G5.
+/// The first of G3 to G5 that fails; None if none does. Only a read of a directory can fail G4 or
+/// G5.
 pub fn first_of_read<T: TreeRead>(call: &ReadCall, tree: &T) -> Option<RuleId>
     ensures { result ≡ first_failing (read_rules (T.tree tree.now) call.now) }
 {

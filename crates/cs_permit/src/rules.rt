@@ -1,4 +1,5 @@
-//! The tests that rules of several calls share.
+//! The tests that rules of several calls share. They look at one file and one user, and change
+//! nothing.
 ghost use Rattle.std.specs.Prelude.{◌≡◌};
 ghost use Rattle.cs_tree_model.specs.Record.{metadata_of_ref};
 ghost use Rattle.cs_permit.specs.Rules.{is_append_only, is_directory, is_exclusive, is_gone};
@@ -8,7 +9,7 @@ use cs_names::UserName;
 use cs_tree_model::{DMAPPEND, DMEXCL, Kind, Metadata, TreeRead};
 use cs_users::{Right, Users, has_bit};
 
-/// Whether the file is a directory.
+/// Whether the file's kind is Directory; its mode isn't looked at.
 pub fn is_directory(file: &Metadata) -> bool
     ensures { result ≡ is_directory (metadata_of_ref file.now) }
 {
@@ -18,28 +19,28 @@ pub fn is_directory(file: &Metadata) -> bool
     }
 }
 
-/// Whether all writes go to the file's end.
+/// Whether all writes go to the file's end: its mode has DMAPPEND.
 pub fn is_append_only(file: &Metadata) -> bool
     ensures { result ≡ is_append_only (metadata_of_ref file.now) }
 {
     has_bit(file.mode, DMAPPEND)
 }
 
-/// Whether one fid at a time may have the file open.
+/// Whether the file may be open only once at a time: its mode has DMEXCL.
 pub fn is_exclusive(file: &Metadata) -> bool
     ensures { result ≡ is_exclusive (metadata_of_ref file.now) }
 {
     has_bit(file.mode, DMEXCL)
 }
 
-/// Whether no file has the number.
+/// Whether no file of the tree has the number.
 pub fn is_gone<T: TreeRead>(tree: &T, number: u64) -> bool
     ensures { result ≡ is_gone (T.tree tree.now) number }
 {
     tree.record(number).is_none()
 }
 
-/// Whether the user has the right on the file.
+/// Whether the user has the right on the file, by its owner, its group and its mode.
 pub fn may_access(users: &Users, user: &UserName, right: Right, file: &Metadata) -> bool
     ensures { result ≡ may_access users.now user.now right (metadata_of_ref file.now) }
 {
@@ -53,8 +54,8 @@ pub fn may_access(users: &Users, user: &UserName, right: Right, file: &Metadata)
     )
 }
 
-/// Whether the user lacks the right on the directory of the file; the root is its own directory.
-/// False if no file has the number.
+/// Whether the user lacks the right on the file's directory; the root is its own directory. False
+/// if no file has the number.
 pub fn parent_lacks<T: TreeRead>(
     tree: &T,
     users: &Users,

@@ -21,7 +21,7 @@ impl<'a> Model for SentBytes<'a> {
 }
 
 impl<'a> SentBytes<'a> {
-    /// These bytes, borrowed.
+    /// Borrows the bytes.
     pub fn lent(bytes: &'a [u8]) -> SentBytes<'a>
         ensures { result ≡ bytes.now }
     {
@@ -30,9 +30,9 @@ impl<'a> SentBytes<'a> {
         }
     }
 
-    /// A copy of these bytes.
-    pub fn keep(alloc: Global, bytes: &[u8]) -> Result<SentBytes<'static>, AllocError>
-        ensures { IfOk result (λ kept. kept ≡ bytes.now) }
+    /// Copies the bytes.
+    pub fn copy_of(alloc: Global, bytes: &[u8]) -> Result<SentBytes<'static>, AllocError>
+        ensures { IfOk result (λ copy. copy ≡ bytes.now) }
     {
         Ok(SentBytes {
             bytes: CowSlice::Owned(Vec::from_slice(alloc, bytes)?),
@@ -53,10 +53,10 @@ impl<'a> SentBytes<'a> {
         self.bytes.len()
     }
 
-    /// A copy of the bytes, also if they are borrowed.
+    /// Copies the bytes, also if they are borrowed, so the copy borrows nothing.
     pub fn try_clone(&self, alloc: Global) -> Result<SentBytes<'static>, AllocError>
         ensures { IfOk result (λ copy. copy ≡ self.now) }
     {
-        SentBytes::keep(alloc, self.bytes.as_slice())
+        SentBytes::copy_of(alloc, self.bytes.as_slice())
     }
 }

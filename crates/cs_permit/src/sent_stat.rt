@@ -21,21 +21,21 @@ impl Model for SentStat {
 }
 
 impl SentStat {
-    /// This stat.
+    /// The stat as it came; nothing of it is checked here.
     pub fn new(stat: Stat) -> SentStat
         ensures { result ≡ sent_of stat }
     {
         SentStat { stat }
     }
 
-    /// The stat.
+    /// The stat, to look at its fields.
     pub fn as_stat(&self) -> &Stat
         ensures { sent_of result.now ≡ self.now }
     {
         &self.stat
     }
 
-    /// A copy of the stat.
+    /// Copies the stat and its texts.
     pub fn try_clone(&self) -> Result<SentStat, AllocError>
         ensures { IfOk result (λ copy. copy ≡ self.now) }
     {
@@ -45,7 +45,7 @@ impl SentStat {
     }
 }
 
-/// A copy of the stat.
+/// Copies a message's stat and its texts.
 fn copy_stat(stat: &Stat) -> Result<Stat, AllocError>
     ensures { IfOk result (λ copy. sent_of copy ≡ sent_of stat.now) }
 {

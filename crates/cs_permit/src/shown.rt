@@ -26,7 +26,7 @@ pub fn qid_of(file: &Metadata) -> Qid
     qid_from(file.mode, file.vers, file.number)
 }
 
-/// The qid of a file of this mode, version and number.
+/// The qid of a file of this mode, version and number. Its kind is the high byte of the mode.
 fn qid_from(mode: u32, vers: u32, number: u64) -> Qid
     ensures kind { result.kind ≡ mode / 0x1000000 }
     ensures rest { (result.vers ≡ vers) × (result.path ≡ number) }
@@ -39,7 +39,7 @@ fn qid_from(mode: u32, vers: u32, number: u64) -> Qid
     }
 }
 
-/// The qid of a file with this metadata, or zeros for no file.
+/// The qid of a file whose metadata was looked up; zeros if there is no such file.
 pub fn qid_known(file: Option<Metadata>) -> Qid
     ensures value { result ≡ qid_or_zeros (option_map metadata_of_ref file.entry) }
     ensures fits { IsQid result }
@@ -54,7 +54,7 @@ pub fn qid_known(file: Option<Metadata>) -> Qid
     }
 }
 
-/// The qid of the file of a number, or zeros if no file has it.
+/// Looks up the file of a number, and returns its qid; zeros if no file has it.
 pub fn qid_at<T: TreeRead>(tree: &T, number: u64) -> Qid
     ensures value { result ≡ qid_at (T.tree tree.now) number }
     ensures fits { IsQid result }
@@ -62,7 +62,7 @@ pub fn qid_at<T: TreeRead>(tree: &T, number: u64) -> Qid
     qid_known(tree.record(number))
 }
 
-/// A name, as a text that a message can have.
+/// A name as a text. Its clauses say that a message can have it.
 pub fn name_text(name: &Name) -> &str
     ensures value { result.now ≡ name.now }
     ensures shown { IsShown NAME_BYTES result.now }
@@ -81,7 +81,7 @@ pub fn shown_name<T: TreeRead>(tree: &T, number: u64) -> &str
     }
 }
 
-/// The length in a stat: 0 for a directory.
+/// The length that a stat shows; 0 for a directory.
 pub fn shown_length(kind: Kind) -> u64
     ensures { result ≡ shown_length kind }
 {
@@ -91,7 +91,7 @@ pub fn shown_length(kind: Kind) -> u64
     }
 }
 
-/// A user's name, as a text that a message can have.
+/// A user's name as a text. Its clauses say that a message can have it.
 fn user_text(user: &UserName) -> &str
     ensures value { result.now ≡ user.now }
     ensures shown { IsShown USER_NAME_BYTES result.now }
@@ -99,9 +99,9 @@ fn user_text(user: &UserName) -> &str
     user.as_str()
 }
 
-/// The texts of a stat.
+/// The texts of a stat: the name, the owner, the group, and the user of the last change.
 #[derive(Clone, Copy)]
-struct Texts<'a> {
+struct StatTexts<'a> {
     name: &'a str,
     uid: &'a str,
     gid: &'a str,
@@ -115,7 +115,7 @@ fn stat_with<'a>(
     atime: u32,
     mtime: u32,
     length: u64,
-    texts: Texts<'a>,
+    texts: StatTexts<'a>,
 ) -> StatRef<'a>
     requires { IsQid qid }
     ensures value { fields_of result ≡ stat_with qid mode atime mtime length texts.entry.name.now
@@ -143,7 +143,7 @@ pub fn stat_of_file<'a>(name: &'a str, file: &Metadata<'a>) -> StatRef<'a>
     ensures value { fields_of result ≡ stat_of_file name.now (metadata_of_ref file.now) }
     ensures fits { IsStat STAT_BYTES (fields_of result) }
 {
-    let texts = Texts {
+    let texts = StatTexts {
         name,
         uid: user_text(file.owner),
         gid: user_text(file.group),
@@ -182,7 +182,8 @@ pub fn entry_stat<'a, T: TreeRead>(tree: &'a T, entry: ListedEntry<'a>) -> Optio
     Some(stat_of_file(name_text(entry.name), &file))
 }
 
-/// The bytes of a directory's entry in a read of the directory; 0 if no file has its number.
+/// The number of bytes of a directory's entry in a read of the directory; 0 if no file has the
+/// entry's number.
 pub fn entry_size<T: TreeRead>(tree: &T, entry: ListedEntry) -> usize
     ensures { result ≡ length (entry_of (stat_as (T.tree tree.now) entry.entry.number
         (entry_name entry.entry))) }

@@ -1,4 +1,6 @@
-//! The first rule of a request on a connection's fids that fails, without allocating.
+//! The first rule of a request on a connection's fids that fails, without allocating. Each
+//! `first_table_rule_of_` function has the rules of one kind of request, in their order, and
+//! returns None if all of them pass.
 ghost use Rattle.std.specs.Prelude.{◌≡◌, ◌∷◌, []};
 ghost use Rattle.cs_permit.specs.Refusals.{first_failing};
 ghost use Rattle.cs_permit.specs.Table.{attach_table_rules, create_table_rules, first_table_rule};
@@ -20,7 +22,7 @@ fn is_unknown(fids: &FidTable, fid: u32) -> bool
     fids.look(fid).is_none()
 }
 
-/// The mode of the fid's open, if it is open.
+/// The mode in which the fid is open; None if it isn't open or there is no such fid.
 fn open_mode(fids: &FidTable, fid: u32) -> Option<u8>
     ensures { result ≡ open_mode fids.now.fids fid }
 {
@@ -31,21 +33,21 @@ fn open_mode(fids: &FidTable, fid: u32) -> Option<u8>
     }
 }
 
-/// Whether the fid is open.
-fn is_open(fids: &FidTable, fid: u32) -> bool
+/// Whether the fid is open; false if there is no such fid.
+fn is_fid_open(fids: &FidTable, fid: u32) -> bool
     ensures { result ≡ is_open fids.now.fids fid }
 {
     open_mode(fids, fid).is_some()
 }
 
-/// Whether the connection has as many fids as it may have.
+/// Whether the connection has as many fids as it may have: FIDS.
 fn is_full(fids: &FidTable) -> bool
     ensures { result ≡ is_full fids.now.fids }
 {
     fids.len() >= FIDS
 }
 
-/// The first of A1 to A3 that fails.
+/// The first of A1 to A3 that fails; None if none does.
 fn first_table_rule_of_attach(fids: &FidTable, fid: u32, afid: u32, aname: &str) -> Option<RuleId>
     ensures { result ≡ first_failing (attach_table_rules fids.now.fids fid afid aname.now) }
 {
@@ -61,14 +63,14 @@ fn first_table_rule_of_attach(fids: &FidTable, fid: u32, afid: u32, aname: &str)
     None
 }
 
-/// The first of K1 to K4 that fails.
+/// The first of K1 to K4 that fails; None if none does.
 fn first_table_rule_of_walk(fids: &FidTable, fid: u32, newfid: u32) -> Option<RuleId>
     ensures { result ≡ first_failing (walk_table_rules fids.now.fids fid newfid) }
 {
     if is_unknown(fids, fid) {
         return Some(RuleId::K1);
     }
-    if is_open(fids, fid) {
+    if is_fid_open(fids, fid) {
         return Some(RuleId::K2);
     }
     if newfid == NOFID || (!is_unknown(fids, newfid) && newfid != fid) {
@@ -80,14 +82,14 @@ fn first_table_rule_of_walk(fids: &FidTable, fid: u32, newfid: u32) -> Option<Ru
     None
 }
 
-/// The first of O1 to O3 that fails.
+/// The first of O1 to O3 that fails; None if none does.
 fn first_table_rule_of_open(fids: &FidTable, fid: u32, mode: u8) -> Option<RuleId>
     ensures { result ≡ first_failing (open_table_rules fids.now.fids fid mode) }
 {
     if is_unknown(fids, fid) {
         return Some(RuleId::O1);
     }
-    if is_open(fids, fid) {
+    if is_fid_open(fids, fid) {
         return Some(RuleId::O2);
     }
     if is_bad_open_mode(mode) {
@@ -96,7 +98,7 @@ fn first_table_rule_of_open(fids: &FidTable, fid: u32, mode: u8) -> Option<RuleI
     None
 }
 
-/// The first of C1 to C5 that fails.
+/// The first of C1 to C5 that fails; None if none does.
 fn first_table_rule_of_create(
     fids: &FidTable,
     fid: u32,
@@ -109,7 +111,7 @@ fn first_table_rule_of_create(
     if is_unknown(fids, fid) {
         return Some(RuleId::C1);
     }
-    if is_open(fids, fid) {
+    if is_fid_open(fids, fid) {
         return Some(RuleId::C2);
     }
     if is_bad_open_mode(mode) {
@@ -124,7 +126,7 @@ fn first_table_rule_of_create(
     None
 }
 
-/// Whether the fid is open in a mode that covers a read.
+/// Whether the fid is open in a mode that allows reads; false if it isn't open.
 fn may_be_read(fids: &FidTable, fid: u32) -> bool
     ensures { result ≡ may_be_read fids.now.fids fid }
 {
@@ -134,7 +136,7 @@ fn may_be_read(fids: &FidTable, fid: u32) -> bool
     }
 }
 
-/// The first of G1 and G2 that fails.
+/// The first of G1 and G2 that fails; None if neither does.
 fn first_table_rule_of_read(fids: &FidTable, fid: u32) -> Option<RuleId>
     ensures { result ≡ first_failing (read_table_rules fids.now.fids fid) }
 {
@@ -147,7 +149,7 @@ fn first_table_rule_of_read(fids: &FidTable, fid: u32) -> Option<RuleId>
     None
 }
 
-/// Whether the fid is open in a mode that covers a write.
+/// Whether the fid is open in a mode that allows writes; false if it isn't open.
 fn may_be_written(fids: &FidTable, fid: u32) -> bool
     ensures { result ≡ may_be_written fids.now.fids fid }
 {
@@ -157,7 +159,7 @@ fn may_be_written(fids: &FidTable, fid: u32) -> bool
     }
 }
 
-/// The first of E1 and E2 that fails.
+/// The first of E1 and E2 that fails; None if neither does.
 fn first_table_rule_of_write(fids: &FidTable, fid: u32) -> Option<RuleId>
     ensures { result ≡ first_failing (write_table_rules fids.now.fids fid) }
 {
@@ -170,8 +172,8 @@ fn first_table_rule_of_write(fids: &FidTable, fid: u32) -> Option<RuleId>
     None
 }
 
-/// The rule, if the connection has no such fid.
-fn known_or(fids: &FidTable, fid: u32, rule: RuleId) -> Option<RuleId>
+/// The given rule if the connection has no such fid, else None.
+fn rule_if_unknown(fids: &FidTable, fid: u32, rule: RuleId) -> Option<RuleId>
     ensures { result ≡ first_failing ((rule, is_unknown fids.now.fids fid) ∷ []) }
 {
     if is_unknown(fids, fid) {
@@ -180,7 +182,7 @@ fn known_or(fids: &FidTable, fid: u32, rule: RuleId) -> Option<RuleId>
     None
 }
 
-/// The first rule of the connection that the request fails, if any. It allocates nothing.
+/// The first rule of the connection that the request fails; None if all pass. It allocates nothing.
 #[tactic(auto, unfolding(crate::specs::Table::first_table_rule))]
 pub fn first_table_rule(request: &Request, fids: &FidTable) -> Option<RuleId>
     ensures { result ≡ first_table_rule fids.now.fids request.now }
@@ -197,9 +199,9 @@ pub fn first_table_rule(request: &Request, fids: &FidTable) -> Option<RuleId>
         } => first_table_rule_of_create(fids, fid, name, perm, mode),
         Request::Read { fid } => first_table_rule_of_read(fids, fid),
         Request::Write { fid } => first_table_rule_of_write(fids, fid),
-        Request::Clunk { fid } => known_or(fids, fid, RuleId::N1),
-        Request::Remove { fid } => known_or(fids, fid, RuleId::M1),
-        Request::Stat { fid } => known_or(fids, fid, RuleId::H1),
-        Request::Wstat { fid } => known_or(fids, fid, RuleId::Q1),
+        Request::Clunk { fid } => rule_if_unknown(fids, fid, RuleId::N1),
+        Request::Remove { fid } => rule_if_unknown(fids, fid, RuleId::M1),
+        Request::Stat { fid } => rule_if_unknown(fids, fid, RuleId::H1),
+        Request::Wstat { fid } => rule_if_unknown(fids, fid, RuleId::Q1),
     }
 }

@@ -2,7 +2,7 @@
 ghost use Rattle.std.specs.Prelude.{◌≡◌, MatchOption, None, Some};
 ghost use Rattle.cs_permit.specs.TreeNames.{is_state_number, is_zero, tree_name_in};
 
-use cs_names::{Pieces, RunName, has_digits_alone};
+use cs_names::{Pieces, RunName, is_all_digits};
 
 /// The two parts of a tree's name.
 #[derive(Clone, Copy, Debug)]
@@ -13,21 +13,21 @@ pub struct TreeName<'a> {
     pub run: &'a [u8],
 }
 
-/// Whether it is the digit 0 only.
+/// Whether the bytes are exactly the digit 0.
 fn is_zero(bytes: &[u8]) -> bool
     ensures { result ≡ is_zero bytes.now }
 {
     bytes == b"0".as_slice()
 }
 
-/// Whether it is a number of 1 to 5 digits, without a zero before others.
+/// Whether the bytes are a number of 1 to 5 digits, without a zero before others.
 fn is_state_number(bytes: &[u8]) -> bool
     ensures { result ≡ is_state_number bytes.now }
 {
     match bytes.first() {
         None => false,
         Some(first) => {
-            bytes.len() <= 5 && has_digits_alone(bytes) && (*first != b'0' || bytes.len() == 1)
+            bytes.len() <= 5 && is_all_digits(bytes) && (*first != b'0' || bytes.len() == 1)
         }
     }
 }

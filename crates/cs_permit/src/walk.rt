@@ -18,8 +18,8 @@ fn is_up(name: &str) -> bool
     name == ".."
 }
 
-/// The file to which a name leads from a directory: `..` to its parent, another legal name to its
-/// entry.
+/// The number of the file to which a name leads from a directory: `..` to its parent, another legal
+/// name to its entry. None if the name isn't legal or there is no such file.
 // a walk spends a good part of its time on these few calls
 #[inline(always)]
 fn next_number<T: TreeRead>(tree: &T, number: u64, name: &str) -> Option<u64>
@@ -32,11 +32,12 @@ fn next_number<T: TreeRead>(tree: &T, number: u64, name: &str) -> Option<u64>
     tree.find_number(number, name)
 }
 
-/// One element of a walk from the file of that number and metadata: the file to which it leads, or
-/// the rule that stops it. It allocates nothing, and looks up a name but no record.
+/// Walks one element from the file of that number: the number of the file to which it leads, or the
+/// rule that stops it. `file` is the record of that number, which the caller has looked up; without
+/// a record only K8 can stop it. It allocates nothing, and looks up a name but no record.
 // a record is large: out of line, it would be passed in memory
 #[inline(always)]
-pub fn element_of<T: TreeRead>(
+pub fn walk_element<T: TreeRead>(
     tree: &T,
     users: &Users,
     user: &UserName,
@@ -58,9 +59,9 @@ pub fn element_of<T: TreeRead>(
     next_number(tree, number, name).ok_or(RuleId::K8)
 }
 
-/// One element of a walk from the file of that number: the file to which it leads, or the rule that
-/// stops it. It allocates nothing.
-pub fn element<T: TreeRead>(
+/// Walks one element from the file of that number, whose record is looked up: the number of the
+/// file to which it leads, or the rule that stops it. It allocates nothing.
+pub fn walk_element_at<T: TreeRead>(
     tree: &T,
     users: &Users,
     user: &UserName,
@@ -69,10 +70,10 @@ pub fn element<T: TreeRead>(
 ) -> Result<u64, RuleId>
     ensures { result ≡ element (T.tree tree.now) users.now user.now number name.now }
 {
-    element_of(tree, users, user, number, tree.record(number), name)
+    walk_element(tree, users, user, number, tree.record(number), name)
 }
 
-/// The rule that stops one element of a walk, if any does.
+/// The rule that stops one element of a walk: K6, K7 or K8; None if none does.
 pub fn first_of_element<T: TreeRead>(
     tree: &T,
     users: &Users,
@@ -83,5 +84,5 @@ pub fn first_of_element<T: TreeRead>(
     ensures { result
         ≡ first_failing (element_rules (T.tree tree.now) users.now user.now number name.now) }
 {
-    element(tree, users, user, number, name).err()
+    walk_element_at(tree, users, user, number, name).err()
 }

@@ -1,4 +1,5 @@
-//! The rules of a wstat (stat(5)).
+//! The rules of a wstat (stat(5)), in groups by the field that changes. Each `first_of_` function
+//! returns None if all rules of its group pass; without a change of the field they all do.
 ghost use Rattle.std.specs.Prelude.{◌≡◌};
 ghost use Rattle.cs_tree_model.specs.Record.{metadata_of_ref};
 ghost use Rattle.cs_permit.specs.Refusals.{first_failing};
@@ -17,7 +18,8 @@ use cs_names::{Name, RuleId, UserName};
 use cs_tree_model::{DMDIR, Metadata, TreeRead};
 use cs_users::{Right, Users, owns};
 
-/// The number of the file of that name in the directory of a file.
+/// The number of the file of that name in the directory of the file `number`; None if there is no
+/// such file.
 fn number_beside<T: TreeRead>(tree: &T, number: u64, name: &str) -> Option<u64>
     ensures { result ≡ number_beside (T.tree tree.now) number name.now }
 {
@@ -25,7 +27,7 @@ fn number_beside<T: TreeRead>(tree: &T, number: u64, name: &str) -> Option<u64>
     tree.find_number(parent, name)
 }
 
-/// The first of Q4 to Q7 that fails, if the name changes.
+/// The first of Q4 to Q7 that fails; None if none does, or if the name stays.
 #[tactic(auto, unfolding(crate::specs::Wstats::name_rules))]
 fn first_of_name<T: TreeRead>(call: &WstatCall, tree: &T, users: &Users) -> Option<RuleId>
     ensures { result ≡ first_failing (name_rules (T.tree tree.now) users.now call.now) }
@@ -46,7 +48,7 @@ fn first_of_name<T: TreeRead>(call: &WstatCall, tree: &T, users: &Users) -> Opti
     None
 }
 
-/// The first of Q8 to Q10 that fails, if the length changes.
+/// The first of Q8 to Q10 that fails; None if none does, or if the length stays.
 #[tactic(auto, unfolding(crate::specs::Wstats::length_rules))]
 pub fn first_of_length(call: &WstatCall, users: &Users, file: &Metadata) -> Option<RuleId>
     ensures { result ≡ first_failing (length_rules users.now call.now (metadata_of_ref file.now)) }
@@ -64,7 +66,8 @@ pub fn first_of_length(call: &WstatCall, users: &Users, file: &Metadata) -> Opti
     None
 }
 
-/// Whether the file can't have that mode.
+/// Whether the file can't have that mode: it has a bit that no client may give, it changes DMDIR,
+/// or a directory would be append-only or exclusive.
 fn is_bad_mode(file: &Metadata, mode: u32) -> bool
     ensures { result ≡ is_bad_mode (metadata_of_ref file.now) mode }
 {
@@ -81,7 +84,8 @@ fn is_owner_or_leader(users: &Users, user: &UserName, file: &Metadata) -> bool
         || users.is_leader(user.as_bytes(), file.group.as_bytes())
 }
 
-/// The first of Q11 and Q12 that fails: Q11 if the mode changes, Q12 if the mode or the mtime does.
+/// The first of Q11 and Q12 that fails; None if neither does. Q11 counts only if the mode changes,
+/// Q12 if the mode or the mtime does.
 #[tactic(auto, unfolding(crate::specs::Wstats::mode_rules))]
 pub fn first_of_mode(call: &WstatCall, users: &Users, file: &Metadata) -> Option<RuleId>
     ensures { result ≡ first_failing (mode_rules users.now call.now (metadata_of_ref file.now)) }
@@ -97,7 +101,8 @@ pub fn first_of_mode(call: &WstatCall, users: &Users, file: &Metadata) -> Option
     None
 }
 
-/// Whether the user may give the file that group.
+/// Whether the user may give the file that group: the owner must be a member of it, and any other
+/// user the leader of both it and the file's group.
 fn may_give(users: &Users, user: &UserName, file: &Metadata, group: &str) -> bool
     ensures { result ≡ may_give users.now user.now (metadata_of_ref file.now) group.now }
 {
@@ -106,7 +111,7 @@ fn may_give(users: &Users, user: &UserName, file: &Metadata, group: &str) -> boo
         || (users.is_leader(user, file.group.as_bytes()) && users.is_leader(user, group.as_bytes()))
 }
 
-/// The first of Q13 and Q14 that fails, if the group changes.
+/// The first of Q13 and Q14 that fails; None if neither does, or if the group stays.
 #[tactic(auto, unfolding(crate::specs::Wstats::group_rules))]
 pub fn first_of_group(call: &WstatCall, users: &Users, file: &Metadata) -> Option<RuleId>
     ensures { result ≡ first_failing (group_rules users.now call.now (metadata_of_ref file.now)) }
@@ -121,7 +126,7 @@ pub fn first_of_group(call: &WstatCall, users: &Users, file: &Metadata) -> Optio
     None
 }
 
-/// The first of Q4 to Q14 that fails.
+/// The first of Q4 to Q14 that fails; None if none does.
 #[tactic(auto, using(crate::proofs::Firsts::first_failing_append))]
 fn first_of_fields<T: TreeRead>(
     call: &WstatCall,
@@ -144,7 +149,7 @@ fn first_of_fields<T: TreeRead>(
     first_of_group(call, users, file)
 }
 
-/// The first rule of a wstat that fails, if any.
+/// The first of Q2 to Q14 that fails; None if none does.
 pub fn first_of_wstat<T: TreeRead>(call: &WstatCall, tree: &T, users: &Users) -> Option<RuleId>
     ensures { result ≡ first_failing (wstat_rules (T.tree tree.now) users.now call.now) }
 {

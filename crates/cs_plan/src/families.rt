@@ -1,4 +1,5 @@
-//! The two families of states that a plan lists by itself: prefixes, and prefixes with a hole.
+//! The two families of states that a plan lists by itself: prefixes, and prefixes with a hole. An
+//! error is that memory ran out; the list is then dropped.
 ghost use Rattle.std.specs.Prelude.{◌≡◌, ◌++◌, ◌<◌, ◌≤◌, length, IfOk, OnOk};
 ghost use Rattle.cs_apm.specs.Chains.{IsBackward};
 ghost use Rattle.cs_apm.specs.Orders.{needs_in};
@@ -11,7 +12,7 @@ use cs_names::limits::MICRO_OPERATIONS;
 use std::alloc::{AllocError, Global};
 
 /// How many holes have this last place: one for each earlier place that it doesn't need by any
-/// chain.
+/// chain. It allocates nothing.
 fn count_holes_at(order: &Order, last: usize) -> usize
     requires { last < length order.now }
     ensures value { result ≡ length (holes_at (needs_in order.now) last) }
@@ -64,7 +65,7 @@ fn push_prefixes(recipes: &mut Vec<Recipe>, count: usize) -> Result<(), AllocErr
     Ok(())
 }
 
-/// Appends the holes that have this last place, by their missing place.
+/// Appends the holes that have this last place, in the order of their missing places.
 fn push_holes_at(recipes: &mut Vec<Recipe>, order: &Order, last: usize) -> Result<(), AllocError>
     requires inside { last < length order.now }
     requires few { length order.now ≤ MICRO_OPERATIONS }
@@ -79,7 +80,7 @@ fn push_holes_at(recipes: &mut Vec<Recipe>, order: &Order, last: usize) -> Resul
     Ok(())
 }
 
-/// Appends the holes of every last place, in order.
+/// Appends the holes of every last place, in the order of the last places.
 fn push_holes(recipes: &mut Vec<Recipe>, order: &Order) -> Result<(), AllocError>
     ensures { OnOk result
         (recipes.new.items ≡ recipes.old.items
@@ -91,7 +92,7 @@ fn push_holes(recipes: &mut Vec<Recipe>, order: &Order) -> Result<(), AllocError
     Ok(())
 }
 
-/// The recipes of the families, in order: the prefixes, then the holes if they are asked for.
+/// The recipes of the families: the prefixes, then the holes if they are asked for.
 pub fn families_of(alloc: Global, order: &Order, holes: bool) -> Result<Vec<Recipe>, AllocError>
     ensures { IfOk result
         (λ recipes. recipes.items ≡ families (needs_in order.now) (length order.now) holes) }

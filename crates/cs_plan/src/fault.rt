@@ -25,6 +25,7 @@ pub enum PlanFault {
 impl fmt::Display for PlanFault {
     ghost output = { λ fault. Some (fault_text fault) };
 
+    /// Prints the fault as the program reports it.
     fn fmt<W: fmt::Write>(&self, f: &mut fmt::Formatter<W>) -> fmt::Result {
         match self {
             PlanFault::PlanTooLarge => f.write_str("plan too large"),
@@ -37,6 +38,7 @@ impl fmt::Display for PlanFault {
 impl From<AllocError> for PlanFault {
     ghost from_gives = { λ _ fault. fault ≡ plan.Memory };
 
+    /// A failed allocation is Memory.
     fn from(_refused: AllocError) -> PlanFault {
         PlanFault::Memory
     }
@@ -60,6 +62,7 @@ pub enum SceneFault {
 impl fmt::Display for SceneFault {
     ghost output = { λ fault. Some (scene_fault_text fault) };
 
+    /// Prints the fault as the program reports it.
     fn fmt<W: fmt::Write>(&self, f: &mut fmt::Formatter<W>) -> fmt::Result {
         match self {
             SceneFault::TooMany => f.write_str("too many micro-operations"),
@@ -73,6 +76,7 @@ impl fmt::Display for SceneFault {
 impl From<MicroFault> for SceneFault {
     ghost from_gives = { λ given fault. fault ≡ of_breaking given };
 
+    /// The fault of the same name.
     fn from(fault: MicroFault) -> SceneFault {
         match fault {
             MicroFault::TooMany => SceneFault::TooMany,
@@ -84,6 +88,7 @@ impl From<MicroFault> for SceneFault {
 impl From<PlanFault> for SceneFault {
     ghost from_gives = { λ given fault. fault ≡ of_planning given };
 
+    /// The fault of the same name.
     fn from(fault: PlanFault) -> SceneFault {
         match fault {
             PlanFault::PlanTooLarge => SceneFault::PlanTooLarge,
@@ -96,6 +101,7 @@ impl From<PlanFault> for SceneFault {
 impl From<AllocError> for SceneFault {
     ghost from_gives = { λ _ fault. fault ≡ scene.Memory };
 
+    /// A failed allocation is Memory.
     fn from(_refused: AllocError) -> SceneFault {
         SceneFault::Memory
     }
@@ -103,7 +109,7 @@ impl From<AllocError> for SceneFault {
 
 impl std::error::Error for SceneFault {}
 
-/// Why a state is not made.
+/// Why a state can't be made.
 #[derive(Clone, Copy, Debug, PartialEq, Eq)]
 pub enum MakeFault {
     /// The plan has no state of that number.
@@ -115,6 +121,7 @@ pub enum MakeFault {
 impl fmt::Display for MakeFault {
     ghost output = { λ fault. Some (make_fault_text fault) };
 
+    /// Prints the fault as the program reports it.
     fn fmt<W: fmt::Write>(&self, f: &mut fmt::Formatter<W>) -> fmt::Result {
         f.write_str(match self {
             MakeFault::NoSuchState => "no such state",
@@ -126,6 +133,7 @@ impl fmt::Display for MakeFault {
 impl From<AllocError> for MakeFault {
     ghost from_gives = { λ _ fault. fault ≡ make.Memory };
 
+    /// A failed allocation is Memory.
     fn from(_refused: AllocError) -> MakeFault {
         MakeFault::Memory
     }

@@ -7,7 +7,7 @@ use crate::scene::Scene;
 use cs_micro::MicroOp;
 use std::fmt;
 
-/// A line for each micro-operation.
+/// The lines of a trace's micro-operations, to be printed.
 #[derive(Clone, Copy)]
 struct OpLines<'a> {
     ops: &'a [MicroOp],
@@ -16,6 +16,7 @@ struct OpLines<'a> {
 impl fmt::Display for OpLines<'_> {
     ghost output = { λ lines. Some (op_lines lines.ops.now) };
 
+    /// Prints a line for each micro-operation, in order: `op`, its place, and the micro-operation.
     fn fmt<W: fmt::Write>(&self, f: &mut fmt::Formatter<W>) -> fmt::Result {
         for (place, op) in self.ops.iter().enumerate() {
             write!(f, "op {place} {op}\n")?;
@@ -24,7 +25,7 @@ impl fmt::Display for OpLines<'_> {
     }
 }
 
-/// A line for each state.
+/// The lines of a scene's states, to be printed.
 #[derive(Clone, Copy)]
 struct StateLines<'a> {
     scene: &'a Scene,
@@ -33,6 +34,8 @@ struct StateLines<'a> {
 impl fmt::Display for StateLines<'_> {
     ghost output = { λ lines. Some (state_lines lines.scene.now) };
 
+    /// Prints a line for each state, in order: `state`, its number, its recipe, `says`, and how
+    /// many acknowledged lines it has.
     fn fmt<W: fmt::Write>(&self, f: &mut fmt::Formatter<W>) -> fmt::Result {
         let ops = self.scene.micros().ops();
         for (number, recipe) in self.scene.plan().recipes().iter().enumerate() {
@@ -45,6 +48,8 @@ impl fmt::Display for StateLines<'_> {
 
 /// The list of a scene, as it is printed: a line for each micro-operation, with its place; and then
 /// one for each state, with its number, its recipe, and how many acknowledged lines it has.
+/// `crashfs list` prints it. With options, cs_list_lines prints the same lines with more in them:
+/// keep both alike.
 ///
 /// ```text
 /// op 3 write_block 0 1 0 904
@@ -67,6 +72,7 @@ impl Scene {
 impl fmt::Display for Listing<'_> {
     ghost output = { λ listing. Some (list_text listing.scene.now) };
 
+    /// Prints the lines of the micro-operations, and then those of the states.
     fn fmt<W: fmt::Write>(&self, f: &mut fmt::Formatter<W>) -> fmt::Result {
         let ops = OpLines {
             ops: self.scene.micros().ops(),

@@ -1,4 +1,4 @@
-//! The micro-operations of a state.
+//! The micro-operations of a state, by its recipe, and how many of them are acknowledged lines.
 ghost use Rattle.std.specs.Prelude.{◌≡◌, ◌<◌, ◌≤◌, ◌&&◌, length, IfOk};
 ghost use Rattle.std.specs.List.{All};
 ghost use Rattle.cs_apm.specs.Orders.{needs_in};
@@ -12,8 +12,8 @@ use cs_micro::MicroOp;
 use cs_names::limits::MICRO_OPERATIONS;
 use std::alloc::{AllocError, Global};
 
-/// Whether the micro-operation at `place` can stay if the one at `missing` is missing: it is
-/// another one, and doesn't need that by any chain.
+/// Whether the micro-operation at `place` can stay in a state without the one at `missing`: it is
+/// another one, and doesn't need that one by any chain.
 pub fn is_kept(order: &Order, missing: usize, place: usize) -> bool
     requires first { missing < length order.now }
     requires second { place < length order.now }
@@ -22,14 +22,14 @@ pub fn is_kept(order: &Order, missing: usize, place: usize) -> bool
     !(missing == place || order.needs_by_chain(missing, place))
 }
 
-/// The places before the end, ascending.
+/// The places from 0 up to the end, which isn't among them.
 fn places_before(alloc: Global, end: u32) -> Result<Vec<u32>, AllocError>
     ensures { IfOk result (λ places. places.items ≡ places_below end) }
 {
     (0..end).collect(alloc)
 }
 
-/// The places before the end, without the missing one and all that need it by any chain.
+/// The places before the end, ascending, without the missing one and all that need it by any chain.
 fn hole_of(alloc: Global, order: &Order, missing: u32, end: u32) -> Result<Vec<u32>, AllocError>
     requires first { missing < length order.now }
     requires second { end ≤ length order.now }
@@ -45,7 +45,7 @@ fn hole_of(alloc: Global, order: &Order, missing: u32, end: u32) -> Result<Vec<u
     Ok(places)
 }
 
-/// The places of the state's micro-operations, in the trace's order.
+/// The places of the micro-operations that a state of this recipe has, in the trace's order.
 pub fn places_of(alloc: Global, order: &Order, recipe: &Recipe) -> Result<Vec<u32>, AllocError>
     requires { IsWithin (length order.now) recipe.now }
     ensures { IfOk result (λ places. places.items ≡ set_in order.now recipe.now) }
@@ -65,7 +65,7 @@ fn is_say_at(ops: &[MicroOp], place: u32) -> bool
     matches!(&ops[place as usize], MicroOp::Say)
 }
 
-/// How many acknowledged lines are before the end.
+/// How many acknowledged lines a prefix has: those at the places before the end.
 fn says_before(ops: &[MicroOp], end: u32) -> u32
     requires { end ≤ length ops.now }
     ensures { result ≡ says_of ops.now (places_below end) }
@@ -79,8 +79,8 @@ fn says_before(ops: &[MicroOp], end: u32) -> u32
     count
 }
 
-/// Whether an acknowledged line is at the place, and stays if the micro-operation at `missing` is
-/// missing.
+/// Whether an acknowledged line is at the place, and can stay in a state without the
+/// micro-operation at `missing`.
 fn is_kept_say(ops: &[MicroOp], order: &Order, missing: u32, place: u32) -> bool
     requires long { length ops.now ≡ length order.now }
     requires first { missing < length order.now }
@@ -91,7 +91,8 @@ fn is_kept_say(ops: &[MicroOp], order: &Order, missing: u32, place: u32) -> bool
     is_say_at(ops, place) && is_kept(order, missing as usize, place as usize)
 }
 
-/// How many acknowledged lines a hole has.
+/// How many acknowledged lines a hole has: those before the end that can stay without the
+/// micro-operation at `missing`.
 fn says_around(ops: &[MicroOp], order: &Order, missing: u32, end: u32) -> u32
     requires long { length ops.now ≡ length order.now }
     requires first { missing < length order.now }
@@ -107,7 +108,7 @@ fn says_around(ops: &[MicroOp], order: &Order, missing: u32, end: u32) -> u32
     count
 }
 
-/// How many acknowledged lines are at these places.
+/// How many acknowledged lines a pick of these places has.
 fn says_among(ops: &[MicroOp], places: &[u32]) -> u32
     requires inside { All (λ place. place < length ops.now) places.now }
     requires few { length places.now ≤ MICRO_OPERATIONS }
@@ -122,7 +123,7 @@ fn says_among(ops: &[MicroOp], places: &[u32]) -> u32
     count
 }
 
-/// How many acknowledged lines the state has. It allocates nothing.
+/// How many acknowledged lines a state of this recipe has. It allocates nothing.
 pub fn says_in(ops: &[MicroOp], order: &Order, recipe: &Recipe) -> u32
     requires long { length ops.now ≡ length order.now }
     requires few { length ops.now ≤ MICRO_OPERATIONS }

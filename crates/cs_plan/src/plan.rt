@@ -80,7 +80,7 @@ impl Plan {
         self.recipes.as_slice()
     }
 
-    /// The recipe of the state of this number; None if the plan has fewer.
+    /// The recipe of the state of this number; None if the plan has no such number.
     pub fn recipe(&self, number: u32) -> Option<&Recipe>
         ensures { option_copied result ≡ slice_get self.now number }
     {
@@ -88,8 +88,8 @@ impl Plan {
     }
 }
 
-/// The place of the first pick that a crash can't leave; None if it can leave each of them. It
-/// allocates nothing.
+/// The place, from 0, of the first pick that a crash can't leave; None if it can leave each of
+/// them. It allocates nothing.
 fn first_refused(order: &Order, picks: &[Places]) -> Option<usize>
     ensures { MatchOption result (All (IsAllowedIn order.now) picks.now)
         (IsFirstRefused order.now picks.now) }
@@ -102,7 +102,7 @@ fn first_refused(order: &Order, picks: &[Places]) -> Option<usize>
     None
 }
 
-/// Appends a recipe for each pick.
+/// Appends a recipe for each pick, in their order.
 fn push_picks(recipes: &mut Vec<Recipe>, picks: Vec<Places>) -> Result<(), AllocError>
     ensures { OnOk result (recipes.new.items ≡ recipes.old.items ++ map forms.Pick picks.items) }
 {

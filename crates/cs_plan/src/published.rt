@@ -1,4 +1,4 @@
-//! A state of a scene that was made, with its number.
+//! A state of a scene, with its number, once it is made.
 ghost use Rattle.std.specs.Prelude.{◌≡◌, ◌≤◌, ◌↔◌, length, Some, IfOk, IsErrOf};
 ghost use Rattle.std.specs.Arc.{arc_value};
 ghost use Rattle.cs_plan.specs.Scenes.{IsPublished, state_at};

@@ -23,7 +23,7 @@ impl Model for Places {
 }
 
 impl Places {
-    /// The places of this list.
+    /// The places of this list, in its order. Whether they ascend isn't checked.
     pub fn of(places: Vec<u32>) -> Places
         ensures { result ≡ places.items }
     {
@@ -43,6 +43,7 @@ impl PartialEq for Places {
 
     ghost laws = { partial_equiv_from_equiv nat_list_eq_equiv };
 
+    /// Whether the places are equal, in the same order.
     fn eq(&self, other: &Places) -> bool {
         self.places == other.places
     }
@@ -52,6 +53,7 @@ impl PartialEq for Places {
 impl fmt::Display for Places {
     ghost output = { λ places. Some (places_text places) };
 
+    /// Prints `0,2,5`, for example.
     fn fmt<W: fmt::Write>(&self, f: &mut fmt::Formatter<W>) -> fmt::Result {
         let Some((first, others)) = self.places.split_first() else {
             return f.write_str("-");
@@ -67,7 +69,7 @@ impl fmt::Display for Places {
 /// Which micro-operations a state has.
 #[derive(Debug, Drop, PartialEq)]
 pub enum Recipe {
-    /// The first so many of the trace.
+    /// The first micro-operations of the trace, this many.
     Prefix(u32),
     /// Those before the second place, without the first place and all that need it by any chain.
     Hole(u32, u32),
@@ -79,6 +81,7 @@ pub enum Recipe {
 impl fmt::Display for Recipe {
     ghost output = { λ recipe. Some (recipe_text recipe) };
 
+    /// Prints `hole 2 4`, for example.
     fn fmt<W: fmt::Write>(&self, f: &mut fmt::Formatter<W>) -> fmt::Result {
         match self {
             Recipe::Prefix(end) => write!(f, "prefix {end}"),

@@ -1,4 +1,5 @@
-//! Whether two scenes have the same content.
+//! Whether two scenes have the same content: the same trace, and the same recipes. Nothing here
+//! allocates.
 ghost use Rattle.std.specs.Prelude.{◌≡◌, ◌↔◌, IsTrue};
 
 use crate::recipe::Recipe;
@@ -20,28 +21,28 @@ fn are_same_operations(operations: &[Operation], others: &[Operation]) -> bool
     operations == others
 }
 
-/// Whether the paths and records at the start are equal.
+/// Whether the paths and records at the start are equal, in the same order.
 fn are_same_records(records: &[(Path, Record)], others: &[(Path, Record)]) -> bool
     ensures { IsTrue result ↔ (records.now ≡ others.now) }
 {
     records == others
 }
 
-/// Whether the kinds of the entries at the start, with the files' numbers, are equal.
+/// Whether the entries at the start are of equal kinds, and the files of equal numbers.
 fn are_same_nodes(nodes: &[Node], others: &[Node]) -> bool
     ensures { IsTrue result ↔ (nodes.now ≡ others.now) }
 {
     nodes == others
 }
 
-/// Whether the paths of the files at the start are equal.
+/// Whether the paths of the files at the start are equal, in the same order.
 fn are_same_paths(paths: &[Path], others: &[Path]) -> bool
     ensures { IsTrue result ↔ (paths.now ≡ others.now) }
 {
     paths == others
 }
 
-/// Whether the linking paths at the start, with their files, are equal.
+/// Whether the further paths of files at the start, with the files' numbers, are equal.
 fn are_same_links(links: &[(Path, u32)], others: &[(Path, u32)]) -> bool
     ensures { IsTrue result ↔ (links.now ≡ others.now) }
 {

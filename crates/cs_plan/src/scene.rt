@@ -68,7 +68,7 @@ impl Scene {
         Ok(Scene { atlas, order, plan })
     }
 
-    /// The trace.
+    /// The trace that the scene was made of.
     pub fn trace(&self) -> &Trace
         ensures { result.now ≡ self.now.trace }
     {
@@ -82,7 +82,7 @@ impl Scene {
         self.atlas.micros()
     }
 
-    /// Which micro-operation needs which.
+    /// The order of the micro-operations: which needs which.
     pub fn order(&self) -> &Order
         ensures value { result.now ≡ order_in self.now }
         ensures long { length result.now ≡ length (micros_of self.now).ops }

@@ -15,14 +15,15 @@ use std::thread::Scope;
 /// How many made states may wait to be published.
 const STATES_IN_FLIGHT: u32 = 64;
 
-/// Whether this number of workers is allowed: from 1 to WORKERS.
+/// Whether this number of workers is allowed: 1 to WORKERS.
 pub(crate) fn is_crew(workers: u32) -> bool
     ensures { result ≡ is_crew workers }
 {
     workers >= 1 && workers <= WORKERS
 }
 
-/// A channel with the numbers below `count`, in ascending order, for the workers to take.
+/// A channel with the numbers below `count`, in ascending order, for the workers to take. Memory if
+/// it can't be made. (Channel can't happen: there is room for each number, and the receiver lives.)
 pub(crate) fn numbers_below<R: Wait>(
     rt: &R,
     alloc: Global,
@@ -65,7 +66,8 @@ fn work<N: Staged, R: Wait, G: Gate>(
 }
 
 /// Starts `workers` workers, and returns the receiver of their states. They end when no number is
-/// left, or when the receiver is dropped.
+/// left, or when the receiver is dropped. Memory if a worker can't be started; those that were
+/// started before end, since the receiver is dropped.
 pub(crate) fn hire<'s, E, N: Staged, R: Wait + Sync, G: Gate>(
     scope: &'s Scope<'s, E>,
     rt: &'s R,
@@ -90,8 +92,8 @@ pub(crate) fn hire<'s, E, N: Staged, R: Wait + Sync, G: Gate>(
     Ok(made)
 }
 
-/// Waits for the next state that a worker made. Lost if a worker ran out of memory, or if all have
-/// ended.
+/// Waits for the next state that a worker made. Memory if a worker ran out of memory instead,
+/// Channel if all workers have ended.
 pub(crate) fn next_made<N: Staged, R: Wait>(
     rt: &R,
     made: &Receiver<FromWorker<N>>,

@@ -19,7 +19,7 @@ pub(crate) enum Lost {
     Channel,
 }
 
-/// The fault that a caller gets for a lost state.
+/// The fault that a caller of this crate gets for a lost state; never Workers.
 pub(crate) fn fault_of(lost: Lost) -> PublishAllFault
     ensures { result ≢ PublishAllFault.Workers }
 {

@@ -49,7 +49,7 @@ pub(crate) fn ask<G: Gate>(gate: &G, number: u32) -> AskedNumber<'_, G>
 }
 
 impl<G: Gate> AskedNumber<'_, G> {
-    /// Uses the permission up: the number of the state to make.
+    /// The number of the state to make. It uses the permission up.
     pub(crate) fn into_number(self) -> u32
         ensures { result ≡ self.entry }
     {

@@ -28,8 +28,8 @@ pub(crate) enum Known {
 }
 
 /// Publishes `count` states that the workers make, each under its own lock of the registry. Returns
-/// how many of them weren't published before.
-fn collect_into<S: ServerBrand, N: Staged, R: Wait>(
+/// how many of them weren't published before. What was published before an error stays.
+fn publish_made_into<S: ServerBrand, N: Staged, R: Wait>(
     rt: &R,
     alloc: Global,
     registry: &SharedRegistry<S>,
@@ -52,7 +52,8 @@ fn collect_into<S: ServerBrand, N: Staged, R: Wait>(
     Ok(published)
 }
 
-/// Publishes a state of the registry's scene. Returns 1, or 0 if it was published before.
+/// Publishes a state of the registry's scene. Returns how many states were published by this: 1, or
+/// 0 if it was published before.
 fn publish_one<S: ServerBrand, R: Wait>(
     rt: &R,
     alloc: Global,
@@ -78,8 +79,9 @@ fn publish_one<S: ServerBrand, R: Wait>(
     }
 }
 
-/// Starts the workers and publishes `count` states that they make of these numbers.
-fn gather_into<'s, S: ServerBrand, N: Staged, R: Threads + Wait + Sync, G: Gate>(
+/// Starts `workers` workers on these numbers, and publishes `count` of the states that they make.
+/// Returns how many of these weren't published before.
+fn hire_and_publish_into<'s, S: ServerBrand, N: Staged, R: Threads + Wait + Sync, G: Gate>(
     rt: &'s R,
     alloc: Global,
     registry: &'s SharedRegistry<S>,
@@ -103,7 +105,7 @@ fn gather_into<'s, S: ServerBrand, N: Staged, R: Threads + Wait + Sync, G: Gate>
             ensures { IfOk result (λ published. published ≤ count) }
         {
             let made = hire(scope, rt, alloc, stage, numbers, workers, gate)?;
-            collect_into(rt, alloc, registry, known, count, made)
+            publish_made_into(rt, alloc, registry, known, count, made)
         },
     )
 }
@@ -127,13 +129,13 @@ fn publish_scene_into<S: ServerBrand, N: Staged, R: Threads + Wait + Sync, G: Ga
     let count = scene.plan().len() as u32;
     let numbers = numbers_below(rt, alloc, count)?;
     let stage = Stage::<N>::new(scene);
-    gather_into(
+    hire_and_publish_into(
         rt, alloc, registry, known, count, &stage, &numbers, workers, gate,
     )
 }
 
-/// Publishes all states of the registry's scene, if the number of workers is allowed. Returns how
-/// many weren't published before.
+/// Publishes all states of the registry's scene. Returns how many weren't published before. Workers
+/// if the number of workers isn't allowed. `known` is why a made state is of the registry's scene.
 fn publish_by<S: ServerBrand, R: Threads + Wait + Sync, G: Gate>(
     rt: &R,
     alloc: Global,
@@ -175,8 +177,8 @@ pub fn publish_into<S: ServerBrand, R: Threads + Wait + Sync, G: Gate>(
     publish_by(rt, alloc, registry, Known::ByContent, workers, gate)
 }
 
-/// Publishes as `publish_into` does, in a registry whose type allows no other scene: contents
-/// aren't compared.
+/// Publishes as `publish_into` does, in a registry whose type allows no scene but its own, so that
+/// contents needn't be compared.
 pub fn publish_own_into<S: ServerBrand, R: Threads + Wait + Sync, G: Gate>(
     rt: &R,
     alloc: Global,

@@ -1,4 +1,6 @@
-//! Making and publishing the states of a scene by several threads.
+//! Making and publishing all states of a scene by several threads: in a new registry
+//! (`publish_all`), or in one that other threads use meanwhile (`publish_into`). What a registry is
+//! and what it refuses is in cs_registry and cs_shared_runs.
 #![tactic(auto)]
 
 mod crew;

@@ -19,8 +19,9 @@ use std::sync::{Arc, Wait};
 use std::thread;
 use std::thread::Threads;
 
-/// Publishes the states that the workers make until none is missing.
-fn collect<H: Held, N: Staged, R: Wait>(
+/// Publishes the states that the workers make, until none is missing, and returns the registry. An
+/// error drops it.
+fn publish_made<H: Held, N: Staged, R: Wait>(
     rt: &R,
     alloc: Global,
     mut states: States<H>,
@@ -44,8 +45,9 @@ fn collect<H: Held, N: Staged, R: Wait>(
     Ok(states)
 }
 
-/// Starts the workers and publishes all states, which they make of these numbers.
-fn gather<'s, H: Held, N: Staged, R: Threads + Wait + Sync, G: Gate>(
+/// Starts `workers` workers on these numbers, which are all of the plan's, publishes the states
+/// that they make, and returns the registry.
+fn hire_and_publish<'s, H: Held, N: Staged, R: Threads + Wait + Sync, G: Gate>(
     rt: &'s R,
     alloc: Global,
     states: States<H>,
@@ -67,7 +69,7 @@ fn gather<'s, H: Held, N: Staged, R: Threads + Wait + Sync, G: Gate>(
             ensures { IfOk result (λ all. all ≡ all_published states.scene states.users) }
         {
             let made = hire(scope, rt, alloc, stage, numbers, workers, gate)?;
-            collect(rt, alloc, states, made)
+            publish_made(rt, alloc, states, made)
         },
     )
 }
@@ -95,13 +97,13 @@ fn publish_scene<H: Held, N: Staged, R: Threads + Wait + Sync, G: Gate>(
     };
     let numbers = numbers_below(rt, alloc, count)?;
     let stage = Stage::<N>::new(scene);
-    gather(rt, alloc, states, &stage, &numbers, workers, gate)
+    hire_and_publish(rt, alloc, states, &stage, &numbers, workers, gate)
 }
 
 /// A registry of the scene with all its states published, whose runs have these users. The states
 /// are made by `workers` threads: each takes the next number, asks the gate about it, and makes its
-/// state. Workers if their number is 0 or above WORKERS; otherwise it may be Memory (also if no
-/// thread can be started), or Channel if a number or a state is lost between threads.
+/// state. Workers if their number is 0 or above WORKERS; Memory if an allocation fails or a thread
+/// can't be started; Channel if a number or a state is lost between threads.
 pub fn publish_all<H: Held, R: Threads + Wait + Sync, G: Gate>(
     rt: &R,
     alloc: Global,

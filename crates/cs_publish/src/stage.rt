@@ -78,7 +78,8 @@ impl<N: Staged> Stage<N> {
         }
     }
 
-    /// Makes the state of a number about which the gate was asked.
+    /// Makes the state of a number about which the gate was asked. NoSuchState if the scene's plan
+    /// doesn't have the number; else Memory if an allocation fails.
     pub(crate) fn make<G: Gate>(
         &self,
         alloc: Global,

@@ -19,8 +19,8 @@ pub trait Held: Drop {
     /// The value is that of a new run of the key, over the tree, with the users.
     ghost is_fresh: { Key → Tree → List Row → Self → Type 0 };
 
-    /// What is kept of a new run of that key, over the tree of its state, which all runs of the
-    /// state share.
+    /// What is kept of a new run of that key. `lower` is the tree of the run's state; all runs over
+    /// the state share it.
     fn fresh(
         alloc: Global,
         key: &RunKey,

@@ -10,12 +10,12 @@ ghost use Rattle.cs_registry.specs.Naming.{are_few_digits, key_in, number_in};
 
 use arrayvec::ArrayString;
 use cs_names::limits::RUN_NAME_BYTES;
-use cs_names::{RunName, has_digits_alone};
+use cs_names::{RunName, is_all_digits};
 use cs_permit::TreeName;
 use std::hash::{Hash, Hasher};
 use std::marker::Model;
 
-/// A state's number has at most so many digits.
+/// A state's number has at most this many digits.
 const NUMBER_DIGITS: usize = 5;
 
 /// What names a run: the number of its state, and its own name. It needs no memory on the heap, so
@@ -36,7 +36,7 @@ impl Model for RunKey {
 }
 
 impl RunKey {
-    /// The key of the run of that name.
+    /// The key of the run of that name over the state of that number.
     pub fn new(number: u32, name: &RunName) -> RunKey
         ensures { result ≡ record { number = number; name = name.now } }
     {
@@ -46,7 +46,8 @@ impl RunKey {
         }
     }
 
-    /// The key of the run of that name; None if the bytes aren't a run's name.
+    /// The key of the run whose name these bytes are, over the state of that number. None if they
+    /// aren't a run's name.
     pub fn read(number: u32, name: &[u8]) -> Option<RunKey>
         ensures { MatchOption result (is_run_name name.now ≡ false)
             (λ key. (is_run_name name.now ≡ true)
@@ -75,8 +76,8 @@ impl RunKey {
         RunKey::read(number_in(name.state), name.run)
     }
 
-    /// A copy of the key.
-    pub fn again(&self) -> RunKey
+    /// A copy of the key, which takes no memory on the heap.
+    pub fn copy(&self) -> RunKey
         ensures { result ≡ self.now }
     {
         RunKey {
@@ -85,14 +86,14 @@ impl RunKey {
         }
     }
 
-    /// The number of its state.
+    /// The number of the state over which the run is.
     pub fn number(&self) -> u32
         ensures { result ≡ self.now.number }
     {
         self.number
     }
 
-    /// Its own name.
+    /// The run's own name.
     pub fn name(&self) -> &str
         ensures { result.now ≡ self.now.name }
     {
@@ -105,6 +106,7 @@ impl PartialEq for RunKey {
 
     ghost laws = { partial_equiv_from_equiv same_key-laws };
 
+    /// Whether both have the same number and the same name.
     fn eq(&self, other: &RunKey) -> bool {
         self.number == other.number && self.name.as_str() == other.name.as_str()
     }
@@ -119,13 +121,14 @@ impl Hash for RunKey {
 
     ghost respects_eq = { Prim.search (hashing, rules) };
 
+    /// Feeds the number and then the name.
     fn hash<H: Hasher>(&self, state: &mut H) {
         state.write_u32(self.number);
         self.name.hash(state);
     }
 }
 
-/// A run's name in a fixed array.
+/// A run's name, copied into a fixed array.
 fn short_name(name: &str) -> ArrayString<RUN_NAME_BYTES>
     requires { length name.now ≤ RUN_NAME_BYTES }
     ensures { result.bytes ≡ name.now }
@@ -136,14 +139,15 @@ fn short_name(name: &str) -> ArrayString<RUN_NAME_BYTES>
     }
 }
 
-/// Whether these are decimal digits, and no more than a state's number may have.
+/// Whether all bytes are decimal digits, and there are no more than a state's number may have. True
+/// of no bytes.
 fn are_few_digits(bytes: &[u8]) -> bool
     ensures { result ≡ are_few_digits bytes.now }
 {
-    bytes.len() <= NUMBER_DIGITS && has_digits_alone(bytes)
+    bytes.len() <= NUMBER_DIGITS && is_all_digits(bytes)
 }
 
-/// The number that these decimal digits mean, 0 without a digit.
+/// The number that these decimal digits mean; 0 if there are none.
 fn number_in(digits: &[u8]) -> u32
     requires { are_few_digits digits.now ≡ true }
     ensures { result ≡ number_in digits.now }

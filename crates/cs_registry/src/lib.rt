@@ -1,4 +1,5 @@
-//! The published states of a scene, and the runs over them.
+//! The published states of a scene, and the runs over them, for one thread. The lock that threads
+//! take is in cs_shared_runs; making the states is in cs_publish.
 #![tactic(auto)]
 
 mod fault;

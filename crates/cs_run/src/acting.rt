@@ -29,8 +29,8 @@ use cs_tree_model::{TreeRead, TreeStore};
 use cs_users::Users;
 use std::alloc::{AllocError, Global};
 
-/// Does a call that no rule denies. If memory runs out, the tree is as it was, and so are the opens
-/// but for the one that the call ends.
+/// Does a call that no rule denies. If memory runs out, the tree is as it was, and so are the
+/// opens, except that the open that the call ends is released.
 fn grant<T: TreeStore>(
     alloc: Global,
     call: &Call<'_>,
@@ -67,8 +67,8 @@ fn grant<T: TreeStore>(
     }
 }
 
-/// The number of the open that a call ends, even if it is denied: a close's, and that of a remove
-/// of an open fid.
+/// The number of the open that a call ends, even if the call is denied: that of a close, or of a
+/// remove by an open fid. None for any other call.
 pub fn closed_open_number(call: &Call<'_>) -> Option<u32>
     ensures { result ≡ closed_open_number call.now }
 {
@@ -86,7 +86,7 @@ pub fn closed_open_number(call: &Call<'_>) -> Option<u32>
     }
 }
 
-/// Whether there is a file of that number, and it is exclusive.
+/// Whether the file of that number is exclusive; false if there is no such file.
 fn is_exclusive_file<T: TreeRead>(tree: &T, number: u64) -> bool
     ensures { result ≡ on_file (T.tree tree.now) number is_exclusive }
 {
@@ -96,8 +96,9 @@ fn is_exclusive_file<T: TreeRead>(tree: &T, number: u64) -> bool
     }
 }
 
-/// Opens by which the rules decide this open as they would by all: none, unless the file is
-/// exclusive (O10).
+/// Some of the opens, from which the rules decide this open as they would from all of them. Only
+/// O10, for an exclusive file, asks whether the file is open already; for any other file these are
+/// none.
 fn opens_deciding_open<'a, T: TreeRead>(
     call: &OpenCall,
     tree: &T,
@@ -113,8 +114,8 @@ fn opens_deciding_open<'a, T: TreeRead>(
     }
 }
 
-/// Opens by which the rules decide this call as they would by all. Only an open's rules look at
-/// them.
+/// Some of the opens, from which the rules decide this call as they would from all of them. Only
+/// the rules of an open look at opens; for any other call these are none.
 fn opens_deciding<'a, T: TreeRead>(call: &Call<'_>, tree: &T, opens: &'a Opens) -> &'a [OpenFile]
     ensures { (users : List Row)
         → failing_rule (rules_view (T.tree tree.now) result.now users) call.now
@@ -126,7 +127,8 @@ fn opens_deciding<'a, T: TreeRead>(call: &Call<'_>, tree: &T, opens: &'a Opens) 
     }
 }
 
-/// Checks a call's rules, and does the call if none denies it and memory suffices.
+/// Checks a call's rules, and does the call if none denies it and memory suffices. Otherwise only
+/// the open that the call ends is released.
 // inline, a walk would pay at the entry of `act` for the stack of all other calls
 #[inline(never)]
 #[tactic(auto, unfolding(crate::specs::Outcomes::outcome))]
@@ -156,7 +158,7 @@ fn act_by_rules<T: TreeStore>(
 }
 
 /// Does a call if no rule denies it and memory suffices. Otherwise the tree is as it was, and so
-/// are the opens, but that of a close or of a remove is released all the same. A read returns at
+/// are the opens, except that a close or a remove releases its open even then. A read returns at
 /// most as many bytes as it asks for, and a walk at most as many qids as it has names.
 #[tactic(auto, unfolding(crate::specs::Outcomes::outcome))]
 pub fn act<T: TreeStore>(

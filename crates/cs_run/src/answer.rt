@@ -7,7 +7,8 @@ use cs_wire::{Qid, Stat};
 use std::marker::Model;
 
 /// How far a walk got. Contracts see the qids of the names that passed, the rule that stopped the
-/// next name, if any, and the number of the last file.
+/// next name, if any, and the number of the last file: the one from which the walk starts if no
+/// name passed.
 #[derive(Debug, Drop)]
 pub struct Walk {
     qids: Vec<Qid>,
@@ -32,7 +33,8 @@ impl Walk {
     ghost use Rattle.cs_permit.specs.Sizes.{IsQid};
     ghost use Rattle.std.specs.List.{AllByRecursion};
 
-    /// A walk over these qids that ended at file `last`, stopped by a rule or at its last name.
+    /// A walk whose passed names have these qids and which ended at the file `last`. `stopped` is
+    /// the rule that stopped its next name, or None if all names passed.
     pub(crate) fn new(qids: Vec<Qid>, stopped: Option<RuleId>, last: u64) -> Walk
         requires { AllByRecursion IsQid qids.items }
         ensures { result ≡ record { qids = qids.items; stopped = stopped; last = last } }
@@ -44,14 +46,14 @@ impl Walk {
         }
     }
 
-    /// The qids of the names that passed.
+    /// The qids of the names that passed, in order; empty if none did.
     pub fn qids(&self) -> &[Qid]
         ensures { result.now ≡ self.now.qids }
     {
         self.qids.as_slice()
     }
 
-    /// The qids of the names that passed, each small enough for a reply.
+    /// The same qids as `qids` lends, owned. Each is small enough for a reply.
     pub fn into_qids(self) -> Vec<Qid>
         ensures value { result.items ≡ self.qids }
         ensures fit { AllByRecursion IsQid result.items }
@@ -59,14 +61,14 @@ impl Walk {
         self.qids
     }
 
-    /// The rule that stopped the walk before its last name, if one did.
+    /// The rule that stopped the walk at the next name; None if all names passed.
     pub fn stopped(&self) -> Option<RuleId>
         ensures { result ≡ self.now.stopped }
     {
         self.stopped
     }
 
-    /// The rule that stopped the walk at its first name, if one did.
+    /// The rule that stopped the walk at its first name; None if that passed or there are no names.
     pub(crate) fn stopped_first(&self) -> Option<RuleId>
         ensures { result ≡ stopped_first self.now }
     {
@@ -85,8 +87,8 @@ impl Walk {
     }
 }
 
-/// What a read returns: bytes, and the place from which the fid's next read of a directory
-/// continues (None if that hasn't moved).
+/// What a read returns: bytes, and the place in a directory from which the fid's next read
+/// continues (None if the place hasn't moved).
 #[derive(Debug, Drop)]
 pub struct Data {
     bytes: Vec<u8>,
@@ -102,21 +104,23 @@ impl Model for Data {
 }
 
 impl Data {
-    /// A read of these bytes; `place` is None of a file, and if no entry was read.
+    /// What a read of these bytes returns. `place` is None for a file that is no directory, and if
+    /// no entry was read.
     pub(crate) fn new(bytes: Vec<u8>, place: Option<Place>) -> Data
         ensures { result ≡ record { bytes = bytes.items; place = place } }
     {
         Data { bytes, place }
     }
 
-    /// The bytes that the read returns.
+    /// The bytes that the read returns; empty if there was nothing to read.
     pub fn bytes(&self) -> &[u8]
         ensures { result.now ≡ self.now.bytes }
     {
         self.bytes.as_slice()
     }
 
-    /// The bytes, and the place of the fid's next read if it moved.
+    /// The bytes that the read returns, and the place of the fid's next read; None if that hasn't
+    /// moved.
     pub fn into_parts(self) -> (Vec<u8>, Option<Place>)
         ensures bytes { result.0.items ≡ self.bytes }
         ensures place { result.1 ≡ self.place }
@@ -147,7 +151,7 @@ impl FileStat {
     ghost use Rattle.cs_permit.specs.Sizes.{IsStat};
     ghost use Rattle.cs_wire.specs.Messages.{stat_of};
 
-    /// This stat, which fits into a reply.
+    /// Wraps a stat of which the caller knows that it fits into a reply.
     pub(crate) fn new(stat: Stat) -> FileStat
         requires { IsStat 600 (stat_of stat) }
         ensures { result ≡ stat_of stat }
@@ -155,7 +159,7 @@ impl FileStat {
         FileStat { stat }
     }
 
-    /// The stat, which fits into a reply.
+    /// The stat, to be moved into a reply, into which it fits.
     pub fn into_stat(self) -> Stat
         ensures value { stat_of result ≡ self }
         ensures fits { IsStat 600 (stat_of result) }

@@ -1,4 +1,5 @@
-//! Opens kept in blocks, so that removing one moves few others.
+//! Opens kept in blocks, so that removing one moves few others. `Opens` is the list that the other
+//! files use.
 ghost use Rattle.std.specs.Prelude.{◌≡◌, ◌≢◌, ◌<◌, ◌≤◌, ◌+◌, ◌∷◌, ◌++◌, [], ℕ, length, IfSome};
 ghost use Rattle.std.specs.Prelude.{IsNone, OnOk, Some, false, true, option_map, slice_get};
 ghost use Rattle.std.specs.Prelude.{slice_index_or};
@@ -15,14 +16,14 @@ use std::alloc::AllocError;
 /// How many opens a block holds at most.
 const BLOCK: usize = 128;
 
-/// The place of an open: its block, and its index there.
+/// The place of an open: the index of its block, and its index within that block.
 #[derive(Clone, Copy)]
 pub(crate) struct OpenPlace {
-    pub(crate) block: usize,
+    pub(crate) block_index: usize,
     pub(crate) at: usize,
 }
 
-/// Whether the number of the block's last open is below this one; false of an empty block.
+/// Whether the block's last open has a number below `number`; false if the block is empty.
 fn ends_below(block: &Vec<OpenFile>, number: u32) -> bool
     ensures { result ≡ ends_below number block.now }
 {
@@ -32,7 +33,7 @@ fn ends_below(block: &Vec<OpenFile>, number: u32) -> bool
     }
 }
 
-/// The index of the open of that number among these.
+/// The index of the open of that number among these; None if none of them has it.
 fn index_of(opens: &[OpenFile], number: u32) -> Option<usize>
     requires { IsAscending opens.now }
     ensures bound { IfSome result (λ at. at < length opens.now) }
@@ -46,7 +47,8 @@ fn index_of(opens: &[OpenFile], number: u32) -> Option<usize>
     }
 }
 
-/// How many blocks end below the number. Only the block after them can hold it.
+/// How many blocks, all at the front, end below the number. Only the block after them can have an
+/// open of that number.
 fn blocks_below(blocks: &[Vec<OpenFile>], number: u32) -> usize
     requires ascending { IsAscending (all_opens blocks.now) }
     requires filled { AreFilled blocks.now }
@@ -59,31 +61,31 @@ fn blocks_below(blocks: &[Vec<OpenFile>], number: u32) -> usize
     blocks.partition_point(|block| ends_below(block, number))
 }
 
-/// The place of the open of that number and pass, if there is one.
+/// The place of the open of that number and pass; None if no open has both.
 pub(crate) fn place_of(blocks: &[Vec<OpenFile>], number: u32, pass: u32) -> Option<OpenPlace>
     requires ascending { IsAscending (all_opens blocks.now) }
     requires filled { AreFilled blocks.now }
     ensures value { position (is_open number pass) (all_opens blocks.now)
-        ≡ option_map (λ place. count_before blocks.now place.block + place.at) result }
-    ensures has_open { IfSome result (λ place. HasOpen blocks.now place.block place.at) }
+        ≡ option_map (λ place. count_before blocks.now place.block_index + place.at) result }
+    ensures has_open { IfSome result (λ place. HasOpen blocks.now place.block_index place.at) }
 {
-    let block = blocks_below(blocks, number);
-    if block == blocks.len() {
+    let block_index = blocks_below(blocks, number);
+    if block_index == blocks.len() {
         return None;
     }
-    let opens = blocks[block].as_slice();
+    let opens = blocks[block_index].as_slice();
     let Some(at) = index_of(opens, number) else {
         return None;
     };
     if opens[at].pass == pass {
-        Some(OpenPlace { block, at })
+        Some(OpenPlace { block_index, at })
     } else {
         None
     }
 }
 
-/// Adds an empty block if the last is full or there is none.
-fn begin_block(blocks: &mut Vec<Vec<OpenFile>>) -> Result<(), AllocError>
+/// Adds an empty block if the last is full or there is none. An error adds none.
+fn add_block_if_full(blocks: &mut Vec<Vec<OpenFile>>) -> Result<(), AllocError>
     requires { AreFilled blocks.old.items }
     ensures opens { all_opens blocks.new.items ≡ all_opens blocks.old.items }
     ensures filled { AreFilled blocks.new.items }
@@ -102,19 +104,20 @@ fn begin_block(blocks: &mut Vec<Vec<OpenFile>>) -> Result<(), AllocError>
     Ok(())
 }
 
-/// Makes room for one more open in the last block.
+/// Makes room for one more open in the last block, which may be a new one. An error leaves the
+/// opens as they are.
 pub(crate) fn widen_last(blocks: &mut Vec<Vec<OpenFile>>) -> Result<(), AllocError>
     requires { AreFilled blocks.old.items }
     ensures opens { all_opens blocks.new.items ≡ all_opens blocks.old.items }
     ensures filled { AreFilled blocks.new.items }
     ensures room { OnOk result (0 < last_room blocks.new.items) }
 {
-    begin_block(blocks)?;
+    add_block_if_full(blocks)?;
     let last = blocks.len() - 1;
     blocks[last].reserve(1)
 }
 
-/// Adds an open to the last block, which has room.
+/// Adds an open at the end of the last block, which has room for it.
 pub(crate) fn push_last(blocks: &mut Vec<Vec<OpenFile>>, opened: OpenFile)
     requires room { 0 < last_room blocks.old.items }
     requires filled { AreFilled blocks.old.items }
@@ -125,17 +128,17 @@ pub(crate) fn push_last(blocks: &mut Vec<Vec<OpenFile>>, opened: OpenFile)
     blocks[last].push_reserved(opened);
 }
 
-/// The open at that place.
+/// The open at a place that has one.
 pub(crate) fn open_at(blocks: &[Vec<OpenFile>], place: OpenPlace) -> OpenFile
-    requires { HasOpen blocks.now place.block place.at }
+    requires { HasOpen blocks.now place.block_index place.at }
     ensures { Some result ≡ slice_get (all_opens blocks.now)
-        (count_before blocks.now place.block + place.at) }
+        (count_before blocks.now place.block_index + place.at) }
 {
-    let opens = blocks[place.block].as_slice();
+    let opens = blocks[place.block_index].as_slice();
     opens[place.at]
 }
 
-/// The opens of the first block that has one on that file; no open if none is on it.
+/// The opens of the first block that has an open on that file; empty if no block has one.
 pub(crate) fn block_on_file(blocks: &[Vec<OpenFile>], file: u64) -> &[OpenFile]
     ensures { is_on result.now file ≡ is_on (all_opens blocks.now) file }
 {
@@ -147,36 +150,37 @@ pub(crate) fn block_on_file(blocks: &[Vec<OpenFile>], file: u64) -> &[OpenFile]
     &[]
 }
 
-/// Whether one of the opens is on that file.
+/// Whether one of the opens is on that file; false if there are no opens.
 fn is_on(opens: &[OpenFile], file: u64) -> bool
     ensures { result ≡ is_on opens.now file }
 {
     opens.iter().any(|open| open.file == file)
 }
 
-/// Removes the open at that place and returns it, without allocating.
-pub(crate) fn take_out(blocks: &mut Vec<Vec<OpenFile>>, place: OpenPlace) -> OpenFile
-    requires has_open { HasOpen blocks.old.items place.block place.at }
+/// Removes the open at a place that has one, and returns it. It allocates nothing. A block that is
+/// then empty is dropped, unless it is the last.
+pub(crate) fn remove_open(blocks: &mut Vec<Vec<OpenFile>>, place: OpenPlace) -> OpenFile
+    requires has_open { HasOpen blocks.old.items place.block_index place.at }
     requires filled { AreFilled blocks.old.items }
     ensures value { Some result ≡ slice_get (all_opens blocks.old.items)
-        (count_before blocks.old.items place.block + place.at) }
+        (count_before blocks.old.items place.block_index + place.at) }
     ensures opens { all_opens blocks.new.items ≡ remove (all_opens blocks.old.items)
-        (count_before blocks.old.items place.block + place.at) }
+        (count_before blocks.old.items place.block_index + place.at) }
     ensures filled { AreFilled blocks.new.items }
 {
-    let open = blocks[place.block].remove(place.at);
-    drop_empty(blocks, place.block);
+    let open = blocks[place.block_index].remove(place.at);
+    drop_if_empty(blocks, place.block_index);
     open
 }
 
-/// Drops this block if it is empty and not the last.
-fn drop_empty(blocks: &mut Vec<Vec<OpenFile>>, block: usize)
-    requires bound { block < length blocks.old.items }
-    requires filled { FilledBut block blocks.old.items }
+/// Drops the block at that index if it is empty and not the last.
+fn drop_if_empty(blocks: &mut Vec<Vec<OpenFile>>, block_index: usize)
+    requires bound { block_index < length blocks.old.items }
+    requires filled { FilledBut block_index blocks.old.items }
     ensures opens { all_opens blocks.new.items ≡ all_opens blocks.old.items }
     ensures filled { AreFilled blocks.new.items }
 {
-    if block + 1 < blocks.len() && blocks[block].is_empty() {
-        let _empty = blocks.remove(block);
+    if block_index + 1 < blocks.len() && blocks[block_index].is_empty() {
+        let _empty = blocks.remove(block_index);
     }
 }

@@ -14,7 +14,7 @@ use cs_permit::{CloseCall, OpenFile};
 use cs_tree_model::{TreeRead, TreeStore};
 use std::alloc::{AllocError, Global};
 
-/// Whether there is a file of that number that isn't a directory.
+/// Whether the number is that of a file that isn't a directory; false if there is no such file.
 fn has_bytes<T: TreeRead>(tree: &T, number: u64) -> bool
     ensures value { result ≡ is_some (content_numbered (T.tree tree.now) number) }
     ensures is_tree { IsTree (T.tree tree.now) }
@@ -25,8 +25,8 @@ fn has_bytes<T: TreeRead>(tree: &T, number: u64) -> bool
     }
 }
 
-/// Whether the close of this open removes its file: the open's mode says so, and the file is still
-/// there.
+/// Whether the close of this open removes its file: the open's mode says so, and the file still
+/// exists and isn't a directory.
 fn removes<T: TreeRead>(tree: &T, opened: OpenFile) -> bool
     ensures value { result ≡ removes (T.tree tree.now) (Some opened) }
     ensures is_tree { IsTree (T.tree tree.now) }
@@ -34,8 +34,8 @@ fn removes<T: TreeRead>(tree: &T, opened: OpenFile) -> bool
     has_bytes(tree, opened.file) && removes_on_close(opened.mode)
 }
 
-/// Removes the file of a released open if its mode says so. If memory runs out, the tree is as it
-/// was.
+/// Removes the file of `closed`, the open that the close released, if the open's mode says so. With
+/// None, nothing is removed. If memory runs out, the tree is as it was.
 fn remove_closed<T: TreeStore>(
     alloc: Global,
     call: &CloseCall,
@@ -59,8 +59,8 @@ fn remove_closed<T: TreeStore>(
     tree.remove(alloc, opened.file, stamp)
 }
 
-/// Ends an open, and removes its file if the open's mode says so. The open is released even if
-/// memory runs out.
+/// Ends an open, and removes its file if the open's mode says so. If memory runs out, the open is
+/// released, but the tree is as it was.
 #[tactic(auto, unfolding(crate::specs::Effects::close_effect))]
 pub fn act_close<T: TreeStore>(
     alloc: Global,

@@ -29,7 +29,7 @@ fn version_of<T: TreeRead>(tree: &T, number: u64) -> u32
     }
 }
 
-/// The greatest version among the tree's files.
+/// The greatest version among the tree's files. It looks at every file number up to the last.
 pub fn greatest_version<T: TreeRead>(tree: &T) -> u32
     ensures { IsGreatestVersion (T.tree tree.now) result }
 {
@@ -66,15 +66,16 @@ impl<T: TreeStore + Drop> CountedRun<T> {
         &self.tree
     }
 
-    /// Whether one more call could make a version or the next file number overflow.
+    /// Whether one more call could make a version or the next file number overflow. `step` may not
+    /// be called then.
     pub fn is_full(&self) -> bool
         ensures { result ≡ is_full (run_of self.now) }
     {
         self.count == u32::MAX || self.tree.last_number() == u64::MAX
     }
 
-    /// Does a call at that moment (in seconds) under a pass. Its place is the run's count, which
-    /// goes up by one even if the call is denied or short of memory.
+    /// Does a call at that moment (in seconds) under a pass, as `act` does. The call's place is the
+    /// run's count, which goes up by one even if the call is denied or memory runs out.
     pub fn step(
         &mut self,
         alloc: Global,

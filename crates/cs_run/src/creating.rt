@@ -25,7 +25,8 @@ fn mode_at<T: TreeRead>(tree: &T, number: u64) -> u32
     }
 }
 
-/// The mode of a new file: the wanted permissions, masked by those of its directory (open(5)).
+/// The mode of a new file: `perm` as the create asks for it, masked by `directory`, the mode of its
+/// directory (open(5)).
 fn created_mode(perm: u32, directory: u32) -> u32
     ensures { result ≡ created_mode perm directory }
 {
@@ -36,7 +37,7 @@ fn created_mode(perm: u32, directory: u32) -> u32
     }
 }
 
-/// The new file that a create asks for, with the mode that its directory leaves it.
+/// The new file that a create asks for, with its mode masked by that of its directory.
 fn new_file<T: TreeRead>(tree: &T, call: &CreateCall) -> New
     ensures { result ≡ new_file (T.tree tree.now) call.now }
 {

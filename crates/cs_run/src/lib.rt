@@ -1,4 +1,5 @@
-//! What each call does to a run's tree and its opens, and its answer.
+//! What each call does to a run's tree and its opens, and its answer. The rules that deny calls are
+//! in cs_permit, the journal of a run in cs_journal.
 #![tactic(auto)]
 
 mod acting;

@@ -18,7 +18,8 @@ use cs_permit::{OpenCall, OpenFile, qid_at};
 use cs_tree_model::{Change, TreeRead, TreeStore};
 use std::alloc::{AllocError, Global};
 
-/// Whether the open empties its file: its mode says so, and the file isn't append-only.
+/// Whether the open empties its file: its mode says so, and the file isn't append-only. A file that
+/// isn't there counts as not append-only.
 fn truncates_file<T: TreeRead>(tree: &T, call: &OpenCall) -> bool
     ensures { result ≡ truncates_file (T.tree tree.now) call.now }
 {
@@ -31,7 +32,7 @@ fn truncates_file<T: TreeRead>(tree: &T, call: &OpenCall) -> bool
     }
 }
 
-/// The change that empties a file and nothing else.
+/// The change that makes a file's length 0 and changes no other field.
 fn change_to_no_bytes() -> Change
     ensures { result ≡ change_to_no_bytes }
 {
@@ -44,7 +45,7 @@ fn change_to_no_bytes() -> Change
     }
 }
 
-/// Empties the file if the open's mode asks for it. If memory runs out, the tree is as it was.
+/// Empties the file if its open does (`truncates_file`). If memory runs out, the tree is as it was.
 fn empty_opened<T: TreeStore>(
     alloc: Global,
     call: &OpenCall,

@@ -1,9 +1,9 @@
-//! The opens of a run.
+//! The opens of a run, as one list. Their blocks are in `blocks`.
 ghost use Rattle.std.specs.Prelude.{◌≡◌, ◌<◌, [], ◌∷◌, ◌++◌, length, OnOk};
 ghost use Rattle.cs_permit.specs.Opens.{is_open};
 ghost use Rattle.cs_run.specs.Opens.{AreBelow, open_numbered, opens_without, opens_without_if};
 
-use crate::blocks::{block_on_file, open_at, place_of, push_last, take_out, widen_last};
+use crate::blocks::{block_on_file, open_at, place_of, push_last, remove_open, widen_last};
 use cs_permit::OpenFile;
 use std::alloc::{AllocError, Global};
 use std::marker::Model;
@@ -49,14 +49,14 @@ impl Opens {
         self.count
     }
 
-    /// Some of the opens: one of them is on that file exactly if one of all is.
+    /// Some of the opens: one of these is on that file exactly if any open is.
     pub(crate) fn block_on_file(&self, file: u64) -> &[OpenFile]
         ensures { is_open result.now file ≡ is_open self.now.items file }
     {
         block_on_file(self.blocks.as_slice(), file)
     }
 
-    /// The open of that number and pass, if there is one.
+    /// The open of that number and pass; None if no open has both.
     pub fn get(&self, number: u32, pass: u32) -> Option<OpenFile>
         ensures { result ≡ open_numbered number pass self.now.items }
     {
@@ -64,7 +64,7 @@ impl Opens {
         Some(open_at(self.blocks.as_slice(), place))
     }
 
-    /// Makes room for one more open.
+    /// Makes room for one more open. An error leaves the opens as they are.
     pub fn reserve(&mut self) -> Result<(), AllocError>
         ensures opens { self.new.items ≡ self.old.items }
         ensures room { OnOk result (0 < self.new.room) }
@@ -82,17 +82,18 @@ impl Opens {
         self.count += 1;
     }
 
-    /// Removes the open of that number and pass and returns it, or None if there is none.
+    /// Removes the open of that number and pass, and returns it. None if no open has both; then all
+    /// opens stay.
     pub fn release(&mut self, number: u32, pass: u32) -> Option<OpenFile>
         ensures value { result ≡ open_numbered number pass self.old.items }
         ensures opens { self.new.items ≡ opens_without number pass self.old.items }
     {
         let place = place_of(self.blocks.as_slice(), number, pass)?;
         self.count -= 1;
-        Some(take_out(&mut self.blocks, place))
+        Some(remove_open(&mut self.blocks, place))
     }
 
-    /// Removes the open of that number and pass, if there is a number and such an open.
+    /// Removes the open of that number and pass, if `number` is Some and there is such an open.
     pub(crate) fn release_if(&mut self, number: Option<u32>, pass: u32)
         ensures { self.new.items ≡ opens_without_if number pass self.old.items }
     {

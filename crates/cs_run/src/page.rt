@@ -23,7 +23,7 @@ pub struct Page<'a> {
     pub last: Option<&'a Name>,
 }
 
-/// The stat of an entry of the directory.
+/// The stat of the file that an entry of the directory names.
 // the entry's file is found by its number: only the contract needs the directory
 fn stat_of_entry<'a, T: TreeRead>(
     tree: &'a T,
@@ -42,7 +42,8 @@ fn stat_of_entry<'a, T: TreeRead>(
 }
 
 /// As many whole entries of a directory as fit into `room` bytes, from the first after the name
-/// `start` on. It can run out of memory only if an entry fits.
+/// `start` on, or from the directory's first if that is None. Perhaps none. It can run out of
+/// memory only if an entry fits.
 pub(crate) fn read_page<'a, T: TreeRead>(
     alloc: Global,
     tree: &'a T,

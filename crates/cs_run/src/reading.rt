@@ -15,14 +15,15 @@ use cs_permit::{ReadCall, name_before};
 use cs_tree_model::TreeRead;
 use std::alloc::{AllocError, Global};
 
-/// The offset after a read of so many bytes, at most the greatest offset.
+/// The offset after a read of `count` bytes from the offset `start`; the greatest offset if the sum
+/// would overflow.
 fn end_after(start: u64, count: usize) -> u64
     ensures { result ≡ end_after start count }
 {
     start.saturating_add(count as u64)
 }
 
-/// A copy of the name, if there is one.
+/// A copy of the name; None if there is no name.
 fn try_clone_name(name: Option<&Name>) -> Result<Option<Name>, AllocError>
     ensures { IfOk result (λ copy. copy ≡ option_copied name.entry) }
 {
@@ -32,8 +33,8 @@ fn try_clone_name(name: Option<&Name>) -> Result<Option<Name>, AllocError>
     }
 }
 
-/// The place from which the next read of the directory continues, or None if this read has no
-/// entry.
+/// The place from which the next read of the directory continues, after this page; None if the page
+/// has no entry.
 fn place_after(call: &ReadCall, page: &Page) -> Result<Option<Place>, AllocError>
     ensures value { IfOk result (λ place. place ≡ place_after call.now (page_of page.now)) }
     ensures memory { OnErr result (has_some (page_of page.now).bytes ≡ true) }
@@ -47,7 +48,8 @@ fn place_after(call: &ReadCall, page: &Page) -> Result<Option<Place>, AllocError
     }))
 }
 
-/// Reads as many whole entries of a directory as fit, from the call's place on.
+/// Reads as many whole entries of a directory as fit into the bytes that the call asks for, from
+/// the call's place on. It can run out of memory only if an entry fits.
 fn read_entries<T: TreeRead>(alloc: Global, call: &ReadCall, tree: &T) -> Result<Data, AllocError>
     requires { IsTree (T.tree tree.now) }
     ensures value { IfOk result (λ read. read ≡ entries_given (T.tree tree.now) call.now) }
@@ -60,7 +62,7 @@ fn read_entries<T: TreeRead>(alloc: Global, call: &ReadCall, tree: &T) -> Result
     Ok(Data::new(page.bytes, place))
 }
 
-/// Whether the number is a directory's; false if there is no such file.
+/// Whether the number is that of a directory; false if there is no such file.
 fn is_of_directory<T: TreeRead>(tree: &T, number: u64) -> bool
     ensures value { result ≡ on_file (T.tree tree.now) number is_directory }
     ensures is_tree { IsTree (T.tree tree.now) }
@@ -71,9 +73,9 @@ fn is_of_directory<T: TreeRead>(tree: &T, number: u64) -> bool
     }
 }
 
-/// Reads bytes of a file, or whole entries of a directory; none of a file that isn't there. It can
-/// run out of memory only if the read has a byte. A file is looked up once: a tree has no bytes of
-/// a directory.
+/// Reads bytes of a file, or whole entries of a directory. If the file is gone, it returns no
+/// bytes. It can run out of memory only if the read returns a byte.
+// the bytes are asked for first, since a file is then looked up only once
 pub fn read<T: TreeRead>(alloc: Global, call: &ReadCall, tree: &T) -> Result<Data, AllocError>
     ensures value { IfOk result (λ read. read ≡ data_read (T.tree tree.now) call.now) }
     ensures memory { OnErr result (has_some (data_read (T.tree tree.now) call.now).bytes ≡ true) }

@@ -34,8 +34,8 @@ fn remove_file<T: TreeStore>(
     tree.remove(alloc, call.number, stamp)
 }
 
-/// Removes a file. The fid's open, if it has one, is released even if memory runs out; the file is
-/// then still there.
+/// Removes a file, and releases the fid's open, if it has one. If memory runs out, the open is
+/// released, but the tree is as it was.
 #[tactic(auto, unfolding(crate::specs::Effects::remove_effect))]
 pub fn act_remove<T: TreeStore>(
     alloc: Global,

@@ -19,5 +19,5 @@ pub(crate) fn act_stat<T: TreeRead>(
     let Some(stat) = stat_ref(tree, call.number) else {
         return Ok(Answer::Denied(RuleId::H2));
     };
-    Ok(Answer::Stat(FileStat::new(stat.copied(alloc)?)))
+    Ok(Answer::Stat(FileStat::new(stat.to_stat(alloc)?)))
 }

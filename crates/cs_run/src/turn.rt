@@ -6,7 +6,7 @@ use cs_names::UserName;
 use cs_tree_model::Stamp;
 use std::alloc::AllocError;
 
-/// When and as which a run does a call.
+/// When a run does a call, as which of its calls, and under which pass.
 #[derive(Clone, Copy, Debug, PartialEq, Eq)]
 pub struct Turn {
     /// The moment, in seconds.

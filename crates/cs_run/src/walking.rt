@@ -16,13 +16,14 @@ ghost use Rattle.cs_tree_model.specs.Record.{metadata_of_ref};
 
 use crate::answer::{Answer, Outcome, Walk};
 use cs_names::{RuleId, UserName};
-use cs_permit::{WalkCall, element_of, first_of_walk, qid_known};
+use cs_permit::{WalkCall, first_of_walk, qid_known, walk_element};
 use cs_tree_model::{Metadata, TreeRead};
 use cs_users::Users;
 use cs_wire::Qid;
 use std::alloc::{AllocError, Global};
 
-/// The walk of these names from the file `start`, of which `start_file` is the record.
+/// Walks these names from the file of number `start`, as far as the rules allow. `start_file` is
+/// that file's record, None if it is gone.
 // a record is large: not inline, it would be passed in memory
 #[inline(always)]
 fn walk_names<'a, T: TreeRead>(
@@ -43,7 +44,7 @@ fn walk_names<'a, T: TreeRead>(
     let mut last = start;
     let mut file = start_file;
     for name in names {
-        match element_of(tree, users, user, last, file, name.as_str()) {
+        match walk_element(tree, users, user, last, file, name.as_str()) {
             Ok(next) => {
                 file = tree.record(next);
                 qids.push_reserved(qid_known(file));
@@ -55,7 +56,8 @@ fn walk_names<'a, T: TreeRead>(
     Ok(Walk::new(qids, None, last))
 }
 
-/// The walk that a call asks for, from its file, of which `start_file` is the record.
+/// The walk that a call asks for, as far as the rules allow. `start_file` is the record of the file
+/// from which it starts, None if that is gone.
 // a record is large, as above
 #[inline(always)]
 fn walk_from<'a, T: TreeRead>(
@@ -80,8 +82,9 @@ fn walk_from<'a, T: TreeRead>(
     )
 }
 
-/// Walks as far as the rules allow. Only the qids are allocated, once for all names; each name
-/// costs one look-up of a name and one of a record.
+/// The walk that a call asks for, as far as the rules allow; a rule that stops it is in the result.
+/// Only the qids are allocated, once for all names. Each name costs one look-up of a name and one
+/// of a record.
 // `act` calls `act_walk` instead, so this must not make `grant` larger
 #[inline(never)]
 pub fn walk<T: TreeRead>(
@@ -96,8 +99,8 @@ pub fn walk<T: TreeRead>(
     walk_from(alloc, call, tree, users, tree.record(call.number))
 }
 
-/// The walk that a call asks for. Otherwise the first rule that denies it, or None if no rule does
-/// and memory ran out.
+/// The walk that a call asks for, if its rules allow it. The error is the first rule that denies
+/// it, or None if no rule does and memory ran out.
 fn walk_allowed<T: TreeRead>(
     alloc: Global,
     call: &WalkCall,

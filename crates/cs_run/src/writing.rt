@@ -27,7 +27,7 @@ fn start_of_write<T: TreeRead>(tree: &T, call: &WriteCall<'_>) -> Option<u64>
     }
 }
 
-/// Writes the bytes, if there are any. If memory runs out, the tree is as it was.
+/// Writes the call's bytes, if it has any. If memory runs out, the tree is as it was.
 fn write_bytes<T: TreeStore>(
     alloc: Global,
     call: &WriteCall<'_>,
@@ -47,7 +47,8 @@ fn write_bytes<T: TreeStore>(
     tree.write_at(alloc, call.number, start, call.bytes.as_slice(), stamp)
 }
 
-/// Writes all bytes of the call, or none if memory runs out. The answer is their count.
+/// Writes all bytes of the call; the answer is their count. If memory runs out, the tree is as it
+/// was.
 #[tactic(auto, unfolding(crate::specs::Effects::write_effect))]
 pub fn act_write<T: TreeStore>(
     alloc: Global,

@@ -18,7 +18,8 @@ use cs_permit::{WstatCall, new_group, new_length, new_mode, new_mtime, new_name}
 use cs_tree_model::{Change, Metadata, TreeRead, TreeStore};
 use std::alloc::{AllocError, Global};
 
-/// The new name, if the wstat has one. It is legal, so only memory can run out.
+/// The new name, owned; None if the wstat changes no name. A granted wstat's name is legal, so a
+/// fault means that memory ran out.
 fn name_asked<T: TreeRead>(
     alloc: Global,
     tree: &T,
@@ -36,7 +37,8 @@ fn name_asked<T: TreeRead>(
     }
 }
 
-/// The new group, if the wstat has one. It is known, so only memory can run out.
+/// The new group, owned; None if the wstat changes no group. A granted wstat's group is a known
+/// user's name, so a fault means that memory ran out.
 fn group_asked(
     alloc: Global,
     call: &WstatCall,
@@ -54,7 +56,8 @@ fn group_asked(
     }
 }
 
-/// The fields of this file that a wstat changes, each with its new value.
+/// The fields of this file that a wstat changes, each with its new value; None for each field that
+/// stays.
 fn change_of<T: TreeRead>(
     alloc: Global,
     tree: &T,
@@ -93,7 +96,7 @@ fn change_asked<T: TreeRead>(
     }
 }
 
-/// Whether the change has a field.
+/// Whether the change has at least one field.
 fn changes_some(change: &Change) -> bool
     ensures { result ≡ changes_some change.now }
 {
@@ -104,8 +107,8 @@ fn changes_some(change: &Change) -> bool
         || change.mtime.is_some()
 }
 
-/// Makes the change that the wstat asks for, if it has a field. If memory runs out, the tree is as
-/// it was.
+/// Makes the change that the wstat asks for, if that has a field. If memory runs out, the tree is
+/// as it was.
 fn change_by<T: TreeStore>(
     alloc: Global,
     call: &WstatCall,
@@ -129,7 +132,8 @@ fn change_by<T: TreeStore>(
     tree.change(alloc, call.number, change, stamp)
 }
 
-/// Changes all fields of a file that the wstat names, or none if memory runs out.
+/// Changes all fields of a file for which the wstat has a new value. If memory runs out, the tree
+/// is as it was.
 #[tactic(auto, unfolding(crate::specs::Effects::wstat_effect))]
 pub fn act_wstat<T: TreeStore>(
     alloc: Global,

@@ -53,7 +53,7 @@ pub fn blocks_of(alloc: Global, size: BlockSize, ops: &[MicroOp]) -> Result<Vec<
     Ok(blocks)
 }
 
-/// Appends a file without a byte, whose rights have this digest.
+/// Appends a file of length 0, without changes, whose rights have this digest.
 fn push_file(alloc: Global, files: &mut Vec<File>, rights: u64) -> Result<(), AllocError> {
     files.push(File {
         rights,
@@ -63,8 +63,8 @@ fn push_file(alloc: Global, files: &mut Vec<File>, rights: u64) -> Result<(), Al
     Ok(())
 }
 
-/// Appends the file that the micro-operation makes, or adds what it does to that of its file.
-/// Anything else changes nothing, as does a write into a block that is not read.
+/// Appends the file that the micro-operation makes, or adds its change to the file that it changes.
+/// Any other micro-operation adds nothing, nor does a write into a block that isn't read.
 fn push_change(
     alloc: Global,
     files: &mut Vec<File>,
@@ -105,7 +105,7 @@ fn length_of(content: &Content) -> u64 {
     }
 }
 
-/// The files at the start, by their numbers, without changes.
+/// The files at the start, by their numbers, with no changes yet.
 fn start_files(alloc: Global, trace: &Trace) -> Result<Vec<File>, AllocError> {
     let mut files = Vec::new(alloc);
     for _ in trace.files() {
@@ -122,8 +122,8 @@ fn start_files(alloc: Global, trace: &Trace) -> Result<Vec<File>, AllocError> {
     Ok(files)
 }
 
-/// All files, by their numbers, each with what changes it. `blocks` are those that are read,
-/// ascending.
+/// All files, by their numbers, each with the changes that micro-operations make to it. `blocks`
+/// has the numbers of the blocks that are read, in ascending order.
 pub fn files_of(
     alloc: Global,
     trace: &Trace,

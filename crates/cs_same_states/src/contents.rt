@@ -3,9 +3,9 @@
 //! never an answer, so nothing here has a contract: a file or a place out of range, or a file that
 //! isn't there, has the digest 0.
 use crate::changes::{Change, File, blocks_of, files_of};
-use crate::mixing::{digest_of, mix};
+use crate::mixing::{digest_of_bytes, mix};
 use cs_names::Path;
-use cs_plan::Scene;
+use cs_plan::{MakeFault, Scene};
 use cs_trace::BlockSize;
 use cs_tree_model::{TreeRead, number_of_path};
 use std::alloc::{AllocError, Global};
@@ -63,18 +63,19 @@ pub struct Contents {
     digests: BTreeMap<BlockVersion, u64>,
 }
 
-/// The file as the members leave it; `blocks` is how many blocks are read.
+/// The file after those of its changes that the members make. `block_count` is how many blocks are
+/// read.
 fn file_left(
     alloc: Global,
     file: &File,
     members: &[bool],
-    blocks: usize,
+    block_count: usize,
 ) -> Result<FileLeft, AllocError> {
     let mut left = FileLeft {
         rights: file.rights,
         length: file.length,
         cuts: Vec::new(alloc),
-        writes: vec![in alloc; None; blocks]?,
+        writes: vec![in alloc; None; block_count]?,
     };
     for (place, change) in &file.changes {
         if members.get(*place as usize).copied().unwrap_or(false) {
@@ -90,7 +91,8 @@ fn is_below(cut: &Cut, end: u64) -> bool {
 }
 
 impl FileLeft {
-    /// Applies what the micro-operation at this place does.
+    /// Applies a change that the micro-operation at this place makes. After an error the file must
+    /// not be used.
     fn apply(&mut self, place: u32, change: Change) -> Result<(), AllocError> {
         match change {
             Change::Rights(rights) => self.rights = rights,
@@ -109,7 +111,8 @@ impl FileLeft {
         Ok(())
     }
 
-    /// The place of the last micro-operation that leaves the file shorter than `end`, if one does.
+    /// The place of the last micro-operation that leaves the file shorter than `end`; None if none
+    /// does.
     fn cut_below(&self, end: u64) -> Option<u32> {
         let count = self.cuts.partition_point(|cut| is_below(cut, end));
         let last = count.checked_sub(1)?;
@@ -118,16 +121,18 @@ impl FileLeft {
     }
 }
 
-/// The digest of a block of a file, read from the state, which is made for this. 0 if the state has
-/// no file at the path.
-fn read_block(
+/// The digest of the block of that number of a file. The state is made to read it. 0 if there is no
+/// such state, or it has no file at the path.
+fn read_block_digest(
     alloc: Global,
     size: BlockSize,
     state_file: FileOfState<'_>,
     block: u64,
 ) -> Result<u64, AllocError> {
-    let Ok(made) = Scene::make(alloc, state_file.scene, state_file.number) else {
-        return Err(AllocError);
+    let made = match Scene::make(alloc, state_file.scene, state_file.number) {
+        Ok(made) => made,
+        Err(MakeFault::Memory) => return Err(AllocError),
+        Err(MakeFault::NoSuchState) => return Ok(0),
     };
     let store = made.store();
     let Some(number) = number_of_path(store, state_file.path.names()) else {
@@ -135,7 +140,7 @@ fn read_block(
     };
     let offset = block.wrapping_mul(size.bytes());
     match store.read_at(alloc, number, offset, size.bytes() as usize)? {
-        Some(bytes) => Ok(digest_of(&bytes)),
+        Some(bytes) => Ok(digest_of_bytes(&bytes)),
         None => Ok(0),
     }
 }
@@ -154,7 +159,8 @@ impl Contents {
         })
     }
 
-    /// The digest of a block: one that was kept, or it is read now and kept.
+    /// The digest of a block of a file in this version. It is read only the first time, and then
+    /// kept. After an error none is kept.
     fn block_digest(
         &mut self,
         alloc: Global,
@@ -164,14 +170,14 @@ impl Contents {
         if let Some(digest) = self.digests.get(&version) {
             return Ok(*digest);
         }
-        let digest = read_block(alloc, self.block_size, state_file, version.block)?;
+        let digest = read_block_digest(alloc, self.block_size, state_file, version.block)?;
         self.digests.insert(version, digest)?;
         Ok(digest)
     }
 
-    /// The digest of the bytes and rights of a file of the state that has these members. 0 if there
-    /// is no file of that number.
-    pub fn digest(
+    /// The digest of the bytes and rights of a file of a state. `members` says of each
+    /// micro-operation whether the state has it. 0 if the trace has no file of that number.
+    pub fn digest_of_file(
         &mut self,
         alloc: Global,
         state_file: FileOfState<'_>,

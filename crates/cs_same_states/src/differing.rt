@@ -4,8 +4,9 @@ ghost use Rattle.cs_same_states.specs.Differences.{AreDiffering};
 
 use std::alloc::{AllocError, Global};
 
-/// The places that are in only one of two sets. Both sets must ascend, as does the result.
-pub fn differing(alloc: Global, places: &[u32], others: &[u32]) -> Result<Vec<u32>, AllocError>
+/// The places that are in only one of two sets, in ascending order. Both sets must be in ascending
+/// order too.
+pub fn places_in_one(alloc: Global, places: &[u32], others: &[u32]) -> Result<Vec<u32>, AllocError>
     ensures { IfOk result (λ found. AreDiffering places.now others.now found.items) }
 {
     let mut found = Vec::new(alloc);

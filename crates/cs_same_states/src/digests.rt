@@ -24,9 +24,10 @@ impl Digests {
         })
     }
 
-    /// The digest of the state of this number, which has these members. It takes time for the paths
-    /// that operations touch, and for the blocks that they write.
-    pub fn digest(
+    /// The digest of the state of this number. `members` says of each micro-operation whether the
+    /// state has it. It takes time in proportion to the paths that operations touch and the blocks
+    /// that they write. Digests of blocks are kept for later states.
+    pub fn digest_of_state(
         &mut self,
         alloc: Global,
         scene: &Arc<Scene>,
@@ -46,7 +47,7 @@ impl Digests {
                         path,
                         file,
                     };
-                    mix(2, self.contents.digest(alloc, state_file, members)?)
+                    mix(2, self.contents.digest_of_file(alloc, state_file, members)?)
                 }
             };
             digest = mix(digest, part);

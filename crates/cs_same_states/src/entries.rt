@@ -21,8 +21,8 @@ pub enum Entry {
 /// has the micro-operation as its last at the path, since it needs those before it there.
 #[derive(Clone, Copy, Debug)]
 struct Effect {
-    op: usize,
-    path: usize,
+    op_place: usize,
+    path_place: usize,
     entry: Entry,
 }
 
@@ -67,21 +67,22 @@ impl Entries {
         &self.paths
     }
 
-    /// What is at each of the paths in the state that has these members.
+    /// What is at each of the paths in a state. `members` says of each micro-operation whether the
+    /// state has it.
     pub fn entries_left(&self, alloc: Global, members: &[bool]) -> Result<Vec<Entry>, AllocError> {
         let mut left = Vec::from_slice(alloc, &self.start)?;
         for effect in &self.effects {
-            if members.get(effect.op) == Some(&true) {
-                set_entry(&mut left, effect.path, effect.entry);
+            if members.get(effect.op_place) == Some(&true) {
+                set_entry(&mut left, effect.path_place, effect.entry);
             }
         }
         Ok(left)
     }
 }
 
-/// Replaces what is at a path.
-fn set_entry(entries: &mut [Entry], path: usize, entry: Entry) {
-    if let Some(old) = entries.get_mut(path) {
+/// Replaces the entry of the path at that place; a place out of range is skipped.
+fn set_entry(entries: &mut [Entry], path_place: usize, entry: Entry) {
+    if let Some(old) = entries.get_mut(path_place) {
         *old = entry;
     }
 }
@@ -98,7 +99,7 @@ fn start_of(alloc: Global, trace: &Trace, places: &Places) -> Result<Vec<Entry>,
     Ok(start)
 }
 
-/// What is at a path after the micro-operations so far: nothing, if it isn't one of these paths.
+/// What `now` has at a path; Nothing if it isn't one of these paths.
 fn entry_at(places: &Places, now: &[Entry], path: &Path) -> Entry {
     match places.by_path.get(path) {
         Some(place) => now.get(*place).copied().unwrap_or(Entry::Nothing),
@@ -106,27 +107,29 @@ fn entry_at(places: &Places, now: &[Entry], path: &Path) -> Entry {
     }
 }
 
-/// Notes what micro-operation `op` leaves at a path, in `now` and in `effects`.
+/// Notes what the micro-operation at `op_place` leaves at a path, in `now` and in `effects`. A path
+/// that isn't one of `places` is skipped.
 fn push_effect(
     places: &Places,
     now: &mut [Entry],
     effects: &mut Vec<Effect>,
-    op: usize,
+    op_place: usize,
     path: &Path,
     entry: Entry,
 ) -> Result<(), AllocError> {
-    if let Some(place) = places.by_path.get(path) {
-        set_entry(now, *place, entry);
+    if let Some(path_place) = places.by_path.get(path) {
+        set_entry(now, *path_place, entry);
         effects.push(Effect {
-            op,
-            path: *place,
+            op_place,
+            path_place: *path_place,
             entry,
         })?;
     }
     Ok(())
 }
 
-/// Notes what a micro-operation leaves at the paths that it touches.
+/// Notes what a micro-operation leaves at the paths that it touches, in `now` and in `effects`.
+/// Nothing is noted for one that changes only a file.
 fn push_effects(
     places: &Places,
     now: &mut [Entry],

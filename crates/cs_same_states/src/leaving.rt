@@ -12,7 +12,7 @@ ghost use Rattle.cs_same_states.specs.Pairs.{AreAllowed, IsPair};
 ghost use Rattle.cs_same_states.specs.Parts.{AreParts, IsAlikeBy};
 ghost use Rattle.cs_same_states.specs.Places.{AreListed};
 
-use crate::differing::differing;
+use crate::differing::places_in_one;
 use crate::pairs::{Pair, is_settled};
 use crate::parts::Parts;
 use crate::reaching::changed_file;
@@ -32,8 +32,8 @@ struct Slots<'a> {
     fixed: &'a [bool],
 }
 
-/// Whether both sets leave the micro-operation's file the same in the part that it changes. True if
-/// it changes no file, or one that isn't in the same slot in both.
+/// Whether both sets leave the micro-operation's file the same in the part that it can change. True
+/// also if it changes no file, or one that isn't in the same slot after both.
 fn is_alike_by(
     alloc: Global,
     pair: &Pair<'_>,
@@ -57,7 +57,7 @@ fn is_alike_by(
     }
 }
 
-/// The same as `is_alike_by`, of the micro-operation at a place; true if there is none.
+/// `is_alike_by` for the micro-operation at a place; true if there is none.
 fn is_alike_at(
     alloc: Global,
     pair: &Pair<'_>,
@@ -99,9 +99,9 @@ fn are_alike_by(
     Ok(true)
 }
 
-/// Whether both are seen to leave equal trees: what they leave in the slots is alike, and the
-/// micro-operations that only one of them has leave the files in the slots as the other does.
-fn are_alike(
+/// Whether both sets are seen to leave equal trees: the slots are alike after both, and so is each
+/// file that a micro-operation of only one set changes. False means that they may be equal or not.
+fn is_equal_pair(
     alloc: Global,
     pair: &Pair<'_>,
     touched: &Touched,
@@ -126,13 +126,14 @@ fn are_alike(
         second: &second,
         fixed,
     };
-    let found = differing(alloc, pair.places, pair.others)?;
+    let found = places_in_one(alloc, pair.places, pair.others)?;
     are_alike_by(alloc, pair, &slots, &found)
 }
 
-/// Whether two sets are seen to leave equal trees; false says nothing. Of a file that is in the
-/// same place in both, only the bytes are read that only one of them changes. Whole files are read
-/// if they are two in the same place.
+/// Whether two sets are seen to leave equal trees. False means that they may be equal or not. Of a
+/// file that is in the same slot after both, only the bytes are read that a micro-operation of only
+/// one set can change. If a slot has one file after one set and another after the other, both are
+/// read whole.
 pub fn are_seen_equal(
     alloc: Global,
     scene: &Scene,
@@ -157,5 +158,5 @@ pub fn are_seen_equal(
         places,
         others,
     };
-    are_alike(alloc, &pair, &parts.touched, &parts.fixed)
+    is_equal_pair(alloc, &pair, &parts.touched, &parts.fixed)
 }

@@ -1,4 +1,5 @@
-//! Which states of a plan have equal trees.
+//! Which states of a plan have equal trees. First their digests are compared (digests, entries,
+//! contents), then what their micro-operations leave (parts, leaving), and at last whole trees.
 #![tactic(auto)]
 
 mod changes;

@@ -18,15 +18,15 @@ pub fn places_at(alloc: Global, scene: &Scene, number: u32) -> Result<Vec<u32>, 
         places.items) }
 {
     let Some(recipe) = scene.plan().recipe(number) else {
-        return Err(AllocError);
+        unreachable!();
     };
     rules_are_sentences(scene.micros());
     let places = places_of(alloc, scene.order(), recipe)?;
     Ok(places)
 }
 
-/// For each of `count` micro-operations, whether its place is among these. It is for digests only;
-/// a place out of range is skipped.
+/// For each of `count` micro-operations, whether its place is among `places`. It is for digests
+/// only, so it has no contract; a place out of range is skipped.
 pub fn members_of(alloc: Global, count: usize, places: &[u32]) -> Result<Vec<bool>, AllocError> {
     let mut members = vec![in alloc; false; count]?;
     for place in places {

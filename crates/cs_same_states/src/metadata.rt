@@ -5,8 +5,8 @@ ghost use Rattle.cs_tree_model.specs.Record.{metadata_of_ref};
 use cs_names::UserName;
 use cs_tree_model::{Kind, Metadata};
 
-/// Whether two names of users are the same.
-pub(crate) fn are_same_names(name: &UserName, other: &UserName) -> bool
+/// Whether both names are those of the same user.
+pub(crate) fn is_same_user(name: &UserName, other: &UserName) -> bool
     ensures { IsTrue result ↔ (name.now ≡ other.now) }
 {
     name == other
@@ -19,19 +19,20 @@ fn are_same_kinds(kind: Kind, other: Kind) -> bool
     kind == other
 }
 
-/// Whether owner, group and the user who changed it last are the same.
+/// Whether two records have the same owner, the same group and the same user who changed the file
+/// last.
 fn have_same_users(metadata: &Metadata<'_>, other: &Metadata<'_>) -> bool
     ensures { IsTrue result ↔
         ((metadata.now.owner.now ≡ other.now.owner.now)
         × (metadata.now.group.now ≡ other.now.group.now)
         × (metadata.now.muid.now ≡ other.now.muid.now)) }
 {
-    are_same_names(metadata.owner, other.owner)
-        && are_same_names(metadata.group, other.group)
-        && are_same_names(metadata.muid, other.muid)
+    is_same_user(metadata.owner, other.owner)
+        && is_same_user(metadata.group, other.group)
+        && is_same_user(metadata.muid, other.muid)
 }
 
-/// Whether number, version, mode and times are the same.
+/// Whether two records have the same number, version, mode and times.
 fn have_same_numbers(metadata: &Metadata<'_>, other: &Metadata<'_>) -> bool
     ensures { IsTrue result ↔
         ((metadata.now.number ≡ other.now.number) × (metadata.now.vers ≡ other.now.vers)

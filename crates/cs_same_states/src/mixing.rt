@@ -4,15 +4,16 @@ use cs_names::UserName;
 use cs_trace::Rights;
 use cs_tree_model::Record;
 
-/// The digest of a sequence that has this digest, extended by a part.
+/// The digest of a sequence and one more part. `digest` is that of the sequence; 0 is that of an
+/// empty one.
 pub fn mix(digest: u64, part: u64) -> u64 {
     let sum = digest.wrapping_mul(31).wrapping_add(part);
     let spread = sum.wrapping_mul(0x9e37_79b9_7f4a_7c15);
     spread ^ (spread >> 29)
 }
 
-/// The digest of bytes, of their length too.
-pub fn digest_of(bytes: &[u8]) -> u64 {
+/// The digest of bytes and their number.
+pub fn digest_of_bytes(bytes: &[u8]) -> u64 {
     let mut digest = bytes.len() as u64;
     for byte in bytes {
         digest = mix(digest, u64::from(*byte));
@@ -20,9 +21,13 @@ pub fn digest_of(bytes: &[u8]) -> u64 {
     digest
 }
 
-/// The digest of an owner, a group and the nine permission bits of a mode.
+/// The digest of an owner, a group and the nine permission bits of a mode; its other bits don't
+/// count.
 fn digest_of_parts(owner: &UserName, group: &UserName, mode: u32) -> u64 {
-    let users = mix(digest_of(owner.as_bytes()), digest_of(group.as_bytes()));
+    let users = mix(
+        digest_of_bytes(owner.as_bytes()),
+        digest_of_bytes(group.as_bytes()),
+    );
     mix(users, u64::from(mode % 512))
 }
 

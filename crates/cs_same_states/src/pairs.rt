@@ -1,4 +1,4 @@
-//! Whether two sets leave a file the same.
+//! Whether two sets of micro-operations leave a file the same.
 ghost use Rattle.std.specs.Prelude.{◌≡◌, ◌≤◌, ◌+◌, ◌<◌, ◌^◌, ◌↔◌, ℕ, length, IfOk, IsTrue};
 ghost use Rattle.cs_apm.specs.Atlases.{AreStarts, content_before};
 ghost use Rattle.std.specs.List.{All};
@@ -8,8 +8,8 @@ ghost use Rattle.cs_state.specs.Windows.{byte_of, whole_content};
 ghost use Rattle.cs_same_states.specs.Pairs.{IsPair, IsSettled, first_content, first_owner};
 ghost use Rattle.cs_same_states.specs.Pairs.{second_content, second_owner};
 
-use crate::metadata::are_same_names;
-use crate::reaching::{Span, floor_of, reached, size_left};
+use crate::metadata::is_same_user;
+use crate::reaching::{Span, floor_of, reach_of, size_left};
 use crate::windows::window_left;
 use cs_apm::content::FileContent;
 use cs_apm::owners::owner_left;
@@ -18,7 +18,7 @@ use cs_micro::MicroOp;
 use cs_trace::{Rights, Trace};
 use std::alloc::{AllocError, Global};
 
-/// Two sets of a trace's micro-operations.
+/// Two sets of a trace's micro-operations: those at `places`, and those at `others`.
 #[derive(Clone, Copy)]
 pub struct Pair<'a> {
     pub trace: &'a Trace,
@@ -28,9 +28,9 @@ pub struct Pair<'a> {
     pub others: &'a [u32],
 }
 
-/// The bytes of the file at the start; none if an operation makes it. `_ops` is for the contract
-/// only: it speaks of all files, those that `ops` makes too. `cs_state` has a private function with
-/// this body, whose contract says less.
+/// The bytes of the file at the start; none if an operation makes it. Only the contract uses
+/// `_ops`: it speaks of all files, those that an operation makes too. `cs_state` has a private
+/// function with this body, whose contract says less.
 fn start_bytes<'a>(trace: &'a Trace, _ops: &[MicroOp], tables: &Tables, file: usize) -> &'a [u8]
     requires { AreStarts trace.now tables.now.starts.items }
     ensures { whole_content result.now ≡ content_before trace.now _ops.now file }
@@ -43,16 +43,17 @@ fn start_bytes<'a>(trace: &'a Trace, _ops: &[MicroOp], tables: &Tables, file: us
     record.content.bytes().unwrap_or(&[])
 }
 
-/// Whether owner, group and permissions are the same.
+/// Whether both have the same owner, group and permissions.
 pub fn are_same_rights(rights: &Rights, others: &Rights) -> bool
     ensures { IsTrue result → rights.now ≡ others.now }
 {
-    are_same_names(&rights.owner, &others.owner)
-        && are_same_names(&rights.group, &others.group)
+    is_same_user(&rights.owner, &others.owner)
+        && is_same_user(&rights.group, &others.group)
         && rights.permissions == others.permissions
 }
 
-/// Whether both sets leave the same size of the file, and the same bytes in the span.
+/// Whether both sets leave the file the same size, and the same bytes in the span. `start` has the
+/// file's bytes at the start.
 fn are_same_windows(
     alloc: Global,
     pair: &Pair<'_>,
@@ -81,8 +82,8 @@ fn are_same_windows(
     Ok(window.bytes == other.bytes)
 }
 
-/// Whether the first set leaves the same owner, group and permissions of `file` as the second of
-/// `other`.
+/// Whether `file` after the first set has the same owner, group and permissions as `other` after
+/// the second set.
 fn are_same_owners(pair: &Pair<'_>, file: u32, other: u32) -> bool
     requires pair { IsPair pair.now }
     requires first { file < length pair.now.tables.now.owners.items }
@@ -95,8 +96,8 @@ fn are_same_owners(pair: &Pair<'_>, file: u32, other: u32) -> bool
     are_same_rights(owner, another)
 }
 
-/// Whether both sets leave the same size, owner, group and permissions of the file, and the same
-/// bytes in the part that the micro-operation changes. False if there is no such file.
+/// Whether the file has the same size, owner, group and permissions after both sets, and the same
+/// bytes in the part that the micro-operation can change. False if there is no such file.
 pub fn is_settled(
     alloc: Global,
     pair: &Pair<'_>,
@@ -115,11 +116,11 @@ pub fn is_settled(
     }
     let start = start_bytes(pair.trace, pair.ops, pair.tables, file as usize);
     let size = size_left(file, start.len() as u64, pair.ops, pair.places);
-    let span = reached(op, floor_of(pair.ops, file), size);
+    let span = reach_of(op, floor_of(pair.ops, file), size);
     are_same_windows(alloc, pair, start, file, span)
 }
 
-/// All bytes of the file after a set's members.
+/// All bytes of the file after the micro-operations at `places`.
 fn bytes_left(
     alloc: Global,
     pair: &Pair<'_>,
@@ -140,8 +141,8 @@ fn bytes_left(
     content.into_visible()
 }
 
-/// Whether the first set leaves the same bytes, owner, group and permissions of `file` as the
-/// second of `other`. All bytes are compared. False if there is no such file.
+/// Whether `file` after the first set has the same bytes, owner, group and permissions as `other`
+/// after the second set. All bytes are compared. False if there is no such file.
 pub fn are_same_files(
     alloc: Global,
     pair: &Pair<'_>,

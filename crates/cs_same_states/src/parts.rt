@@ -20,7 +20,7 @@ pub struct Parts {
     pub fixed: Vec<bool>,
 }
 
-/// For each file, whether it is in a slot that is not one of these.
+/// For each file, whether it is in a slot whose id is not one of `ids`.
 fn fixed_of(alloc: Global, tables: &Tables, ids: &[u32]) -> Result<Vec<bool>, AllocError>
     ensures { IfOk result (λ fixed. AreFixed tables.now ids.now fixed.items) }
 {
@@ -33,7 +33,7 @@ impl Parts {
     ghost use Rattle.std.specs.Prelude.{IfOk};
     ghost use Rattle.cs_same_states.specs.Parts.{AreParts};
 
-    /// The parts of a scene's trace.
+    /// The parts of the scene's trace. An error means that memory ran out.
     pub fn of(alloc: Global, scene: &Scene) -> Result<Parts, AllocError>
         ensures { IfOk result (AreParts scene.now.trace) }
     {

@@ -16,7 +16,7 @@ pub struct Places {
 }
 
 impl Places {
-    /// No path.
+    /// No paths yet.
     pub fn new(alloc: Global) -> Places {
         Places {
             paths: Vec::new(alloc),
@@ -24,7 +24,8 @@ impl Places {
         }
     }
 
-    /// Adds the path, unless it is there.
+    /// Adds the path after the others, unless it is there already. After an error the paths must
+    /// not be used.
     fn add(&mut self, alloc: Global, path: &Path) -> Result<(), AllocError> {
         if self.by_path.contains_key(path) {
             return Ok(());
@@ -35,7 +36,8 @@ impl Places {
         Ok(())
     }
 
-    /// Adds the paths that a file has at the start; none if an operation makes it.
+    /// Adds the paths that a file has at the start, which `starts` has by the files' numbers; none
+    /// if an operation makes the file.
     fn add_start(
         &mut self,
         alloc: Global,
@@ -52,7 +54,7 @@ impl Places {
 
     /// Adds the paths of a micro-operation: those that it touches, that of the directory whose
     /// rights it sets, or those of the start's file that it changes. `starts` has the paths of the
-    /// start's files, by their numbers.
+    /// start's files, by their numbers. After an error the paths must not be used.
     pub fn add_touched(
         &mut self,
         alloc: Global,

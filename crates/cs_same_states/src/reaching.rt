@@ -1,4 +1,4 @@
-//! Which bytes of a file a micro-operation can change.
+//! Which bytes of a file a micro-operation can change, whatever other micro-operations a state has.
 ghost use Rattle.std.specs.Prelude.{◌≡◌, ◌+◌, ◌<◌, ◌≤◌, ◌^◌, true, ℕ, fold, length, map};
 ghost use Rattle.std.specs.List.{All};
 ghost use Rattle.cs_apm.specs.Contents.{IsSmall};
@@ -34,7 +34,8 @@ pub fn changed_file(op: &MicroOp) -> Option<u32>
     }
 }
 
-/// The lesser of a floor and the size that the micro-operation gives the file, if it gives it one.
+/// The lesser of `floor` and the size that the micro-operation gives the file; `floor` if it gives
+/// the file none.
 fn floor_after(file: u32, floor: u64, op: &MicroOp) -> u64
     ensures { result ≡ floor_after file floor op.now }
 {
@@ -53,8 +54,8 @@ fn floor_after(file: u32, floor: u64, op: &MicroOp) -> u64
     }
 }
 
-/// The least size that a micro-operation gives the file, or FILE_BYTES if none does. No change of
-/// its size changes a byte before it.
+/// The file's floor: the least size that a micro-operation gives it, or FILE_BYTES if none gives it
+/// one. A change of the file's size changes no byte before its floor.
 pub fn floor_of(ops: &[MicroOp], file: u32) -> u64
     ensures { result ≡ floor_in ops.now file }
 {
@@ -65,7 +66,7 @@ pub fn floor_of(ops: &[MicroOp], file: u32) -> u64
     floor
 }
 
-/// The size of the file after a micro-operation.
+/// The size of the file after a micro-operation; `size` if that doesn't set its size.
 fn size_after(file: u32, size: u64, op: &MicroOp) -> u64
     ensures { result ≡ windows.size_after file size op.now }
 {
@@ -78,7 +79,7 @@ fn size_after(file: u32, size: u64, op: &MicroOp) -> u64
     }
 }
 
-/// The size of the file after a set's members, from the size that it had.
+/// The size of the file after the micro-operations at `places`; `size` is its size before them.
 pub fn size_left(file: u32, size: u64, ops: &[MicroOp], places: &[u32]) -> u64
     requires { All (λ place. place < length ops.now) places.now }
     ensures { result ≡ fold (windows.size_after file) size (map (op_at ops.now) places.now) }
@@ -90,7 +91,7 @@ pub fn size_left(file: u32, size: u64, ops: &[MicroOp], places: &[u32]) -> u64
     left
 }
 
-/// The bytes from `from` on and before `end`; none if `end` is not after it.
+/// The bytes from the offset `from` on and before `end`; none if `end` is not after `from`.
 fn between(from: u64, end: u64) -> Span
     ensures few { result.offset + result.count < 2 ^ 64 }
     ensures all { (i : ℕ) → from ≤ i → i < end → (result.offset ≤ i)
@@ -102,9 +103,9 @@ fn between(from: u64, end: u64) -> Span
     }
 }
 
-/// The bytes that the micro-operation can change of its file before its end, if the file has this
-/// floor and this size.
-pub fn reached(op: &MicroOp, floor: u64, size: u64) -> Span
+/// The bytes before the file's end that the micro-operation can change, if the file has this floor
+/// and this size; none if it changes no file's bytes.
+pub fn reach_of(op: &MicroOp, floor: u64, size: u64) -> Span
     requires { IsSmall op.now }
     ensures few { result.offset + result.count < 2 ^ 64 }
     ensures all { (file i : ℕ) → i < size → reaches floor file i op.now ≡ true → (result.offset ≤ i)

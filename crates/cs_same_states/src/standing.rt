@@ -1,4 +1,4 @@
-//! Which files exist, and whether two sets leave the same in the slots.
+//! Which files are in slots, and whether two sets leave the same in the slots.
 ghost use Rattle.std.specs.Prelude.{◌≡◌, ◌<◌, ◌⊎◌, ◌↔◌, ℕ, fold, length, IfOk, IsTrue};
 ghost use Rattle.cs_apm.specs.Slots.{rights_at, slot_at};
 ghost use Rattle.cs_same_states.specs.Pairs.{IsPair};
@@ -10,7 +10,7 @@ use cs_apm::slot::Slot;
 use cs_trace::Rights;
 use std::alloc::{AllocError, Global};
 
-/// Sets the flag of the file in a slot, if there is one and it has a flag.
+/// Sets the flag of the file that is in the slot, if a file is in it and that has a flag.
 fn flag(flags: &mut [bool], slot: Slot)
     ensures { flags.new ≡ flagged flags.old slot }
 {
@@ -21,7 +21,7 @@ fn flag(flags: &mut [bool], slot: Slot)
     }
 }
 
-/// Sets the flags of all files in slots.
+/// Sets the flags of all files that are in these slots.
 fn flag_all(flags: &mut [bool], slots: &[Slot])
     ensures { flags.new ≡ fold flagged flags.old slots.now }
 {
@@ -30,7 +30,7 @@ fn flag_all(flags: &mut [bool], slots: &[Slot])
     }
 }
 
-/// For each of the first `count` files, whether it is in a slot.
+/// For each of the first `count` files, whether it is in one of these slots.
 pub fn files_in_slots(alloc: Global, slots: &[Slot], count: usize) -> Result<Vec<bool>, AllocError>
     ensures { IfOk result (λ flags. AreFlagged slots.now count flags.items) }
 {
@@ -46,7 +46,7 @@ pub fn flag_at(flags: &[bool], file: u32) -> bool
     flags.get(file as usize).copied().unwrap_or(false)
 }
 
-/// Whether this file is in the slot.
+/// Whether the slot has this file; false of a directory or an empty slot.
 fn is_file(slot: Slot, file: u32) -> bool
     ensures { IsTrue result ↔ (slot ≡ Slot.File file) }
 {
@@ -56,7 +56,7 @@ fn is_file(slot: Slot, file: u32) -> bool
     }
 }
 
-/// Whether some slot has the file in both lists.
+/// Whether the file is in both lists in the same slot.
 pub fn is_in_both(slots: &[Slot], others: &[Slot], file: u32) -> bool
     requires { length slots.now ≡ length others.now }
     ensures { StandsInBoth slots.now others.now file → IsTrue result }
@@ -83,8 +83,9 @@ fn are_rights_alike(table: &[Rights], place: u32, other: u32) -> bool
     }
 }
 
-/// Whether what the first set leaves in `slot` is seen to be the same as what the second leaves in
-/// `other`, or both slots have the same file.
+/// Whether `slot`, as the first set leaves it, is seen to have the same as `other`, as the second
+/// set leaves it: both nothing, directories with the same rights, the same file, or two files that
+/// are equal. If it is the same file, its bytes aren't compared here.
 fn are_alike(alloc: Global, pair: &Pair<'_>, slot: Slot, other: Slot) -> Result<bool, AllocError>
     requires { IsPair pair.now }
     ensures { IfOk result (λ same. IsTrue same → AreAlike pair.now slot other) }
@@ -104,7 +105,7 @@ fn are_alike(alloc: Global, pair: &Pair<'_>, slot: Slot, other: Slot) -> Result<
     }
 }
 
-/// Whether `are_alike` is true of all slots, each with the one at the same place.
+/// Whether `are_alike` is true of all slots, each with the one at the same place in `others`.
 pub fn are_all_alike(
     alloc: Global,
     pair: &Pair<'_>,

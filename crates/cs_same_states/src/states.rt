@@ -11,13 +11,26 @@ use crate::leaving::are_seen_equal;
 use crate::members::{members_of, places_at};
 use crate::parts::Parts;
 use crate::trees::are_same_trees;
-use cs_plan::Scene;
+use cs_plan::{MakeFault, Published, Scene};
 use std::alloc::{AllocError, Global};
 use std::collections::BTreeMap;
 use std::sync::Arc;
 
-/// Whether the states of two numbers of a plan have equal trees. Both are made for this, and
-/// compared whole.
+/// Makes the state of a number that the plan has. An error means that memory ran out.
+fn make_known(alloc: Global, scene: &Arc<Scene>, number: u32) -> Result<Published, AllocError>
+    requires { number < length (arc_value scene.now).plan }
+    ensures { IfOk result (λ made. state_at (arc_value scene.now) number ≡ Some made.tree) }
+{
+    match Scene::make(alloc, scene, number) {
+        Ok(made) => Ok(made),
+        Err(MakeFault::Memory) => Err(AllocError),
+        // the plan has the number
+        Err(MakeFault::NoSuchState) => unreachable!(),
+    }
+}
+
+/// Whether the states of two numbers of the plan have equal trees. Both states are made for this,
+/// and compared whole.
 pub fn are_same_states(
     alloc: Global,
     scene: &Arc<Scene>,
@@ -30,17 +43,13 @@ pub fn are_same_states(
         (λ same. IsTrue same ↔
         (state_at (arc_value scene.now) number ≡ state_at (arc_value scene.now) other)) }
 {
-    let Ok(made) = Scene::make(alloc, scene, number) else {
-        return Err(AllocError);
-    };
-    let Ok(others) = Scene::make(alloc, scene, other) else {
-        return Err(AllocError);
-    };
+    let made = make_known(alloc, scene, number)?;
+    let others = make_known(alloc, scene, other)?;
     are_same_trees(alloc, made.store(), others.store())
 }
 
-/// Whether the states of two numbers are seen to have equal trees; false says nothing. Neither is
-/// made for this.
+/// Whether the states of two numbers are seen to have equal trees without making them. False means
+/// that they may be equal or not.
 pub fn are_seen_same(
     alloc: Global,
     scene: &Arc<Scene>,
@@ -60,8 +69,8 @@ pub fn are_seen_same(
     are_seen_equal(alloc, scene, parts, &places, &others)
 }
 
-/// Whether the states of two numbers have equal trees. They are made only if `are_seen_same` is
-/// false.
+/// Whether the states of two numbers have equal trees, as `are_same_states`, but they are made only
+/// if `are_seen_same` is false.
 fn are_equal(
     alloc: Global,
     scene: &Arc<Scene>,
@@ -82,8 +91,8 @@ fn are_equal(
     are_same_states(alloc, scene, number, other)
 }
 
-/// The place in `numbers` of the first number that is less than this one and whose state has an
-/// equal tree; None if there is none.
+/// The place in `numbers` of the first number that is less than `number` and whose state has the
+/// same tree as the state of `number`. None if there is none.
 fn place_among(
     alloc: Global,
     scene: &Arc<Scene>,
@@ -109,10 +118,10 @@ fn place_among(
     Ok(None)
 }
 
-/// The number of the first state with a tree equal to that of the next state, whose number is the
-/// length of `firsts` and whose digest is given; its own number, if there is none. `found` has, by
-/// digest, the latest state of each tree, since states with close numbers differ by little and are
-/// compared fast. The next state replaces it.
+/// The first state with the same tree as the next state: its number, or the next state's own number
+/// if no earlier state has the same tree. The next state is the one whose number is the length of
+/// `firsts`; `digest` is its digest. `found` has, by digest, the latest state of each tree: states
+/// with close numbers differ by little, so they are compared fast. The next state is put into it.
 fn first_of(
     alloc: Global,
     scene: &Arc<Scene>,
@@ -142,7 +151,7 @@ fn first_of(
     Ok(firsts[last as usize])
 }
 
-/// The digest of the state of this number.
+/// The digest of the plan's state of this number.
 fn digest_at(
     alloc: Global,
     scene: &Arc<Scene>,
@@ -153,7 +162,7 @@ fn digest_at(
 {
     let places = places_at(alloc, scene, number)?;
     let members = members_of(alloc, scene.order().len(), &places)?;
-    digests.digest(alloc, scene, number, &members)
+    digests.digest_of_state(alloc, scene, number, &members)
 }
 
 /// For each state of the plan, by its number, the number of the first one with an equal tree: its

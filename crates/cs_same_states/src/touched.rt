@@ -1,5 +1,5 @@
-//! The slots that some step changes, and the steps in these only: the slots of two states are
-//! compared without those that have the same in every state.
+//! The slots that some step changes, and the steps renumbered to these slots. The other slots have
+//! the same in every state, so the slots of two states are compared without them.
 ghost use Rattle.std.specs.Prelude.{◌≡◌, ◌+◌, ◌*◌, ◌<◌, ◌≤◌, ◌^◌, ℕ, fold, length, map, None, IfOk};
 ghost use Rattle.std.specs.Prelude.{IfSome, OnOk};
 ghost use Rattle.std.specs.List.{All};
@@ -22,7 +22,7 @@ pub struct Touched {
     pub steps: Vec<Step>,
 }
 
-/// The place of a slot in `ids`, if it is there.
+/// The place of the slot's id in `ids`; None if it isn't there.
 fn place_of(ids: &[u32], id: u32) -> Option<usize>
     ensures found { IfSome result (HasRank ids.now id) }
     ensures none { result ≡ None → IsUnlisted ids.now id }
@@ -35,8 +35,8 @@ fn place_of(ids: &[u32], id: u32) -> Option<usize>
     None
 }
 
-/// The place of a slot in `ids`; it is appended if it isn't there.
-fn rank_of(ids: &mut Vec<u32>, id: u32) -> Result<u32, AllocError>
+/// The place of the slot's id in `ids`, to which the id is appended if it isn't there.
+fn place_or_append(ids: &mut Vec<u32>, id: u32) -> Result<u32, AllocError>
     requires { length ids.old.items < 2 ^ 32 }
     ensures { IfOk result (IsRank ids.old.items ids.new.items id) }
 {
@@ -48,7 +48,8 @@ fn rank_of(ids: &mut Vec<u32>, id: u32) -> Result<u32, AllocError>
     Ok(place)
 }
 
-/// The step with its slots' places in `ids`; slots that aren't there are appended.
+/// The step with its slots' places in `ids` in place of their ids. Ids that aren't there are
+/// appended.
 fn renumber(ids: &mut Vec<u32>, step: Step) -> Result<Step, AllocError>
     requires { length ids.old.items + 2 < 2 ^ 32 }
     ensures step { IfOk result (IsRenumbered ids.new.items step) }
@@ -56,19 +57,19 @@ fn renumber(ids: &mut Vec<u32>, step: Step) -> Result<Step, AllocError>
     ensures few { OnOk result (length ids.new.items ≤ length ids.old.items + 2) }
 {
     match step {
-        Step::Set(place, slot) => Ok(Step::Set(rank_of(ids, place)?, slot)),
+        Step::Set(id, slot) => Ok(Step::Set(place_or_append(ids, id)?, slot)),
         Step::Move(from, to) => {
-            let from = rank_of(ids, from)?;
-            let to = rank_of(ids, to)?;
+            let from = place_or_append(ids, from)?;
+            let to = place_or_append(ids, to)?;
             Ok(Step::Move(from, to))
         }
-        Step::Own(place, rights) => Ok(Step::Own(rank_of(ids, place)?, rights)),
+        Step::Own(id, rights) => Ok(Step::Own(place_or_append(ids, id)?, rights)),
         Step::Other => Ok(Step::Other),
     }
 }
 
-/// The steps with their slots' places in `ids`, which is empty at first and gets each slot that a
-/// step changes.
+/// The steps, each as `renumber` makes it. `ids` is empty at first, and gets the id of each slot
+/// that a step changes.
 fn renumber_all(alloc: Global, ids: &mut Vec<u32>, steps: &[Step]) -> Result<Vec<Step>, AllocError>
     requires none { length ids.old.items ≡ 0 }
     requires few { length steps.now ≤ 2 ^ 20 }
@@ -81,7 +82,7 @@ fn renumber_all(alloc: Global, ids: &mut Vec<u32>, steps: &[Step]) -> Result<Vec
     Ok(made)
 }
 
-/// What is in the slots of these ids; nothing, if one is out of range.
+/// What is in each of the slots of these ids; Nothing for an id out of range.
 fn slots_at(alloc: Global, slots: &[Slot], ids: &[u32]) -> Result<Vec<Slot>, AllocError>
     ensures { IfOk result (λ found. found.items ≡ map (slot_at slots.now) ids.now) }
 {
@@ -92,7 +93,7 @@ fn slots_at(alloc: Global, slots: &[Slot], ids: &[u32]) -> Result<Vec<Slot>, All
     Ok(found)
 }
 
-/// Empties the slots of these ids; one out of range is skipped.
+/// Empties the slots of these ids; an id out of range is skipped.
 pub fn clear(slots: &mut [Slot], ids: &[u32])
     ensures long { length slots.new ≡ length slots.old }
     ensures others { (id : ℕ) → IsUnlisted ids.now id
@@ -117,7 +118,7 @@ impl Touched {
         Ok(Touched { ids, slots, steps })
     }
 
-    /// What the members of a set leave in these slots.
+    /// What the steps at `places`, made in this order from the start, leave in these slots.
     pub fn slots_left(&self, alloc: Global, places: &[u32]) -> Result<Vec<Slot>, AllocError>
         requires fit { All (FitsIn (length self.now.slots.items)) self.now.steps.items }
         requires inside { All (λ place. place < length self.now.steps.items) places.now }

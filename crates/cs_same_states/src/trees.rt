@@ -12,7 +12,8 @@ use cs_names::laws::know;
 use cs_tree_model::{Kind, TreeRead};
 use std::alloc::{AllocError, Global};
 
-/// Whether what has the number is in the same directory in both; equal also if neither has it.
+/// Whether the file of that number is in the same directory in both trees; true if neither has such
+/// a file.
 fn are_same_parents<A: TreeRead, B: TreeRead>(tree: &A, other: &B, number: u64) -> bool
     ensures { IsTrue result ↔
         (parent_numbered (A.tree tree.now) number ≡ parent_numbered (B.tree other.now) number) }
@@ -31,7 +32,8 @@ fn is_same_name(name: Option<&Name>, other: Option<&Name>) -> bool
     }
 }
 
-/// Whether what has the number has the same name in both; equal also if neither has it.
+/// Whether the file of that number has the same name in both trees; true if neither has such a
+/// file.
 fn are_same_names<A: TreeRead, B: TreeRead>(tree: &A, other: &B, number: u64) -> bool
     ensures { IsTrue result ↔
         (name_numbered (A.tree tree.now) number ≡ name_numbered (B.tree other.now) number) }
@@ -39,7 +41,8 @@ fn are_same_names<A: TreeRead, B: TreeRead>(tree: &A, other: &B, number: u64) ->
     is_same_name(tree.name_of(number), other.name_of(number))
 }
 
-/// Whether the first `count` bytes of what has the number are the same in both.
+/// Whether the first `count` bytes of the file of that number are the same in both trees; true if
+/// neither has such a file.
 fn are_same_bytes<A: TreeRead, B: TreeRead>(
     alloc: Global,
     tree: &A,
@@ -56,7 +59,8 @@ fn are_same_bytes<A: TreeRead, B: TreeRead>(
     Ok(bytes == others)
 }
 
-/// Whether the number has the same record in both, bytes included, or in neither.
+/// Whether the file of that number has the same record in both trees, with the same bytes; true if
+/// neither has such a file.
 fn are_same_records<A: TreeRead, B: TreeRead>(
     alloc: Global,
     tree: &A,
@@ -82,7 +86,8 @@ fn are_same_records<A: TreeRead, B: TreeRead>(
     }
 }
 
-/// Whether the number has the same directory, name and record in both.
+/// Whether the file of that number has the same directory, name and record in both trees; true if
+/// neither has such a file.
 fn are_same_at<A: TreeRead, B: TreeRead>(
     alloc: Global,
     tree: &A,
@@ -102,8 +107,8 @@ fn are_same_at<A: TreeRead, B: TreeRead>(
 }
 
 /// Whether two trees are equal: they have the same paths, and at each the same record with the same
-/// bytes; and the next file gets the same number. Numbers are compared in turn; the bytes of a file
-/// are copied from both.
+/// bytes; and the next file gets the same number. The files are compared one number after another.
+/// To compare a file's bytes, they are copied from both trees.
 pub fn are_same_trees<A: TreeRead, B: TreeRead>(
     alloc: Global,
     tree: &A,

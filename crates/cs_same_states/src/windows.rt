@@ -1,4 +1,4 @@
-//! Some bytes of a file from an offset on, as a set leaves them. No other byte of it is read.
+//! Some bytes of a file from an offset on, as a set leaves them. No other byte of the file is read.
 ghost use Rattle.std.specs.Prelude.{◌≡◌, ◌+◌, ◌<◌, ◌^◌, length, IfOk};
 ghost use Rattle.std.specs.List.{All};
 ghost use Rattle.cs_apm.specs.Contents.{IsSmall, content_after, content_left};
@@ -18,9 +18,9 @@ pub struct Window {
     pub bytes: Vec<u8>,
 }
 
-/// Zeroes what a change from `size` to `to` cuts off, in a part of a file that begins at the
-/// offset.
-fn resize(part: &mut [u8], offset: usize, size: u64, to: u64)
+/// Zeroes what a change of the file's size from `size` to `to` cuts off, in the part of the file
+/// that begins at the offset. A change to a greater size cuts nothing off.
+fn zero_cut(part: &mut [u8], offset: usize, size: u64, to: u64)
     ensures long { length part.new ≡ length part.old }
     ensures window { (f : Content) → IsWindow offset f size part.old
         → IsWindow offset (content_with_size to f) to part.new }
@@ -30,8 +30,8 @@ fn resize(part: &mut [u8], offset: usize, size: u64, to: u64)
     }
 }
 
-/// Applies the micro-operation to a part of the file that begins at the offset, if it changes that
-/// file. Returns the file's size after it.
+/// Applies the micro-operation to the part of the file that begins at the offset, if it changes
+/// that file. Returns the file's size after it; `size` is the one before.
 fn apply_op(part: &mut [u8], offset: usize, size: u64, file: u32, op: &MicroOp) -> u64
     requires room { offset + length part.old < 2 ^ 64 }
     requires small { IsSmall op.now }
@@ -44,7 +44,7 @@ fn apply_op(part: &mut [u8], offset: usize, size: u64, file: u32, op: &MicroOp) 
     }
     match op {
         MicroOp::ChangeFileSize { length, .. } => {
-            resize(part, offset, size, *length);
+            zero_cut(part, offset, size, *length);
             *length
         }
         MicroOp::WriteBlock {
@@ -61,7 +61,8 @@ fn apply_op(part: &mut [u8], offset: usize, size: u64, file: u32, op: &MicroOp) 
     }
 }
 
-/// Applies the members of a set, in their order. Returns the file's size after them.
+/// Applies the micro-operations at `places`, in this order, to the part of the file that begins at
+/// the offset. Returns the file's size after them; `size` is the one before.
 fn apply_members(
     part: &mut [u8],
     offset: usize,
@@ -84,8 +85,8 @@ fn apply_members(
     left
 }
 
-/// `count` bytes from an offset on of the file after a set's members, with zeros past its end, and
-/// its size. `start` has its bytes at the start.
+/// The file's size after the micro-operations at `places`, and `count` of its bytes from the offset
+/// on, with zeros past its end. `start` has the file's bytes at the start.
 pub fn window_left(
     alloc: Global,
     start: &[u8],

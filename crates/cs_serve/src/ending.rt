@@ -4,9 +4,9 @@ ghost use Rattle.std.specs.Prelude.{◌≤◌};
 use crate::fault::ProgramFault;
 use std::io::Write;
 
-/// The status of a command with this outcome: 0, or 1 if a fault ended it, which one line on `err`
-/// reports. What was printed is flushed before.
-pub(crate) fn ended<W: Write, E: Write>(
+/// The status of a command that ended with `done`: 0, or 1 if it failed, which one line on `err`
+/// reports. `out` is flushed first; if only the flush fails, the fault is Output.
+pub(crate) fn exit_status<W: Write, E: Write>(
     done: Result<(), ProgramFault>,
     out: &mut W,
     err: &mut E,

@@ -45,6 +45,7 @@ pub enum ProgramFault {
 impl From<PicksFault> for ProgramFault {
     ghost from_gives = { λ _ fault. IsOfNoStream fault };
 
+    /// Memory stays Memory; any other fault is one of the picks.
     fn from(fault: PicksFault) -> ProgramFault {
         match fault {
             PicksFault::Memory => ProgramFault::Memory,
@@ -56,6 +57,7 @@ impl From<PicksFault> for ProgramFault {
 impl From<SceneFault> for ProgramFault {
     ghost from_gives = { λ _ fault. IsOfNoStream fault };
 
+    /// Memory stays Memory; any other fault is one of the scene.
     fn from(fault: SceneFault) -> ProgramFault {
         match fault {
             SceneFault::Memory => ProgramFault::Memory,

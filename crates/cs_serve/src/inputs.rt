@@ -25,8 +25,8 @@ pub struct Inputs<'a> {
     pub verbose: bool,
 }
 
-/// The trace of these bytes, or why they are none: no UTF-8, or the fault of the first line at
-/// fault.
+/// The trace that the bytes spell. An error is TraceNotText if they are no UTF-8, else the fault of
+/// the first line at fault, or Memory.
 fn trace_of(alloc: Global, trace: &[u8]) -> Result<Trace, ProgramFault>
     ensures read { IfOk result (λ read. trace_in trace.now ≡ Ok read) }
     ensures fault { IfErr result IsOfNoStream }
@@ -41,8 +41,8 @@ fn trace_of(alloc: Global, trace: &[u8]) -> Result<Trace, ProgramFault>
     }
 }
 
-/// The scene of the inputs: the trace is judged first, then the picks' lines, then what is made of
-/// them.
+/// The scene of the inputs. An error is the first fault: of the trace, then of the picks' lines,
+/// and then of the scene that is made of both.
 pub fn scene_of(alloc: Global, inputs: &Inputs) -> Result<Scene, ProgramFault>
     ensures scene { IfOk result (IsScene inputs.now) }
     ensures fault { IfErr result IsOfNoStream }
@@ -52,7 +52,7 @@ pub fn scene_of(alloc: Global, inputs: &Inputs) -> Result<Scene, ProgramFault>
     Ok(Scene::of(alloc, trace, inputs.holes, picks)?)
 }
 
-/// The users of a users file, or its first fault.
+/// The users of a users file. An error is the file's first fault, or out of memory.
 pub fn users_of(alloc: Global, users: &[u8]) -> Result<Users, ProgramFault>
     ensures read { IfOk result (λ read. users_in users.now ≡ Ok read) }
     ensures fault { IfErr result IsOfNoStream }

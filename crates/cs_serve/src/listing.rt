@@ -4,7 +4,7 @@ ghost use Rattle.cs_serve.specs.Commands.{Lists};
 ghost use Rattle.cs_serve.specs.Written.{BlamesOutput};
 ghost use Rattle.cs_stream.specs.Streams.{KeepsReads};
 
-use crate::ending::ended;
+use crate::ending::exit_status;
 use crate::fault::ProgramFault;
 use crate::inputs::{Inputs, scene_of};
 use crate::printing::print;
@@ -12,9 +12,9 @@ use cs_stream::{Stream, TwoEnded};
 use std::alloc::Global;
 use std::io::Write;
 
-/// The command `list` to a stream: writes the micro-operations of the trace, and then the states of
-/// its plan, a line each. Memory for the whole text is taken before any of it is written. After a
-/// fault nothing was written, or some of the text, from the front.
+/// The command `list`, to a stream: writes the micro-operations of the trace, and then the states
+/// of its plan, a line each. Memory for the whole text is taken before any of it is written. After
+/// an error nothing was written, or some of the text, from the front.
 pub fn list_to<S: Stream>(
     alloc: Global,
     inputs: &Inputs,
@@ -32,12 +32,12 @@ pub fn list_to<S: Stream>(
     print(stream, text.as_bytes())
 }
 
-/// The command `list`: what `list_to` does, to a writer. Its status: 0, or 1 if a fault ended
-/// it, which one line on `err` reports; what was printed before stays.
+/// The command `list`, to a writer: what `list_to` does. Returns the exit status: 0, or 1 if it
+/// failed, which one line on `err` reports; what was written before stays.
 pub fn list_of<W: Write, E: Write>(alloc: Global, inputs: &Inputs, out: &mut W, err: &mut E) -> u8
     ensures { result ≤ 1 }
 {
     let mut stream = TwoEnded::new(b"".as_slice(), &mut *out);
     let done = list_to(alloc, inputs, &mut stream);
-    ended(done, out, err)
+    exit_status(done, out, err)
 }

@@ -8,7 +8,8 @@ use cs_plan::Places;
 use serde_json::Value;
 use std::alloc::{AllocError, Global};
 
-/// The place that a value is, if it is one.
+/// The place that a JSON value is; None unless it is a whole number of 32 bits, without sign, point
+/// or exponent.
 fn place_of(value: &Value) -> Option<u32>
     ensures { result ≡ place_of (view value.now) }
 {
@@ -16,7 +17,7 @@ fn place_of(value: &Value) -> Option<u32>
     u32::try_from(number).ok()
 }
 
-/// The places that values are, if each is one.
+/// The places that JSON values are; None unless each is one. The only error is out of memory.
 fn places_of(alloc: Global, values: &[Value]) -> Result<Option<Places>, AllocError>
     ensures { IfOk result (λ places. places ≡ places_of (items_view values.now)) }
 {
@@ -30,7 +31,8 @@ fn places_of(alloc: Global, values: &[Value]) -> Result<Option<Places>, AllocErr
     Ok(Some(Places::of(places)))
 }
 
-/// The places that an array has, if the value is an array of places.
+/// The places in a JSON value; None unless it is an array of places. The only error is out of
+/// memory.
 fn places_in(alloc: Global, value: &Value) -> Result<Option<Places>, AllocError>
     ensures { IfOk result (λ places. places ≡ places_in (view value.now)) }
 {
@@ -40,7 +42,7 @@ fn places_in(alloc: Global, value: &Value) -> Result<Option<Places>, AllocError>
     }
 }
 
-/// The places that a line has, if it is an array of places.
+/// The places in a line; None unless it is a JSON array of places. The only error is out of memory.
 #[tactic(auto, unfolding(crate::specs::PickLines::pick_in))]
 pub(crate) fn pick_in(alloc: Global, line: &[u8]) -> Result<Option<Places>, AllocError>
     ensures { IfOk result (λ pick. pick ≡ pick_in line.now) }

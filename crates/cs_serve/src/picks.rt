@@ -10,8 +10,9 @@ use cs_names::Pieces;
 use cs_plan::Places;
 use std::alloc::Global;
 
-/// Keeps the pick of the line of this number, unless the line is empty.
-fn keep_line(
+/// Appends the pick of the line of that number; nothing if the line is empty. The error is Syntax
+/// if the line is no array of places, or Memory.
+fn push_pick(
     alloc: Global,
     picks: &mut Vec<Places>,
     number: usize,
@@ -34,10 +35,9 @@ fn keep_line(
     Ok(())
 }
 
-/// The picks that a file spells: an array of places a line, as `[0,2,5]` in JSON; lines are cut
-/// at line feeds, and empty ones are skipped. Else Syntax at the first line that is no such
-/// array, one of only blanks included. The result is Memory if an allocation failed before
-/// such a line.
+/// The picks of a file: in each line an array of places, as `[0,2,5]` in JSON. Lines are cut at
+/// line feeds, and empty ones are skipped. The error is Syntax at the first line that is no such
+/// array, also at one of only blanks; or Memory if an allocation failed before such a line.
 pub fn read_picks(alloc: Global, bytes: &[u8]) -> Result<Vec<Places>, PicksFault>
     ensures read { IfOk result (λ picks. picks_in bytes.now ≡ Ok picks.items) }
     ensures fault { IfErr result (λ fault. fault ≢ Memory → picks_in bytes.now ≡ Err fault) }
@@ -45,7 +45,7 @@ pub fn read_picks(alloc: Global, bytes: &[u8]) -> Result<Vec<Places>, PicksFault
     let mut picks = Vec::new(alloc);
     let mut before = 0;
     for line in Pieces::of(bytes, b'\n') {
-        if let Err(fault) = keep_line(alloc, &mut picks, before + 1, line) {
+        if let Err(fault) = push_pick(alloc, &mut picks, before + 1, line) {
             return Err(fault);
         }
         before += 1;

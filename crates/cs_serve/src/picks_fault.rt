@@ -18,6 +18,7 @@ pub enum PicksFault {
 impl fmt::Display for PicksFault {
     ghost output = { λ fault. Some (fault_text fault) };
 
+    /// Writes the fault as a short text.
     fn fmt<W: fmt::Write>(&self, f: &mut fmt::Formatter<W>) -> fmt::Result {
         match self {
             PicksFault::Syntax(line) => write!(f, "picks line {line}: Syntax"),
@@ -29,6 +30,7 @@ impl fmt::Display for PicksFault {
 impl From<AllocError> for PicksFault {
     ghost from_gives = { λ _ fault. fault ≡ Memory };
 
+    /// An allocation that failed is Memory.
     fn from(_refused: AllocError) -> PicksFault {
         PicksFault::Memory
     }

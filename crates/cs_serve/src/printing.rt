@@ -1,4 +1,4 @@
-//! Lines of a script's output, and how a text is written.
+//! The lines of a script's output, and how a text is written to a stream.
 ghost use Rattle.std.specs.Prelude.{◌≡◌, IfErr, IfOk, string_bytes};
 ghost use Rattle.cs_wire.specs.Messages.{Fits, r_view};
 ghost use Rattle.cs_stream.specs.Streams.{KeepsFaults, KeepsReads};
@@ -12,7 +12,8 @@ use cs_wire::{RMessage, encode_reply};
 use std::alloc::{AllocError, Global};
 use std::io::Write;
 
-/// The line of a reply: the connection, a space, and the reply's bytes in lower case hexadecimal.
+/// The line of a reply: the connection's number, a space, and the reply's bytes in lower case
+/// hexadecimal.
 pub(crate) fn reply_text(alloc: Global, conn: u32, reply: &RMessage) -> Result<String, AllocError>
     requires { Fits (r_view reply.now) }
     ensures { IfOk result (λ text. string_bytes text ≡ reply_text conn (r_view reply.now)) }
@@ -23,30 +24,29 @@ pub(crate) fn reply_text(alloc: Global, conn: u32, reply: &RMessage) -> Result<S
     format!(in alloc; "{conn} {digits}\n")
 }
 
-/// The line of a hang-up.
+/// The line of a hang-up: the connection's number and `closed`.
 pub(crate) fn closed_text(alloc: Global, conn: u32) -> Result<String, AllocError>
     ensures { IfOk result (λ text. string_bytes text ≡ closed_text conn) }
 {
     format!(in alloc; "{conn} closed\n")
 }
 
-/// The line of a users file that is taken.
+/// The line of a users file that was loaded: `reloaded`.
 pub(crate) fn reloaded_text(alloc: Global) -> Result<String, AllocError>
     ensures { IfOk result (λ text. string_bytes text ≡ reloaded_text) }
 {
     String::from_str(alloc, "reloaded\n")
 }
 
-/// The line of a users file that is refused.
+/// The line of a users file that was not loaded: `reload refused` and the fault.
 pub(crate) fn refused_text(alloc: Global, fault: UsersFault) -> Result<String, AllocError>
     ensures { IfOk result (λ text. string_bytes text ≡ refused_text fault) }
 {
     format!(in alloc; "reload refused: {fault}\n")
 }
 
-/// Writes a text as the bytes of a stream are written: with no more than 999 interruptions in a
-/// row, and a write that takes no byte is a fault. After a fault some of it, from the front, was
-/// written.
+/// Writes a text to a stream. Up to 999 interruptions in a row are tried again; a write that takes
+/// no byte is a fault. After an error some of the text, from the front, was written, or none.
 pub(crate) fn print<S: Stream>(stream: &mut S, text: &[u8]) -> Result<(), ProgramFault>
     ensures written { Writes result (S.contents stream.old) (S.contents stream.new) text.now }
     ensures fault { IfErr result (BlamesOutput (S.counts stream.old) (S.counts stream.new)) }
@@ -60,7 +60,7 @@ pub(crate) fn print<S: Stream>(stream: &mut S, text: &[u8]) -> Result<(), Progra
     }
 }
 
-/// Writes a text as `print` does, to a writer.
+/// Writes a text to a writer, as `print` does.
 pub fn print_to<W: Write>(out: &mut W, text: &[u8]) -> Result<(), ProgramFault> {
     let mut stream = TwoEnded::new(b"".as_slice(), out);
     print(&mut stream, text)

@@ -5,7 +5,7 @@ ghost use Rattle.cs_stream.specs.Streams.{KeepsFaults, saturating_sum};
 ghost use Rattle.cs_serve.specs.Commands.{Begins, Scripts};
 ghost use Rattle.cs_serve.specs.Written.{Blames};
 
-use crate::ending::ended;
+use crate::ending::exit_status;
 use crate::fault::ProgramFault;
 use crate::inputs::{Inputs, scene_of, users_of};
 use crate::publishing::world_of;
@@ -17,14 +17,15 @@ use cs_world::World;
 use std::alloc::Global;
 use std::io::{Read, Write};
 
-/// The world that the lines of a script are run in, and these lines.
+/// What a script begins with: the world that its lines are run in, and the lines.
 #[derive(Drop)]
 struct Prepared {
     world: World,
     lines: Vec<ScriptLine>,
 }
 
-/// Publishes all states, reads all of the input, and checks every line.
+/// Publishes all states in a new world, reads all of the input, and checks every line of it. Writes
+/// nothing.
 fn prepare<S: Stream>(
     alloc: Global,
     inputs: &Inputs,
@@ -48,8 +49,8 @@ fn prepare<S: Stream>(
 
 /// The command `script` over a stream, which gives the script and takes what it prints: publishes
 /// all states, reads all of the input, checks every line, and then runs the lines one after the
-/// other, with a line of output for each. After a fault nothing was written, or some of what the
-/// first lines print, from the front. Where the inputs ask for it, `err` also gets each message and
+/// other, with a line of output for each. After an error nothing was written, or some of what the
+/// first lines print, from the front. If the inputs ask for it, `err` also gets each message and
 /// its reply as text.
 pub fn script_over<S: Stream, E: Write>(
     alloc: Global,
@@ -74,10 +75,8 @@ pub fn script_over<S: Stream, E: Write>(
     )
 }
 
-/// The command `script`: what `script_over` does, over a reader and a writer. Its status: 0, or 1
-/// if a fault ended it, which one line on `err` reports; what was printed before stays.
-/// Where the inputs ask for it, `err` also gets each message and its reply as text, the
-/// connection's number and `<-` or `->` before them.
+/// The command `script`, over a reader and a writer: what `script_over` does. Returns the exit
+/// status: 0, or 1 if it failed, which one line on `err` reports; what was written before stays.
 pub fn script_of<R: Read, W: Write, E: Write>(
     alloc: Global,
     inputs: &Inputs,
@@ -89,5 +88,5 @@ pub fn script_of<R: Read, W: Write, E: Write>(
 {
     let mut stream = TwoEnded::new(input, &mut *out);
     let done = script_over(alloc, inputs, &mut stream, err);
-    ended(done, out, err)
+    exit_status(done, out, err)
 }

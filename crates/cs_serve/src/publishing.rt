@@ -10,7 +10,8 @@ use cs_world::{Reply, Step, World};
 use std::alloc::Global;
 use std::sync::Arc;
 
-/// Publishes the states of the numbers below this one.
+/// Publishes the states with numbers less than `count`. A publish that is refused ends it, as out
+/// of memory: in a new world of `count` states or more there is no other cause.
 fn publish_each(alloc: Global, world: &mut World, count: u32) -> Result<(), ProgramFault>
     ensures published { OnOk result (world.new ≡ with_first world.old count) }
     ensures fault { IfErr result IsOfNoStream }
@@ -25,8 +26,8 @@ fn publish_each(alloc: Global, world: &mut World, count: u32) -> Result<(), Prog
     Ok(())
 }
 
-/// A world of the scene's states, of which every one is published, for these users. It has no run
-/// yet, and no connection has a session.
+/// A world of the scene's states, all of them published, for these users. It has no run, and no
+/// connection has a session. The only error is Memory.
 pub fn world_of(alloc: Global, scene: Scene, users: Users) -> Result<World, ProgramFault>
     ensures world { IfOk result (λ world. world ≡ served_world scene users) }
     ensures fault { IfErr result IsOfNoStream }

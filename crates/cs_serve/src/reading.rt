@@ -1,4 +1,4 @@
-//! All that a stream gives.
+//! All bytes that a stream gives.
 ghost use Rattle.std.specs.Prelude.{◌≡◌, ◌≤◌, IfErr, IfOk, OnOk};
 ghost use Rattle.std.specs.Io.KnownBytes.{Consumes, IsAtEnd};
 ghost use Rattle.cs_names.specs.declared.limits.TheConstants.{CONNECTION_READS};
@@ -13,9 +13,9 @@ use std::alloc::Global;
 /// How many bytes are read at once.
 const ROOM: usize = 65_536;
 
-/// Reads to the stream's end: its bytes. An interrupted read is tried again, up to 999 in a row:
-/// the thousandth in a row is a fault. There are 4,294,967,295 reads, those that are interrupted
-/// among them.
+/// Reads to the end of the stream, and returns the bytes. An interrupted read is tried again, up to
+/// 999 in a row. The error is Input if a read fails, the thousandth in a row is interrupted, or the
+/// end isn't reached in 4,294,967,295 reads, counting the interrupted ones; or Memory.
 pub(crate) fn read_all<S: Stream>(alloc: Global, stream: &mut S) -> Result<Vec<u8>, ProgramFault>
     ensures bytes { IfOk result (λ bytes.
         Consumes (S.remaining stream.old) (S.remaining stream.new) bytes.items) }
@@ -30,6 +30,7 @@ pub(crate) fn read_all<S: Stream>(alloc: Global, stream: &mut S) -> Result<Vec<u
     let Ok(mut room) = vec![in alloc; 0u8; ROOM] else {
         return Err(ProgramFault::Memory);
     };
+    // reads in a row that were interrupted
     let mut waits = 0;
     for _ in 0..CONNECTION_READS {
         match stream.read(room.as_mut_slice()) {

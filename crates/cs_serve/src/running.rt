@@ -1,4 +1,4 @@
-//! What a script's lines do in a world, and what they print.
+//! What the lines of a script do in a world, and what they print.
 ghost use Rattle.std.specs.Prelude.{◌≡◌, ◌<◌, ◌≤◌, ℕ, IfErr, IfOk, length, List, Ok, OnErr, OnOk};
 ghost use Rattle.std.specs.Prelude.{string_bytes};
 ghost use Rattle.cs_names.specs.declared.limits.TheConstants.{CONNECTIONS};
@@ -10,9 +10,9 @@ ghost use Rattle.cs_stream.specs.Streams.{KeepsFaults, KeepsReads};
 ghost use Rattle.cs_users.specs.Reading.{users_in};
 
 use crate::fault::ProgramFault;
+use crate::message_lines::print_exchange;
 use crate::printing::{closed_text, print, refused_text, reloaded_text, reply_text};
 use crate::script::{Action, ScriptAct, ScriptLine};
-use crate::telling::tell;
 use cs_stream::Stream;
 use cs_users::{Users, UsersFault};
 use cs_wire::{RMessage, decode_request};
@@ -20,8 +20,8 @@ use cs_world::{Reply, Step, World};
 use std::alloc::{AllocError, Global};
 use std::io::Write;
 
-/// Tells a message and its reply as text, if that is asked for.
-fn tell_if<E: Write>(
+/// Prints a message and its reply as text on `err`, if `verbose`.
+fn print_if_verbose<E: Write>(
     alloc: Global,
     conn: u32,
     message: &[u8],
@@ -30,11 +30,12 @@ fn tell_if<E: Write>(
     err: &mut E,
 ) {
     if verbose {
-        tell(conn, &decode_request(alloc, message), &Ok(reply), err);
+        print_exchange(conn, &decode_request(alloc, message), &Ok(reply), err);
     }
 }
 
-/// Answers a message, and returns the line of the reply.
+/// Answers a message, and returns the line of the reply. If `verbose`, both are also printed on
+/// `err`. The only error is that memory for the line runs out; the message was answered then.
 fn send<E: Write>(
     alloc: Global,
     world: &mut World,
@@ -52,11 +53,12 @@ fn send<E: Write>(
         × Acts world.old conn now (Send message.now) text world.new) }
 {
     let reply = world.message(alloc, conn, now, message);
-    tell_if(alloc, conn, message, &reply, verbose, err);
+    print_if_verbose(alloc, conn, message, &reply, verbose, err);
     reply_text(alloc, conn, &reply)
 }
 
-/// Ends a connection, and returns the line that says so.
+/// Ends a connection, and returns the line of the hang-up. The only error is that memory for the
+/// line runs out; the connection has ended then.
 fn hang_up(alloc: Global, world: &mut World, conn: u32, now: u32) -> Result<String, AllocError>
     requires connection { conn < CONNECTIONS }
     ensures ok { IfOk result (λ text.
@@ -67,7 +69,8 @@ fn hang_up(alloc: Global, world: &mut World, conn: u32, now: u32) -> Result<Stri
     closed_text(alloc, conn)
 }
 
-/// Does what a connection does, and returns the line of the outcome.
+/// Does on a connection what a line of the script asks, and returns the line of the outcome. The
+/// only error is that memory for the returned line runs out; what was asked is done then.
 fn act<E: Write>(
     alloc: Global,
     world: &mut World,
@@ -95,8 +98,15 @@ fn act<E: Write>(
     }
 }
 
-/// Gives these users to the runs that are made from here on, and returns the line of the outcome.
-fn load(alloc: Global, world: &mut World, file: &[u8], users: Users) -> Result<String, AllocError>
+/// Gives these users to the runs that are made later, and returns the line of the outcome:
+/// reloaded, or refused because memory ran out. An error is only that memory for the line runs out.
+/// `file`, from which the users were read, is only for the contract.
+fn load_users(
+    alloc: Global,
+    world: &mut World,
+    file: &[u8],
+    users: Users,
+) -> Result<String, AllocError>
     requires { users_in file.now ≡ Ok users }
     ensures ok { IfOk result (λ text. Loaded world.old file.now (string_bytes text) world.new) }
     ensures err { OnErr result ((text : List ℕ) × Loaded world.old file.now text world.new) }
@@ -107,20 +117,22 @@ fn load(alloc: Global, world: &mut World, file: &[u8], users: Users) -> Result<S
     }
 }
 
-/// Has the runs that are made from here on have the users of a users file: the line that it comes
-/// to.
-fn reload(alloc: Global, world: &mut World, file: &[u8]) -> Result<String, AllocError>
+/// Gives the users of a users file to the runs that are made later, and returns the line of the
+/// outcome. A file at fault changes nothing, and its line names the fault. An error is only that
+/// memory for the line runs out.
+fn load_file(alloc: Global, world: &mut World, file: &[u8]) -> Result<String, AllocError>
     ensures ok { IfOk result (λ text. Loaded world.old file.now (string_bytes text) world.new) }
     ensures err { OnErr result ((text : List ℕ) × Loaded world.old file.now text world.new) }
 {
     match Users::read(alloc, file) {
-        Ok(users) => load(alloc, world, file, users),
+        Ok(users) => load_users(alloc, world, file, users),
         Err(fault) => refused_text(alloc, fault),
     }
 }
 
-/// Does what a line asks, and returns the line of the outcome. With `verbose` a message and its
-/// reply are printed on `err` as text.
+/// Does what a line of the script asks, and returns the line of the outcome. If `verbose`, a
+/// message and its reply are also printed on `err`. The only error is that memory for the returned
+/// line runs out; what was asked is done then.
 fn take_line<E: Write>(
     alloc: Global,
     world: &mut World,
@@ -133,11 +145,12 @@ fn take_line<E: Write>(
 {
     match line {
         ScriptLine::Act(asked) => act(alloc, world, asked, verbose, err),
-        ScriptLine::Reload(users) => reload(alloc, world, users.bytes()),
+        ScriptLine::Reload(users) => load_file(alloc, world, users.bytes()),
     }
 }
 
-/// Does what a line asks, and prints the line of the outcome.
+/// Does what a line of the script asks, and prints the line of the outcome. After an error it was
+/// done, but its line was not printed, or only in part.
 fn run_line<S: Stream, E: Write>(
     alloc: Global,
     world: &mut World,
@@ -159,7 +172,8 @@ fn run_line<S: Stream, E: Write>(
     }
 }
 
-/// Runs lines, one after the other; with `verbose` it prints messages and their replies on `err`.
+/// Runs lines, one after the other, until one fails. If `verbose`, messages and their replies are
+/// also printed on `err`.
 pub(crate) fn run_lines<S: Stream, E: Write>(
     alloc: Global,
     world: &mut World,

@@ -1,9 +1,7 @@
-//! A script: what connections send, and the users files that are taken, line by line.
+//! The lines of a script: what connections send and when, and the users files that are loaded.
 ghost use Rattle.std.specs.Prelude.{◌≡◌, ◌≢◌, ◌<◌, ◌≤◌, [], ◌∷◌, ◌++◌, Err, IfErr, IfOk, None, Ok};
 ghost use Rattle.std.specs.Prelude.{OnOk, Some, length, option_map, vec_items};
-ghost use Rattle.std.specs.Char.{is_ascii_digit};
 ghost use Rattle.std.specs.Io.BufRead.{strip_last};
-ghost use Rattle.std.specs.List.{list_all};
 ghost use Rattle.cs_names.specs.declared.limits.TheConstants.{CONNECTIONS};
 ghost use Rattle.cs_serve.specs.declared.fault.ProgramFault.TheVariants.{Memory, Script};
 ghost use Rattle.cs_serve.specs.Scripts.{act_from, action_in, bytes_in, conn_in, is_decimal};
@@ -11,8 +9,8 @@ ghost use Rattle.cs_serve.specs.Scripts.{line_at, line_in, line_of, number_in, s
 ghost use Rattle.cs_serve.specs.Written.{IsOfNoStream};
 
 use crate::fault::ProgramFault;
-use cs_names::Pieces;
 use cs_names::limits::{CONNECTIONS, MESSAGE_BYTES, SCRIPT_LINES};
+use cs_names::{Pieces, is_all_digits};
 use std::alloc::{AllocError, Global};
 use std::marker::Model;
 
@@ -34,7 +32,7 @@ impl Model for ScriptConn {
 }
 
 impl ScriptConn {
-    /// The number.
+    /// The number: less than CONNECTIONS.
     pub fn number(&self) -> u32
         ensures value { result ≡ self.now }
         ensures few { result < CONNECTIONS }
@@ -60,7 +58,7 @@ impl Model for ScriptMessage {
 }
 
 impl ScriptMessage {
-    /// Its bytes.
+    /// The bytes of the message.
     pub fn bytes(&self) -> &[u8]
         ensures value { result.now ≡ self.now }
         ensures whole { 7 ≤ length result.now }
@@ -84,7 +82,7 @@ impl Model for ScriptUsers {
 }
 
 impl ScriptUsers {
-    /// Its bytes.
+    /// The bytes of the file.
     pub fn bytes(&self) -> &[u8]
         ensures { result.now ≡ self.now }
     {
@@ -92,14 +90,14 @@ impl ScriptUsers {
     }
 }
 
-/// What is done on a connection.
+/// What is done on a connection: a message is sent, or the connection ends.
 #[derive(Debug, Drop)]
 pub enum Action {
     Send(ScriptMessage),
     HangUp,
 }
 
-/// That action on that connection, at that moment, in seconds since 1970.
+/// An action on a connection at a moment, in seconds since 1970.
 #[derive(Debug, Drop)]
 pub struct ScriptAct {
     pub conn: ScriptConn,
@@ -112,29 +110,23 @@ pub struct ScriptAct {
 pub enum ScriptLine {
     /// A connection does something.
     Act(ScriptAct),
-    /// The runs that are made from here on have the users of that file.
+    /// The runs that are made later have the users of that file.
     Reload(ScriptUsers),
 }
 
 /// The fewest bytes of a message.
 const LEAST_MESSAGE: usize = 7;
 
-/// Whether each byte is a digit, as it is of no bytes.
-fn has_digits_alone(text: &[u8]) -> bool
-    ensures { result ≡ list_all is_ascii_digit text.now }
-{
-    text.iter().all(|c| c.is_ascii_digit())
-}
-
-/// Whether there is one digit or more, and nothing else.
+/// Whether the text is one digit or more, and nothing else.
 fn is_decimal(text: &[u8]) -> bool
     ensures { result ≡ is_decimal text.now }
 {
-    !text.is_empty() && has_digits_alone(text)
+    !text.is_empty() && is_all_digits(text)
 }
 
-/// A number of 32 bits, of nothing but digits.
-fn number(text: &[u8]) -> Option<u32>
+/// The number of 32 bits that decimal digits spell; None if there is another byte or no digit, or
+/// it is too large.
+fn read_number(text: &[u8]) -> Option<u32>
     ensures { result ≡ number_in text.now }
 {
     if !is_decimal(text) {
@@ -146,18 +138,18 @@ fn number(text: &[u8]) -> Option<u32>
     }
 }
 
-/// The number of a connection.
-fn conn(text: &[u8]) -> Option<ScriptConn>
+/// The number of a connection that decimal digits spell; None unless it is less than CONNECTIONS.
+fn read_conn(text: &[u8]) -> Option<ScriptConn>
     ensures { result ≡ conn_in text.now }
 {
-    let number = number(text)?;
+    let number = read_number(text)?;
     if number >= CONNECTIONS {
         return None;
     }
     Some(ScriptConn { number })
 }
 
-/// The bytes that the hexadecimal digits spell, at least so many; None if they spell none.
+/// The bytes that hexadecimal digits spell; None if they spell none, or fewer than `least`.
 fn bytes_of(alloc: Global, least: usize, digits: &[u8]) -> Result<Option<Vec<u8>>, AllocError>
     ensures { IfOk result (λ bytes. option_map vec_items bytes ≡ bytes_in least digits.now) }
 {
@@ -173,8 +165,9 @@ fn bytes_of(alloc: Global, least: usize, digits: &[u8]) -> Result<Option<Vec<u8>
     }
 }
 
-/// The message that the hexadecimal digits spell, or None if they spell none.
-fn message(alloc: Global, digits: &[u8]) -> Result<Option<ScriptMessage>, AllocError>
+/// The message that hexadecimal digits spell; None if they spell none, fewer than 7 bytes, or more
+/// than MESSAGE_BYTES.
+fn read_message(alloc: Global, digits: &[u8]) -> Result<Option<ScriptMessage>, AllocError>
     ensures { IfOk result (λ message. message ≡ sent_in digits.now) }
 {
     if digits.len() > 2 * MESSAGE_BYTES as usize {
@@ -186,8 +179,9 @@ fn message(alloc: Global, digits: &[u8]) -> Result<Option<ScriptMessage>, AllocE
     }
 }
 
-/// The users file that the hexadecimal digits spell, or None if they spell none.
-fn users(alloc: Global, digits: &[u8]) -> Result<Option<ScriptUsers>, AllocError>
+/// The users file that hexadecimal digits spell; None if they spell none, or no byte. What is in
+/// the file is read only when the line runs.
+fn read_users(alloc: Global, digits: &[u8]) -> Result<Option<ScriptUsers>, AllocError>
     ensures { IfOk result (λ users. users ≡ bytes_in 1 digits.now) }
 {
     match bytes_of(alloc, 1, digits)? {
@@ -196,21 +190,21 @@ fn users(alloc: Global, digits: &[u8]) -> Result<Option<ScriptUsers>, AllocError
     }
 }
 
-/// What a word asks: `hangup`, or a message in hexadecimal; None if it asks nothing.
+/// What a word asks: `hangup`, or a message in hexadecimal; None if it is neither.
 fn read_action(alloc: Global, word: &[u8]) -> Result<Option<Action>, AllocError>
     ensures { IfOk result (λ action. action ≡ action_in word.now) }
 {
     if word == b"hangup".as_slice() {
         return Ok(Some(Action::HangUp));
     }
-    match message(alloc, word)? {
+    match read_message(alloc, word)? {
         Some(message) => Ok(Some(Action::Send(message))),
         None => Ok(None),
     }
 }
 
-/// What a connection does by these words: its number, a moment, and `hangup` or a message
-/// in hexadecimal; None if they ask for none.
+/// What three words ask of a connection: its number, a moment, and an action; None if one of them
+/// is wrong.
 fn read_act(
     alloc: Global,
     first: &[u8],
@@ -220,7 +214,7 @@ fn read_act(
     ensures { IfOk result (λ line. line
         ≡ act_from (conn_in first.now) (number_in second.now) (action_in third.now)) }
 {
-    let (Some(conn), Some(moment)) = (conn(first), number(second)) else {
+    let (Some(conn), Some(moment)) = (read_conn(first), read_number(second)) else {
         return Ok(None);
     };
     match read_action(alloc, third)? {
@@ -233,22 +227,21 @@ fn read_act(
     }
 }
 
-/// The list of users that the words ask for: `reload` and a users file in hexadecimal; None where
-/// they ask for none.
+/// What two words ask: `reload`, and a users file in hexadecimal; None if one of them is wrong.
 fn read_reload(alloc: Global, first: &[u8], second: &[u8]) -> Result<Option<ScriptLine>, AllocError>
     ensures { IfOk result (λ line. line ≡ line_of (first.now ∷ second.now ∷ [])) }
 {
     if first != b"reload".as_slice() {
         return Ok(None);
     }
-    match users(alloc, second)? {
+    match read_users(alloc, second)? {
         Some(users) => Ok(Some(ScriptLine::Reload(users))),
         None => Ok(None),
     }
 }
 
-/// The line that the text spells, with one space between its words: what a connection does, or
-/// `reload` and a users file; None if it spells none.
+/// The line that the text spells, with one space between its words: three words for a connection,
+/// or two for a reload; None if it spells neither.
 fn read_line(alloc: Global, text: &[u8]) -> Result<Option<ScriptLine>, AllocError>
     ensures { IfOk result (λ line. line ≡ line_in text.now) }
 {
@@ -268,7 +261,7 @@ fn read_line(alloc: Global, text: &[u8]) -> Result<Option<ScriptLine>, AllocErro
     }
 }
 
-/// The bytes without the line feed at their end, if they end so.
+/// The bytes without the line feed at their end; all of them if they don't end with one.
 fn without_last_feed(bytes: &[u8]) -> &[u8]
     ensures value { result.now ≡ strip_last 10 bytes.now }
     ensures shorter { length result.now ≤ length bytes.now }
@@ -279,8 +272,9 @@ fn without_last_feed(bytes: &[u8]) -> &[u8]
     }
 }
 
-/// Keeps the line of this number.
-fn keep_line(
+/// Appends the line of that number, which the text spells. The error is Script if the number is
+/// past SCRIPT_LINES or the text spells no line, or Memory.
+fn push_line(
     alloc: Global,
     lines: &mut Vec<ScriptLine>,
     number: usize,
@@ -307,9 +301,9 @@ fn keep_line(
     Ok(())
 }
 
-/// The lines of a script, or the first line that is none: one past the limit is none, and so is an
-/// empty one. The line feed at the end of the script makes no line. The fault is Memory if an
-/// allocation fails before such a line.
+/// The lines of a script. The line feed at the end of the script makes no line. The error is Script
+/// at the first line that spells none: an empty one spells none, nor does one past the limit; or
+/// Memory if an allocation fails before such a line.
 pub fn read_script(alloc: Global, bytes: &[u8]) -> Result<Vec<ScriptLine>, ProgramFault>
     ensures read { IfOk result (λ lines. script_in bytes.now ≡ Ok lines.items) }
     ensures fault { IfErr result (λ fault. fault ≢ Memory → script_in bytes.now ≡ Err fault) }
@@ -321,7 +315,7 @@ pub fn read_script(alloc: Global, bytes: &[u8]) -> Result<Vec<ScriptLine>, Progr
     }
     let mut before = 0;
     for text in Pieces::of(without_last_feed(bytes), b'\n') {
-        if let Err(fault) = keep_line(alloc, &mut lines, before + 1, text) {
+        if let Err(fault) = push_line(alloc, &mut lines, before + 1, text) {
             return Err(fault);
         }
         before += 1;

@@ -1,7 +1,8 @@
 -- An entry of a table that takes the place of another.
-use Rattle.std.proofs.Common.{◌≡◌, ◌≢◌, ◌∙◌, ℕ, ◌-◌, ◌<◌, arith, Bool, true, false, cond, Option, None, Some, refl, sym, ap}
-use Rattle.std.specs.Prelude.{IfOk, Ok, is_some, option_and_then}
+use Rattle.std.proofs.Common.{◌≡◌, ◌≢◌, ◌∙◌, ℕ, ◌-◌, ◌<◌, arith, Bool, true, false, cond, Option, None, Some, Result, refl, sym, ap, rules}
+use Rattle.std.specs.Prelude.{IfOk, IsOk, IsSome, Ok, is_some, option_and_then}
 use Rattle.std.specs.Option.{ok_or}
+use Rattle.cs_fids.specs.declared.fault.FidFault.{FidFault}
 use Rattle.cs_fids.specs.declared.fault.FidFault.TheVariants.{Unknown}
 use Rattle.std.specs.Ordering.{nat_cmp, eq_by_cmp}
 use Rattle.std.specs.Cmp.{nat_cmp_total, eq_by_cmp_equiv}
@@ -63,11 +64,22 @@ module _ (old mid new : FidMap) (fid number mode open_number : ℕ) where
       is ∙ ap (λ (x : FidMap). insert x fid (entry.Opened (opened_fid (moved_to f number) mode open_number))) m ∙ insert_again old fid
       (entry.Walked (moved_to f number)) (entry.Opened (opened_fid (moved_to f number) mode open_number))
 
-  -- a fid that was moved in its place, and then opened
-  pub opens : (o : Option FidEntry) → FailsAs {A = Unit {0}} (Ok tt) (walked_in o)
+  -- a fid that was moved in its place can be opened
+  pub can_open : {A : Type 0} (opened : Result A FidFault) (o : Option FidEntry) → IsSome (option_and_then as_walked o)
+      → IfOk (walked_in o) (λ w. mid ≡ insert old fid (entry.Walked (moved_to w number)))
+      → FailsAs opened (walked_in (get mid fid)) → IsOk opened
+  can_open opened None h m f = absurd (search rules)
+  can_open opened (Some (entry.Opened x)) h m f = absurd (search rules)
+  can_open opened (Some (entry.Walked x)) h m f =
+      let there : get mid fid ≡ Some (entry.Walked (moved_to x number)) =
+      ap (λ (y : FidMap). get y fid) m ∙ get_inserted old fid (entry.Walked (moved_to x number)) in
+      rw there at f
+
+  -- and is then open
+  pub opens : (o : Option FidEntry) → IsSome (option_and_then as_walked o)
       → IfOk (walked_in o) (λ w. mid ≡ insert old fid (entry.Walked (moved_to w number)))
       → IfOk (walked_in (get mid fid)) (λ w. new ≡ insert mid fid (entry.Opened (opened_fid w mode open_number)))
       → new ≡ open_left old fid (option_and_then as_walked o) mode open_number number
-  opens None f m o = absurd (cc)
-  opens (Some (entry.Opened x)) f m o = absurd (cc)
-  opens (Some (entry.Walked x)) f m o = reopened x m o
+  opens None h m o = absurd (search rules)
+  opens (Some (entry.Opened x)) h m o = absurd (search rules)
+  opens (Some (entry.Walked x)) h m o = reopened x m o

@@ -1,4 +1,5 @@
-//! What a connection answers to a whole message, by its steps.
+//! How a connection answers a message: it takes the message's steps, one after the other. A
+//! message's bytes are in `receiving`, each step is in `session`.
 ghost use Rattle.std.specs.Prelude.{◌≡◌, None, true};
 ghost use Rattle.cs_fids.specs.Tables.{least_open};
 ghost use Rattle.cs_session.specs.declared.message.Message.{Message};
@@ -17,7 +18,8 @@ use cs_names::Text;
 use std::alloc::Global;
 
 impl Session {
-    /// Closes every open fid, the least first.
+    /// Closes every open fid, the least number first, whatever the runs answer. The other fids
+    /// stay.
     fn close_all<P: Port>(&mut self, alloc: Global, port: &mut P, now: u32)
         requires { self.old.awaited ≡ None }
         ensures closed { least_open self.new.fids ≡ None }
@@ -32,9 +34,9 @@ impl Session {
         }
     }
 
-    /// Finds the run of an attach, and attaches to it. The reply is that of the first of the two
-    /// steps that is refused, or of the attach.
-    fn attach<P: Port>(
+    /// Answers an attach: finds its run, and then attaches to it. If the find is refused, that is
+    /// the reply. No run awaits its attach afterwards.
+    fn answer_attach<P: Port>(
         &mut self,
         alloc: Global,
         port: &mut P,
@@ -53,8 +55,9 @@ impl Session {
         }
     }
 
-    /// Closes a fid that is open, or frees one that isn't.
-    fn clunk<P: Port>(&mut self, alloc: Global, port: &mut P, now: u32, fid: u32) -> Reply
+    /// Answers a clunk: closes the fid if it is open, else frees it. S1 if no session has begun,
+    /// and then N1 if there is no such fid.
+    fn answer_clunk<P: Port>(&mut self, alloc: Global, port: &mut P, now: u32, fid: u32) -> Reply
         requires { self.old.awaited ≡ None }
         ensures answered { IsAnswered P.gives now (m.Clunk fid) self.old port.old result self.new
             port.new }
@@ -67,8 +70,10 @@ impl Session {
         self.table_step(port, now, TableStep::Clunk(fid))
     }
 
-    /// Closes every open fid, the least first, and then begins a session, or none (version(5)).
-    fn version<P: Port>(
+    /// Answers a version: closes every open fid, the least number first, and frees all fids. Then
+    /// it begins a session; it begins none if the version isn't spoken or the message size is too
+    /// small (version(5)).
+    fn answer_version<P: Port>(
         &mut self,
         alloc: Global,
         port: &mut P,
@@ -86,8 +91,8 @@ impl Session {
         self.table_step(port, now, TableStep::Version { msize, version })
     }
 
-    /// Ends the connection: closes every open fid, the least first, and frees all. Whatever the
-    /// replies to the closes are, it ends.
+    /// Ends the connection: closes every open fid, the least number first, and then frees all fids
+    /// and ends the session. It ends whatever the runs answer.
     pub fn hang_up<P: Port>(&mut self, alloc: Global, port: &mut P, now: u32)
         requires { self.old.awaited ≡ None }
         ensures answered { IsAnswered P.gives now m.HangUp self.old port.old r.Closed self.new
@@ -98,8 +103,8 @@ impl Session {
         let _closed = self.table_step(port, now, TableStep::HangUp);
     }
 
-    /// Answers a message by its steps: the first rule that fails, or out of memory, or what the
-    /// port answered.
+    /// Answers a message by its steps. The reply is that of the last step that was taken: what it
+    /// grants, the first rule that fails, or out of memory.
     pub fn answer<P: Port>(
         &mut self,
         alloc: Global,
@@ -114,10 +119,12 @@ impl Session {
         ensures idle { self.new.awaited ≡ None }
     {
         match message {
-            Message::Version { msize, version } => self.version(alloc, port, now, msize, version),
-            Message::Attach(message) => self.attach(alloc, port, now, message),
+            Message::Version { msize, version } => self.answer_version(
+                alloc, port, now, msize, version,
+            ),
+            Message::Attach(message) => self.answer_attach(alloc, port, now, message),
             Message::Call(message) => self.call_step(alloc, port, now, message),
-            Message::Clunk(fid) => self.clunk(alloc, port, now, fid),
+            Message::Clunk(fid) => self.answer_clunk(alloc, port, now, fid),
             Message::HangUp => {
                 self.hang_up(alloc, port, now);
                 Reply::Closed

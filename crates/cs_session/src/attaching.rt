@@ -1,4 +1,5 @@
-//! Attaches: a run is found, and then attached to (attach(5)).
+//! The two steps of an attach: its run is found, and then its user is attached to the run
+//! (attach(5)).
 ghost use Rattle.std.specs.Prelude.{◌≡◌, ◌≢◌, ◌<◌, ◌≤◌, false, IfErr, IfOk, IsOk, None};
 ghost use Rattle.std.specs.FinMap.{get};
 ghost use Rattle.cs_session.specs.Attaches.{attach_settled, find_decision, find_refusal};
@@ -8,16 +9,17 @@ ghost use Rattle.cs_session.specs.Names.{user_in};
 ghost use Rattle.cs_session.specs.Questions.{FindRun};
 ghost use Rattle.cs_session.specs.Sizes.{IsPlain};
 
+use crate::fid_changes::put_new;
 use crate::message::AttachMessage;
-use crate::question::{first_of, refusal};
+use crate::question::{first_failing_rule, refusal};
 use crate::reply::Reply;
-use cs_fids::{Fid, FidEntry, FidTable, NOFID};
+use cs_fids::{Fid, FidTable, NOFID};
 use cs_names::{NameFault, RuleId, UserName};
 use cs_permit::{FindFault, PassFault, Request, TreeName};
 use cs_run::Answer;
 use std::alloc::Global;
 
-/// The user's name that a text is; None if it is no user's name. The only fault is Memory.
+/// The user's name that the text is; None if it can't be a user's name. The only error is Memory.
 fn user_in(alloc: Global, uname: &str) -> Result<Option<UserName>, NameFault>
     ensures { IfOk result (λ user. user ≡ user_in uname.now) }
 {
@@ -28,19 +30,20 @@ fn user_in(alloc: Global, uname: &str) -> Result<Option<UserName>, NameFault>
     }
 }
 
-/// The run that the find of an attach asks for, and the name of its user, if it is one; or the
-/// reply that refuses it. It makes room in the table for the fid.
+/// The name of the run that an attach asks for, and the name of its user: None if the text can't be
+/// one, which is refused only once the run has answered. An error is the reply that refuses the
+/// find. No fid changes; after `Ok` the table has room for the attach's fid.
 pub(crate) fn decide_find<'a>(
     alloc: Global,
-    awaits: bool,
+    awaits_attach: bool,
     msize: Option<u32>,
     fids: &mut FidTable,
     message: &'a AttachMessage,
 ) -> Result<(TreeName<'a>, Option<UserName>), Reply>
     ensures decided { Decides (λ a. FindRun a.0.state.now a.0.run.now)
-        (find_decision awaits msize fids.old.fids message.now) result }
+        (find_decision awaits_attach msize fids.old.fids message.now) result }
     ensures plain { IfErr result IsPlain }
-    ensures idle { IsOk result → awaits ≡ false }
+    ensures idle { IsOk result → awaits_attach ≡ false }
     ensures user { IfOk result (λ a. a.1 ≡ user_in message.now.uname) }
     ensures named { IsOk result → message.now.fid ≢ NOFID }
     ensures free { IsOk result → get fids.old.fids message.now.fid ≡ None }
@@ -53,7 +56,7 @@ pub(crate) fn decide_find<'a>(
         afid: message.afid,
         aname: message.aname.as_str(),
     };
-    if let Some(rule) = first_of(awaits, msize, &request, fids) {
+    if let Some(rule) = first_failing_rule(awaits_attach, msize, &request, fids) {
         return Err(Reply::Error(rule));
     }
     if fids.reserve().is_err() {
@@ -64,11 +67,12 @@ pub(crate) fn decide_find<'a>(
     };
     match TreeName::read(message.aname.as_str().as_bytes()) {
         Some(name) => Ok((name, user)),
-        None => Err(Reply::Error(RuleId::S5)),
+        // the rules refuse a text that can't name a run
+        None => unreachable!(),
     }
 }
 
-/// The reply if no run was found.
+/// The reply to an attach whose run was not found: A4, A5 or out of memory.
 pub(crate) fn find_refusal(fault: FindFault) -> Reply
     ensures value { result ≡ find_refusal fault }
     ensures plain { IsPlain result }
@@ -80,7 +84,7 @@ pub(crate) fn find_refusal(fault: FindFault) -> Reply
     }
 }
 
-/// The reply if a run gave no pass.
+/// The reply to an attach for which the run gave no pass: A5, S5 or out of memory.
 pub(crate) fn pass_refusal(fault: PassFault) -> Reply
     ensures value { result ≡ pass_refusal fault }
     ensures plain { IsPlain result }
@@ -92,8 +96,9 @@ pub(crate) fn pass_refusal(fault: PassFault) -> Reply
     }
 }
 
-/// The reply to an attach whose run gave a pass. If it is granted, the fid is that of the root,
-/// which takes no memory; A6 if the text that named the user is no user's name.
+/// The reply to an attach for which the run gave a pass. If the run grants it, the fid is added and
+/// is the run's root; but A6, and no fid is added, if the client's text is no user's name. It takes
+/// no memory.
 pub(crate) fn settle_attach(
     fids: &mut FidTable,
     fid: u32,
@@ -112,7 +117,7 @@ pub(crate) fn settle_attach(
     match answer {
         Answer::Attached(qid) => match user {
             Some(user) => {
-                let _put = fids.put(fid, FidEntry::Walked(Fid::new(run, pass, 0, user)));
+                put_new(fids, fid, Fid::new(run, pass, 0, user));
                 Reply::Attach(qid)
             }
             None => Reply::Error(RuleId::A6),

@@ -4,7 +4,8 @@ use cs_names::{Text, UserName};
 use std::marker::Model;
 
 /// A run that was found, and awaits its attach. Contracts see the fid and the call of the attach,
-/// and the run's place. The user's name is here twice, so that the attach takes no memory.
+/// and the run's place in the port. The user's name is here as the client's text, for the run, and
+/// as a name (None if the text can't be one), so that the attach takes no memory.
 #[derive(Debug, Drop)]
 pub(crate) struct AwaitedRun {
     pub(crate) fid: u32,

@@ -2,6 +2,6 @@
 
 /// A clock, in seconds since 1970. A moment may come before an earlier one.
 pub trait Clock {
-    /// This moment.
+    /// The time now, in seconds since 1970.
     fn now(&mut self) -> u32;
 }

@@ -13,24 +13,24 @@ use cs_names::RuleId;
 use cs_permit::{Call, CloseCall};
 use cs_run::Answer;
 
-/// What the close of an open fid asks its run, and the fid is free then. S5, and the fids stay as
-/// they were, if the fid isn't open or a run awaits its attach. It takes no memory.
+/// What the close of an open fid asks its run; the fid is free afterwards. S5, and no fid changes,
+/// if the fid isn't open or a run awaits its attach. It takes no memory.
 pub(crate) fn decide_close(
-    awaits: bool,
+    awaits_attach: bool,
     fids: &mut FidTable,
     now: u32,
     fid: u32,
 ) -> Result<RunQuestion<'static>, Reply>
-    ensures decided { Decides question_of (λ _. close_decision now awaits fids.old.fids fid)
+    ensures decided { Decides question_of (λ _. close_decision now awaits_attach fids.old.fids fid)
         result }
     ensures plain { IfErr result IsPlain }
-    ensures idle { IsOk result → awaits ≡ false }
-    ensures opened { awaits ≡ false → IsOk (opened_in (fid_at fids.old fid)) → IsOk result }
+    ensures idle { IsOk result → awaits_attach ≡ false }
+    ensures opened { awaits_attach ≡ false → IsOk (opened_in (fid_at fids.old fid)) → IsOk result }
     ensures taken { OnOk result (fids.new.fids ≡ remove fids.old.fids fid) }
     ensures fewer { OnOk result (len fids.new.fids < len fids.old.fids) }
     ensures unchanged { OnErr result (fids.new ≡ fids.old) }
 {
-    if awaits || fids.get_opened(fid).is_err() {
+    if awaits_attach || fids.get_opened(fid).is_err() {
         return Err(Reply::Error(RuleId::S5));
     }
     match fids.take_any(fid) {
@@ -42,12 +42,13 @@ pub(crate) fn decide_close(
             });
             Ok(RunQuestion::new(now, run, pass, call))
         }
+        // the fid is open, as the test above found
         Ok(FidEntry::Walked(_)) => unreachable!(),
         Err(_) => unreachable!(),
     }
 }
 
-/// The reply to a close.
+/// The reply to a close that the run answered: Clunk, or the refusal.
 pub(crate) fn close_reply(answer: Answer) -> Reply
     ensures value { result ≡ close_reply answer }
     ensures plain { IsPlain result }

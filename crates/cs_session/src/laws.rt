@@ -34,7 +34,8 @@ pub fn own_denials_are_the_first_rule()
         → IsFirstToFail (own_rules now session step) rule }
 {}
 
-/// A message is its steps, one after the other, each with its mark, and the last one's reply.
+/// A message is its steps, one after the other, each with its mark; its reply is the last step's.
+/// The port is an argument only for its type.
 pub fn message_is_steps<P: Port>(_port: &P)
     ensures { (now : ℕ) (message : Message) (marks : List OwnMark) (s t : SessionState) (p q : P)
         (reply : Reply) → Answers P.gives now message marks s p reply t q

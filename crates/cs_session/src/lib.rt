@@ -1,5 +1,6 @@
-//! A connection: each message is a few steps, and each step asks its port at most one question.
-//! A stream of messages is served to its end, with its replies in order.
+//! A connection of a client, from the bytes of its messages to the bytes of its replies. Each
+//! message is a few steps, and each step asks the connection's port at most one question. The laws
+//! of these steps are here too. The ports themselves are in the crates that keep runs.
 #![tactic(auto)]
 
 mod answering;
@@ -7,6 +8,7 @@ mod attaching;
 mod awaited;
 pub mod clock;
 mod closing;
+mod fid_changes;
 pub mod laws;
 pub mod message;
 mod opening;

@@ -1,4 +1,4 @@
-//! A client's messages to its session, as plain values.
+//! A client's messages to its session, as plain values. Their bytes are decoded in `receiving`.
 ghost use Rattle.std.specs.Prelude.{◌≡◌, IfOk};
 
 use cs_names::{Text, Texts};
@@ -61,7 +61,7 @@ pub struct WstatMessage {
     pub stat: SentStat,
 }
 
-/// A message that makes one call on a fid's run.
+/// A message that makes one call on the run of a fid.
 #[derive(Debug, Drop)]
 pub enum CallMessage<'a> {
     Walk(WalkMessage),
@@ -69,29 +69,29 @@ pub enum CallMessage<'a> {
     Create(CreateMessage),
     Read(ReadMessage),
     Write(WriteMessage<'a>),
-    /// The fid.
+    /// The fid's number.
     Remove(u32),
-    /// The fid.
+    /// The fid's number.
     Stat(u32),
     Wstat(WstatMessage),
 }
 
-/// A change of the connection's own table (version(5), clunk(5)).
+/// A step that changes only the connection's fids and its session (version(5), clunk(5)).
 #[derive(Debug, Drop)]
 pub enum TableStep {
     Version { msize: u32, version: Text },
-    /// A fid that isn't open.
+    /// The number of a fid that isn't open.
     Clunk(u32),
     HangUp,
 }
 
-/// What a session answers by its steps.
+/// A message as a session answers it, by one step or several.
 #[derive(Debug, Drop)]
 pub enum Message<'a> {
     Version { msize: u32, version: Text },
     Attach(AttachMessage),
     Call(CallMessage<'a>),
-    /// The fid.
+    /// The fid's number, of an open fid or another.
     Clunk(u32),
     /// The connection ends.
     HangUp,
@@ -146,7 +146,7 @@ impl<'a> CallMessage<'a> {
 }
 
 impl TableStep {
-    /// A copy of the change.
+    /// A copy of the step.
     pub fn try_clone(&self) -> Result<TableStep, AllocError>
         ensures { IfOk result (λ copy. copy ≡ self.now) }
     {

@@ -1,5 +1,5 @@
 //! Opens and creates (open(5)).
-ghost use Rattle.std.specs.Prelude.{◌≡◌, false, IfErr, IsOk};
+ghost use Rattle.std.specs.Prelude.{◌≡◌, false, IfErr, IsOk, IsSome};
 ghost use Rattle.cs_session.specs.declared.message.CallMessage.TheVariants as call;
 ghost use Rattle.cs_session.specs.Calls.{call_decision};
 ghost use Rattle.cs_session.specs.Decisions.{Decides, question_of, walked_at};
@@ -7,41 +7,38 @@ ghost use Rattle.cs_session.specs.Sizes.{IsPlain};
 ghost use Rattle.cs_session.specs.Opens.{create_after, open_after, open_left};
 
 use crate::message::{CreateMessage, OpenMessage};
-use crate::question::{RunQuestion, first_of, refusal};
+use crate::question::{RunQuestion, first_failing_rule, refusal};
 use crate::reply::Reply;
 use cs_fids::{FidEntry, FidTable};
-use cs_names::{Name, RuleId};
-use cs_permit::mode::is_bad_open_mode;
+use cs_names::Name;
 use cs_permit::{Call, CreateCall, OpenCall, Request};
 use cs_run::Answer;
 
-/// What an open asks the fid's run, or the reply that refuses it.
+/// What an open asks the run of its fid. An error is the reply that refuses it.
 pub(crate) fn decide_open(
-    awaits: bool,
+    awaits_attach: bool,
     msize: Option<u32>,
     fids: &FidTable,
     now: u32,
     message: OpenMessage,
 ) -> Result<RunQuestion<'static>, Reply>
     ensures decided { Decides question_of
-        (call_decision now awaits msize fids.now.fids (call.Open message)) result }
+        (call_decision now awaits_attach msize fids.now.fids (call.Open message)) result }
     ensures plain { IfErr result IsPlain }
-    ensures idle { IsOk result → awaits ≡ false }
+    ensures idle { IsOk result → awaits_attach ≡ false }
+    ensures walked { IsOk result → IsSome (walked_at fids.now.fids message.fid) }
 {
-    if awaits {
-        return Err(Reply::Error(RuleId::S5));
-    }
-    if msize.is_none() {
-        return Err(Reply::Error(RuleId::S1));
-    }
-    let fid = match fids.look(message.fid) {
-        Some(FidEntry::Walked(fid)) => fid,
-        Some(FidEntry::Opened(_)) => return Err(Reply::Error(RuleId::O2)),
-        None => return Err(Reply::Error(RuleId::O1)),
+    let request = Request::Open {
+        fid: message.fid,
+        mode: message.mode,
     };
-    if is_bad_open_mode(message.mode) {
-        return Err(Reply::Error(RuleId::O3));
+    if let Some(rule) = first_failing_rule(awaits_attach, msize, &request, fids) {
+        return Err(Reply::Error(rule));
     }
+    let Some(FidEntry::Walked(fid)) = fids.look(message.fid) else {
+        // the rules refuse a fid that is open or isn't there
+        unreachable!()
+    };
     let Ok(user) = fid.user().try_clone() else {
         return Err(Reply::Memory);
     };
@@ -53,18 +50,19 @@ pub(crate) fn decide_open(
     Ok(RunQuestion::new(now, fid.run(), fid.pass(), call))
 }
 
-/// What a create asks the run of its directory's fid, or the reply that refuses it.
+/// What a create asks the run of its directory's fid. An error is the reply that refuses it.
 pub(crate) fn decide_create(
-    awaits: bool,
+    awaits_attach: bool,
     msize: Option<u32>,
     fids: &FidTable,
     now: u32,
     message: CreateMessage,
 ) -> Result<RunQuestion<'static>, Reply>
     ensures decided { Decides question_of
-        (call_decision now awaits msize fids.now.fids (call.Create message)) result }
+        (call_decision now awaits_attach msize fids.now.fids (call.Create message)) result }
     ensures plain { IfErr result IsPlain }
-    ensures idle { IsOk result → awaits ≡ false }
+    ensures idle { IsOk result → awaits_attach ≡ false }
+    ensures walked { IsOk result → IsSome (walked_at fids.now.fids message.fid) }
 {
     let request = Request::Create {
         fid: message.fid,
@@ -72,14 +70,16 @@ pub(crate) fn decide_create(
         perm: message.perm,
         mode: message.mode,
     };
-    if let Some(rule) = first_of(awaits, msize, &request, fids) {
+    if let Some(rule) = first_failing_rule(awaits_attach, msize, &request, fids) {
         return Err(Reply::Error(rule));
     }
     let Ok(name) = Name::from_text(message.name.into_string()) else {
-        return Err(Reply::Error(RuleId::S5));
+        // the rules refuse an illegal name
+        unreachable!()
     };
     let Some(FidEntry::Walked(fid)) = fids.look(message.fid) else {
-        return Err(Reply::Error(RuleId::S5));
+        // the rules refuse a fid that is open or isn't there
+        unreachable!()
     };
     let Ok(user) = fid.user().try_clone() else {
         return Err(Reply::Memory);
@@ -94,21 +94,22 @@ pub(crate) fn decide_create(
     Ok(RunQuestion::new(now, fid.run(), fid.pass(), call))
 }
 
-/// Makes the fid that of the file, and open, unless it is open already.
+/// Moves a fid that isn't open to the file of that number, and opens it in that mode. The run knows
+/// the open by `open_number`.
 fn open_fid(fids: &mut FidTable, fid: u32, mode: u8, open_number: u32, number: u64)
+    requires { IsSome (walked_at fids.old.fids fid) }
     ensures { fids.new.fids
         ≡ open_left fids.old.fids fid (walked_at fids.old.fids fid) mode open_number number }
 {
-    match fids.move_to(fid, number) {
-        Ok(()) => {
-            let _opened = fids.open(fid, mode, open_number);
-        }
-        Err(_) => {}
-    }
+    // the fid is there, and isn't open
+    fids.move_to(fid, number).unwrap();
+    fids.open(fid, mode, open_number).unwrap();
 }
 
-/// The reply to an open. If it is granted, the fid is open then.
+/// The reply to an open that the run answered. If the run grants it, the fid is open afterwards;
+/// else no fid changes.
 pub(crate) fn settle_open(fids: &mut FidTable, fid: u32, mode: u8, answer: Answer) -> Reply
+    requires { IsSome (walked_at fids.old.fids fid) }
     ensures value { (result, fids.new.fids) ≡ open_after fids.old.fids fid mode answer }
     ensures plain { IsPlain result }
 {
@@ -125,8 +126,10 @@ pub(crate) fn settle_open(fids: &mut FidTable, fid: u32, mode: u8, answer: Answe
     }
 }
 
-/// The reply to a create. If it is granted, the fid is that of the new file, and open.
+/// The reply to a create that the run answered. If the run grants it, the fid is that of the new
+/// file, and open; else no fid changes.
 pub(crate) fn settle_create(fids: &mut FidTable, fid: u32, mode: u8, answer: Answer) -> Reply
+    requires { IsSome (walked_at fids.old.fids fid) }
     ensures value { (result, fids.new.fids) ≡ create_after fids.old.fids fid mode answer }
     ensures plain { IsPlain result }
 {

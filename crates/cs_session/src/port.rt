@@ -1,4 +1,4 @@
-//! What keeps the runs of a connection's fids.
+//! The port of a connection, through which it finds runs, attaches to them and makes calls on them.
 ghost use Rattle.cs_run.specs.Laws.{FitsCall};
 ghost use Rattle.cs_session.specs.Questions.{Question, PortAnswer};
 ghost use Rattle.cs_session.specs.Questions as q;
@@ -8,19 +8,20 @@ use cs_permit::{Call, FindFault, PassFault, TreeName};
 use cs_run::Answer;
 use std::alloc::Global;
 
-/// What keeps each run that a connection found and each pass that it was given; a fid keeps their
-/// places. A port may keep the calls that are made.
+/// The port of a connection. It keeps each run that the connection found and each pass that it was
+/// given; the connection's fids name both by their places in the port.
 pub trait Port {
     /// From this state this question has this answer, and leads to that state.
     ghost gives: { Self → Question → PortAnswer → Self → Type 0 };
 
-    /// Finds the run of that name: its place.
+    /// Finds the run of that name, and returns its place. An error says why none was found.
     fn find(&mut self, alloc: Global, name: &TreeName) -> Result<u32, FindFault>
         ensures { gives self.old (q.FindRun name.now.state.now name.now.run.now)
             (q.FindAnswer result) self.new };
 
-    /// Attaches a user to the run at that place, at that moment, under a new pass: the pass's
-    /// place, and the run's answer. Foreign if there is no run at that place (attach(5)).
+    /// Attaches a user to the run at the place `run`, at the moment `now`, under a new pass: the
+    /// place of the pass, and the run's answer. Foreign if there is no run at that place. After an
+    /// error there is no new pass (attach(5)).
     fn attach(
         &mut self,
         alloc: Global,
@@ -31,8 +32,8 @@ pub trait Port {
         ensures given { gives self.old (q.AttachTo now run (record { user = user }))
             (q.AttachAnswer result) self.new };
 
-    /// Makes a call on the run at the one place, at that moment, under the pass at the other. The
-    /// answer fits the call.
+    /// Makes a call on the run at the place `run`, at the moment `now`, under the pass at the place
+    /// `pass`. The answer has at most the bytes or qids for which the call asks.
     fn call(&mut self, alloc: Global, now: u32, run: u32, pass: u32, call: Call<'_>) -> Answer
         ensures given { gives self.old (q.CallOn now run pass call.entry) (q.CallAnswer result)
             self.new }

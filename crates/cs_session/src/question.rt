@@ -1,4 +1,4 @@
-//! What a step asks a run, once none of the connection's rules refuses it.
+//! What a step asks a run, and the connection's own rules, which come first.
 ghost use Rattle.std.specs.Prelude.{◌≡◌};
 ghost use Rattle.cs_permit.specs.Refusals.{first_failing};
 ghost use Rattle.cs_permit.specs.Table.{table_rules};
@@ -15,7 +15,7 @@ use cs_permit::{Call, Request, first_table_rule};
 use cs_run::Answer;
 use std::alloc::Global;
 
-/// A call on the run at that place, at that moment, under the pass at that place.
+/// A call on the run at one place of the port, under the pass at another, at a moment.
 #[derive(Drop)]
 pub(crate) struct RunQuestion<'a> {
     pub(crate) now: u32,
@@ -25,7 +25,8 @@ pub(crate) struct RunQuestion<'a> {
 }
 
 impl<'a> RunQuestion<'a> {
-    /// The call at the moment `now`, on the run and under the pass at these places of the port.
+    /// The call at the moment `now`, on the run at the place `run` and under the pass at the place
+    /// `pass`.
     pub(crate) fn new(now: u32, run: u32, pass: u32, call: Call<'a>) -> RunQuestion<'a>
         ensures { result ≡ record { now = now; run = run; pass = pass; call = call.entry } }
     {
@@ -37,8 +38,8 @@ impl<'a> RunQuestion<'a> {
         }
     }
 
-    /// Makes the call; the run's answer.
-    pub(crate) fn put<P: Port>(self, alloc: Global, port: &mut P) -> Answer
+    /// Makes the call, and returns the run's answer.
+    pub(crate) fn ask<P: Port>(self, alloc: Global, port: &mut P) -> Answer
         ensures given { P.gives port.old (question_of self.entry) (CallAnswer result) port.new }
         ensures fits { FitsCall self.entry.call result }
     {
@@ -46,19 +47,20 @@ impl<'a> RunQuestion<'a> {
     }
 }
 
-/// The first rule of the connection that the request fails: S5 if a run awaits its attach, S1 if
-/// no session has begun, and then those of its fids. It takes no memory.
+/// The first of the connection's rules that the request fails; None if it fails none. The rules are
+/// S5 if a run awaits its attach, S1 if no session has begun, and then those of its fids. It takes
+/// no memory.
 #[tactic(auto, unfolding(cs_permit::specs::Table::first_table_rule))]
-pub(crate) fn first_of(
-    awaits: bool,
+pub(crate) fn first_failing_rule(
+    awaits_attach: bool,
     msize: Option<u32>,
     request: &Request,
     fids: &FidTable,
 ) -> Option<RuleId>
-    ensures { result
-        ≡ first_failing (after_session awaits msize (table_rules fids.now.fids request.now)) }
+    ensures { result ≡ first_failing
+        (after_session awaits_attach msize (table_rules fids.now.fids request.now)) }
 {
-    if awaits {
+    if awaits_attach {
         return Some(RuleId::S5);
     }
     if msize.is_none() {
@@ -67,7 +69,7 @@ pub(crate) fn first_of(
     first_table_rule(request, fids)
 }
 
-/// The reply to an answer that grants nothing: the rule of a denial, else out of memory.
+/// The reply to an answer that doesn't grant the call: the rule that denies it, else out of memory.
 pub(crate) fn refusal(answer: Answer) -> Reply
     ensures value { result ≡ refusal answer }
     ensures plain { IsPlain result }

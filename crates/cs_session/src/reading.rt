@@ -1,5 +1,6 @@
 //! Reads (read(5)).
-ghost use Rattle.std.specs.Prelude.{◌≡◌, ℕ, ◌≤◌, false, is_some, true, IfErr, IfOk, IsOk, OnErr};
+ghost use Rattle.std.specs.Prelude.{◌≡◌, ℕ, ◌≤◌, false, is_some, true, IfErr, IfOk, IsOk};
+ghost use Rattle.std.specs.Prelude.{IsSome, OnErr};
 ghost use Rattle.std.specs.Prelude.{Option};
 ghost use Rattle.cs_run.specs.Laws.{FitsCall, bytes_in};
 ghost use Rattle.cs_session.specs.declared.message.CallMessage.TheVariants as call;
@@ -10,26 +11,26 @@ ghost use Rattle.cs_session.specs.Sizes.{IsPlain, ReplyFits};
 ghost use Rattle.cs_session.specs.Reads.{read_count, read_after, read_left};
 
 use crate::message::ReadMessage;
-use crate::question::{RunQuestion, refusal};
+use crate::question::{RunQuestion, first_failing_rule, refusal};
 use crate::reply::Reply;
 use cs_fids::{FidEntry, FidTable, Place};
-use cs_names::{Bytes, RuleId};
-use cs_permit::mode::covers_read;
-use cs_permit::{Call, ReadCall};
+use cs_names::Bytes;
+use cs_permit::{Call, ReadCall, Request};
 use cs_run::Answer;
 use std::alloc::AllocError;
 
 /// How many bytes an Rread has besides its data: size, type, tag and count (read(5)).
 pub const READ_OVERHEAD: u32 = 11;
 
-/// The count, but at most as many bytes as an Rread of that message size holds; 0 with no session.
+/// How many bytes a read asks of its run: `count`, but no more than fit in an Rread of that message
+/// size; 0 if no session has begun.
 fn read_count(msize: Option<u32>, count: u32) -> u32
     ensures { result ≡ read_count msize count }
 {
     count.min(msize.unwrap_or(0).saturating_sub(READ_OVERHEAD))
 }
 
-/// A copy of the place. Only its name takes memory.
+/// A copy of the place. It takes memory only if the place has a name.
 fn try_clone_place(place: &Place) -> Result<Place, AllocError>
     ensures ok { IfOk result (λ copy. copy ≡ place.now) }
     ensures memory { OnErr result (is_some place.now.last ≡ true) }
@@ -44,36 +45,31 @@ fn try_clone_place(place: &Place) -> Result<Place, AllocError>
     })
 }
 
-/// What a read asks the fid's run, or the reply that refuses it.
+/// What a read asks the run of its fid. An error is the reply that refuses it.
 pub(crate) fn decide_read(
-    awaits: bool,
+    awaits_attach: bool,
     msize: Option<u32>,
     fids: &FidTable,
     now: u32,
     message: ReadMessage,
 ) -> Result<RunQuestion<'static>, Reply>
     ensures decided { Decides question_of
-        (call_decision now awaits msize fids.now.fids (call.Read message)) result }
+        (call_decision now awaits_attach msize fids.now.fids (call.Read message)) result }
     ensures plain { IfErr result IsPlain }
     ensures fits { IfOk result
         (λ a. (answer : Answer) → FitsCall a.call answer
         → bytes_in answer ≤ read_count msize message.count) }
-    ensures idle { IsOk result → awaits ≡ false }
+    ensures idle { IsOk result → awaits_attach ≡ false }
+    ensures opened { IsOk result → IsSome (opened_at fids.now.fids message.fid) }
 {
-    if awaits {
-        return Err(Reply::Error(RuleId::S5));
+    let request = Request::Read { fid: message.fid };
+    if let Some(rule) = first_failing_rule(awaits_attach, msize, &request, fids) {
+        return Err(Reply::Error(rule));
     }
-    if msize.is_none() {
-        return Err(Reply::Error(RuleId::S1));
-    }
-    let fid = match fids.look(message.fid) {
-        Some(FidEntry::Opened(fid)) => fid,
-        Some(FidEntry::Walked(_)) => return Err(Reply::Error(RuleId::G2)),
-        None => return Err(Reply::Error(RuleId::G1)),
+    let Some(FidEntry::Opened(fid)) = fids.look(message.fid) else {
+        // the rules refuse a fid that isn't open
+        unreachable!()
     };
-    if !covers_read(fid.mode()) {
-        return Err(Reply::Error(RuleId::G2));
-    }
     let Ok(place) = try_clone_place(fid.place()) else {
         return Err(Reply::Memory);
     };
@@ -86,17 +82,22 @@ pub(crate) fn decide_read(
     Ok(RunQuestion::new(now, fid.run(), fid.pass(), call))
 }
 
-/// Keeps the place at which the fid's next read of a directory goes on; None if it stays the same.
-fn go_on_at(fids: &mut FidTable, fid: u32, place: Option<Place>)
+/// Keeps `place` as the one at which the fid's next read of a directory goes on. If it is None, the
+/// fid keeps the place that it has.
+fn keep_next_place(fids: &mut FidTable, fid: u32, place: Option<Place>)
+    requires { IsSome (opened_at fids.old.fids fid) }
     ensures { fids.new.fids ≡ read_left fids.old.fids fid (opened_at fids.old.fids fid) place }
 {
     if let Some(place) = place {
-        let _set = fids.set_place(fid, place);
+        // the fid is open
+        fids.set_place(fid, place).unwrap();
     }
 }
 
-/// The reply to a read. If it is granted, the fid keeps the place at which the next one goes on.
+/// The reply to a read that the run answered. If the run grants it, the fid keeps the place at
+/// which its next read goes on; else no fid changes.
 pub(crate) fn settle_read(fids: &mut FidTable, fid: u32, answer: Answer) -> Reply
+    requires { IsSome (opened_at fids.old.fids fid) }
     ensures value { (result, fids.new.fids) ≡ read_after fids.old.fids fid answer }
     ensures fits { (msize : Option ℕ) (count : ℕ) → bytes_in answer ≤ read_count msize count
         → ReplyFits msize result }
@@ -104,7 +105,7 @@ pub(crate) fn settle_read(fids: &mut FidTable, fid: u32, answer: Answer) -> Repl
     match answer {
         Answer::Data(data) => {
             let (bytes, place) = data.into_parts();
-            go_on_at(fids, fid, place);
+            keep_next_place(fids, fid, place);
             Reply::Read(Bytes::new(bytes))
         }
         answer => refusal(answer),

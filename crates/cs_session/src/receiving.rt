@@ -1,4 +1,5 @@
-//! From a message's bytes to the reply on the wire.
+//! From the bytes of one message to its reply on the wire: the rules before decoding, the decoding,
+//! the session's answer, and the form of the reply.
 ghost use Rattle.std.specs.Option.{ForSome};
 ghost use Rattle.std.specs.Prelude.{◌≡◌, ℕ, ◌≤◌, codes, IfErr, IfOk, length, map, None, Option};
 ghost use Rattle.std.specs.Prelude.{string_bytes};
@@ -28,7 +29,7 @@ use cs_wire::{Qid, RBody, RMessage, Stat, TBody, TKind, TMessage, WireFault, dec
 use std::alloc::Global;
 use std::borrow::CowStr;
 
-/// The tag of a message, which its reply carries too: its bytes 5 and 6.
+/// The tag of a message, which its reply has too: the bytes 5 and 6, the low one first.
 fn tag_in(bytes: &[u8]) -> u16
     requires { 7 ≤ length bytes.now }
     ensures { result ≡ tag_in bytes.now }
@@ -36,7 +37,8 @@ fn tag_in(bytes: &[u8]) -> u16
     u16::from_le_bytes([bytes[5], bytes[6]])
 }
 
-/// Whether a message of the type of that number may come with no session.
+/// Whether a message with that type number may come before a session begins: a Tversion or a
+/// Tflush.
 fn needs_no_session(number: u8) -> bool
     ensures { result ≡ needs_no_session (t_kind_of number) }
 {
@@ -46,8 +48,9 @@ fn needs_no_session(number: u8) -> bool
     )
 }
 
-/// The first of the rules S1 and S2 that a message breaks before it is decoded.
-fn first_failing_front(msize: Option<u32>, bytes: &[u8]) -> Option<RuleId>
+/// The rule that a message fails before it is decoded: S1 if no session has begun and it needs one,
+/// S2 if it is longer than the session's message size. None if it fails neither.
+fn first_rule_before_decoding(msize: Option<u32>, bytes: &[u8]) -> Option<RuleId>
     requires { 7 ≤ length bytes.now }
     ensures { result ≡ first_failing (rules_before_decoding msize bytes.now) }
 {
@@ -66,8 +69,9 @@ fn first_failing_front(msize: Option<u32>, bytes: &[u8]) -> Option<RuleId>
     None
 }
 
-/// The message that the bytes spell. The refusal is out of memory, or S2 if they are no message.
-fn decoded(alloc: Global, bytes: &[u8]) -> Result<TMessage<'_>, Reply>
+/// The message that the bytes spell. An error is the reply: out of memory, or S2 if they spell
+/// none.
+fn decode(alloc: Global, bytes: &[u8]) -> Result<TMessage<'_>, Reply>
     ensures ok { IfOk result (λ message. IsSpelled bytes.now message) }
     ensures err { IfErr result (IsUnread bytes.now) }
 {
@@ -78,8 +82,8 @@ fn decoded(alloc: Global, bytes: &[u8]) -> Result<TMessage<'_>, Reply>
     }
 }
 
-/// The message for the session; or the reply to one that takes no step: S3 to a Tauth, and an
-/// Rflush to a Tflush.
+/// The message as a session answers it. An error is the reply to a message that takes no step: S3
+/// to a Tauth, an Rflush to a Tflush.
 fn message_in<'a>(body: TBody<'a>) -> Result<Message<'a>, Reply>
     ensures { result ≡ message_in body.entry }
 {
@@ -102,24 +106,24 @@ fn message_in<'a>(body: TBody<'a>) -> Result<Message<'a>, Reply>
             aname: Text::new(aname),
         }),
         TBody::Clunk { fid } => Message::Clunk(fid),
-        TBody::Walk { fid, newfid, wname } => Message::Call(walk(fid, newfid, wname)),
+        TBody::Walk { fid, newfid, wname } => Message::Call(walk_message(fid, newfid, wname)),
         TBody::Open { fid, mode } => Message::Call(CallMessage::Open(OpenMessage { fid, mode })),
         TBody::Create {
             fid,
             name,
             perm,
             mode,
-        } => Message::Call(create(fid, name, perm, mode)),
-        TBody::Read { fid, offset, count } => Message::Call(read(fid, offset, count)),
-        TBody::Write { fid, offset, data } => Message::Call(write(fid, offset, data)),
+        } => Message::Call(create_message(fid, name, perm, mode)),
+        TBody::Read { fid, offset, count } => Message::Call(read_message(fid, offset, count)),
+        TBody::Write { fid, offset, data } => Message::Call(write_message(fid, offset, data)),
         TBody::Remove { fid } => Message::Call(CallMessage::Remove(fid)),
         TBody::Stat { fid } => Message::Call(CallMessage::Stat(fid)),
-        TBody::Wstat { fid, stat } => Message::Call(wstat(fid, stat)),
+        TBody::Wstat { fid, stat } => Message::Call(wstat_message(fid, stat)),
     })
 }
 
-/// A Twalk for the session.
-fn walk(fid: u32, newfid: u32, names: Vec<String>) -> CallMessage<'static>
+/// The call that a Twalk makes. Its names are moved, not copied.
+fn walk_message(fid: u32, newfid: u32, names: Vec<String>) -> CallMessage<'static>
     ensures { result
         ≡ call.Walk (record { fid = fid; newfid = newfid; names = map string_bytes names.items }) }
 {
@@ -130,8 +134,8 @@ fn walk(fid: u32, newfid: u32, names: Vec<String>) -> CallMessage<'static>
     })
 }
 
-/// A Tcreate for the session.
-fn create(fid: u32, name: String, perm: u32, mode: u8) -> CallMessage<'static>
+/// The call that a Tcreate makes. Its name is moved, not copied.
+fn create_message(fid: u32, name: String, perm: u32, mode: u8) -> CallMessage<'static>
     ensures { result
         ≡ call.Create (record { fid = fid; name = string_bytes name; perm = perm; mode = mode }) }
 {
@@ -143,15 +147,15 @@ fn create(fid: u32, name: String, perm: u32, mode: u8) -> CallMessage<'static>
     })
 }
 
-/// A Tread for the session.
-fn read(fid: u32, offset: u64, count: u32) -> CallMessage<'static>
+/// The call that a Tread makes.
+fn read_message(fid: u32, offset: u64, count: u32) -> CallMessage<'static>
     ensures { result ≡ call.Read (record { fid = fid; offset = offset; count = count }) }
 {
     CallMessage::Read(ReadMessage { fid, offset, count })
 }
 
-/// A Twrite for the session, whose bytes are lent.
-fn write(fid: u32, offset: u64, bytes: &[u8]) -> CallMessage<'_>
+/// The call that a Twrite makes. Its bytes are borrowed.
+fn write_message(fid: u32, offset: u64, bytes: &[u8]) -> CallMessage<'_>
     ensures { result ≡ call.Write (record { fid = fid; offset = offset; bytes = bytes.now }) }
 {
     CallMessage::Write(WriteMessage {
@@ -161,8 +165,8 @@ fn write(fid: u32, offset: u64, bytes: &[u8]) -> CallMessage<'_>
     })
 }
 
-/// A Twstat for the session, with all fields of the stat that was sent.
-fn wstat(fid: u32, stat: Stat) -> CallMessage<'static>
+/// The call that a Twstat makes, with every field of the stat that was sent.
+fn wstat_message(fid: u32, stat: Stat) -> CallMessage<'static>
     ensures { result ≡ call.Wstat (record { fid = fid; stat = sent_of stat }) }
 {
     CallMessage::Wstat(WstatMessage {
@@ -171,7 +175,7 @@ fn wstat(fid: u32, stat: Stat) -> CallMessage<'static>
     })
 }
 
-/// The version that the reply to a version names.
+/// The version that an Rversion names: `9P2000` if the client's version is spoken, else `unknown`.
 fn version_text(is_spoken: bool) -> &'static str
     ensures value { result.now ≡ version_named is_spoken }
     ensures shown { IsShown 7 result.now }
@@ -179,7 +183,8 @@ fn version_text(is_spoken: bool) -> &'static str
     if is_spoken { "9P2000" } else { "unknown" }
 }
 
-/// The text of a rule, which is short enough for every session.
+/// The text of a rule. Only the contract is more than that of `RuleId::text`: the text fits in an
+/// Rerror of every session.
 fn rule_text(rule: RuleId) -> &'static str
     ensures value { result.now ≡ text_of rule }
     ensures shown { IsShown 48 result.now }
@@ -187,8 +192,8 @@ fn rule_text(rule: RuleId) -> &'static str
     rule.text()
 }
 
-/// An Rerror with that text (error(5)).
-fn error(text: &'static str) -> RBody
+/// The body of an Rerror with that text (error(5)).
+fn error_body(text: &'static str) -> RBody
     requires { IsShown 48 text.now }
     ensures value { (tag : ℕ)
         → r_view (record { tag = tag; body = result }) ≡ error_reply tag text.now }
@@ -199,8 +204,9 @@ fn error(text: &'static str) -> RBody
     }
 }
 
-/// The same qid. The contract says that its numbers are in their ranges, as those of any qid are.
-fn ranged(qid: Qid) -> Qid
+/// The same qid. Only the contract is new: the qid's numbers are in their ranges, as those of any
+/// qid are.
+fn qid_in_range(qid: Qid) -> Qid
     ensures value { result ≡ qid }
     ensures fits { IsQid result }
 {
@@ -211,7 +217,7 @@ fn ranged(qid: Qid) -> Qid
     }
 }
 
-/// The body of a reply on the wire. It takes no memory.
+/// The body of the message that a reply is on the wire. It takes no memory.
 fn body_of(reply: Reply) -> RBody
     ensures value { (tag : ℕ) → r_view (record { tag = tag; body = result }) ≡ wire_of tag reply }
     ensures fits { (msize : Option ℕ) → ForSome msize IsAgreed → ReplyFits msize reply
@@ -222,16 +228,18 @@ fn body_of(reply: Reply) -> RBody
             msize,
             version: CowStr::Borrowed(version_text(is_spoken)),
         },
-        Reply::Attach(qid) => RBody::Attach { qid: ranged(qid) },
-        Reply::Walk(way) => RBody::Walk {
-            wqid: way.into_qids(),
+        Reply::Attach(qid) => RBody::Attach {
+            qid: qid_in_range(qid),
+        },
+        Reply::Walk(walk) => RBody::Walk {
+            wqid: walk.into_qids(),
         },
         Reply::Open(qid) => RBody::Open {
-            qid: ranged(qid),
+            qid: qid_in_range(qid),
             iounit: 0,
         },
         Reply::Create(qid) => RBody::Create {
-            qid: ranged(qid),
+            qid: qid_in_range(qid),
             iounit: 0,
         },
         Reply::Read(bytes) => RBody::Read {
@@ -245,15 +253,15 @@ fn body_of(reply: Reply) -> RBody
         },
         Reply::Wstat => RBody::Wstat,
         Reply::Flush => RBody::Flush,
-        Reply::Error(rule) => error(rule_text(rule)),
-        Reply::Memory => error(memory_text()),
+        Reply::Error(rule) => error_body(rule_text(rule)),
+        Reply::Memory => error_body(memory_text()),
         // no message ends with these
-        Reply::Found => error(rule_text(RuleId::S5)),
-        Reply::Closed => error(rule_text(RuleId::S5)),
+        Reply::Found => error_body(rule_text(RuleId::S5)),
+        Reply::Closed => error_body(rule_text(RuleId::S5)),
     }
 }
 
-/// The text of out of memory, which is short enough for every session.
+/// The text of an Rerror if memory runs out. It fits in an Rerror of every session.
 fn memory_text() -> &'static str
     ensures value { result.now ≡ codes "out of memory" }
     ensures shown { IsShown 48 result.now }
@@ -262,8 +270,8 @@ fn memory_text() -> &'static str
 }
 
 impl Session {
-    /// Answers the bytes of a message: the first rule that fails, out of memory, or what its steps
-    /// answer.
+    /// Answers the bytes of a message: the reply is the first rule that fails, out of memory, or
+    /// what its steps answer.
     fn receive<P: Port>(&mut self, alloc: Global, port: &mut P, now: u32, bytes: &[u8]) -> Reply
         requires whole { 7 ≤ length bytes.now }
         requires idle { self.old.awaited ≡ None }
@@ -272,10 +280,10 @@ impl Session {
         ensures fits { ReplyFits self.old.msize result }
         ensures idle { self.new.awaited ≡ None }
     {
-        if let Some(rule) = first_failing_front(self.msize(), bytes) {
+        if let Some(rule) = first_rule_before_decoding(self.msize(), bytes) {
             return Reply::Error(rule);
         }
-        let message = match decoded(alloc, bytes) {
+        let message = match decode(alloc, bytes) {
             Ok(message) => message,
             Err(reply) => return reply,
         };
@@ -286,9 +294,9 @@ impl Session {
         self.answer(alloc, port, now, asks)
     }
 
-    /// Answers one message, of 7 bytes at least, at that moment. The reply has the message's tag,
-    /// and at most as many bytes as the session's message size; it is an Rerror for the first rule
-    /// that fails, and if memory runs out (error(5)).
+    /// Answers one message, of at least 7 bytes, at the moment `now`. The reply has the message's
+    /// tag, and is no longer than the session's message size. It is an Rerror if a rule fails, with
+    /// the text of the first one, or if memory runs out (error(5)).
     pub fn reply<P: Port>(
         &mut self,
         alloc: Global,
@@ -305,12 +313,13 @@ impl Session {
     {
         let msize = self.msize();
         let reply = self.receive(alloc, port, now, bytes);
-        reply_of(msize, tag_in(bytes), reply)
+        wire_message(msize, tag_in(bytes), reply)
     }
 }
 
-/// The reply of that tag, in a session of that message size.
-fn reply_of(msize: Option<u32>, tag: u16, reply: Reply) -> RMessage
+/// The message of that tag that a reply is on the wire. The message size is an argument only for
+/// the contract: the message fits in it.
+fn wire_message(msize: Option<u32>, tag: u16, reply: Reply) -> RMessage
     requires agreed { ForSome msize IsAgreed }
     requires fits { ReplyFits msize reply }
     ensures value { r_view result ≡ wire_of tag reply }

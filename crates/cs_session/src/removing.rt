@@ -7,15 +7,14 @@ ghost use Rattle.cs_session.specs.Decisions.{Decides, question_of};
 ghost use Rattle.cs_session.specs.Removes.{remove_run_question, remove_reply};
 ghost use Rattle.cs_session.specs.Sizes.{IsPlain};
 
-use crate::question::{RunQuestion, first_of, refusal};
+use crate::question::{RunQuestion, first_failing_rule, refusal};
 use crate::reply::Reply;
 use cs_fids::{FidEntry, FidTable};
-use cs_names::RuleId;
 use cs_permit::{Call, RemoveCall, Request};
 use cs_run::Answer;
 
-/// What the remove of this entry asks its run: on the file, for the fid's user, and, if the fid is
-/// open, with the number of its open.
+/// What the remove of this entry asks its run: to remove the file, for the fid's user. If the fid
+/// is open, the call has the number of its open.
 fn remove_run_question(now: u32, entry: FidEntry) -> RunQuestion<'static>
     ensures { result ≡ remove_run_question now entry }
 {
@@ -32,32 +31,33 @@ fn remove_run_question(now: u32, entry: FidEntry) -> RunQuestion<'static>
     RunQuestion::new(now, run, pass, call)
 }
 
-/// What a remove asks the fid's run, and the fid is free then; or the reply that refuses it, and
-/// the fids stay as they were. It takes no memory.
+/// What a remove asks the run of its fid; the fid is free afterwards. An error is the reply that
+/// refuses it, and then no fid changes. It takes no memory.
 pub(crate) fn decide_remove(
-    awaits: bool,
+    awaits_attach: bool,
     msize: Option<u32>,
     fids: &mut FidTable,
     now: u32,
     fid: u32,
 ) -> Result<RunQuestion<'static>, Reply>
     ensures decided { Decides question_of
-        (call_decision now awaits msize fids.old.fids (call.Remove fid)) result }
+        (call_decision now awaits_attach msize fids.old.fids (call.Remove fid)) result }
     ensures plain { IfErr result IsPlain }
-    ensures idle { IsOk result → awaits ≡ false }
+    ensures idle { IsOk result → awaits_attach ≡ false }
     ensures taken { OnOk result (fids.new.fids ≡ remove fids.old.fids fid) }
     ensures unchanged { OnErr result (fids.new ≡ fids.old) }
 {
-    if let Some(rule) = first_of(awaits, msize, &Request::Remove { fid }, fids) {
+    if let Some(rule) = first_failing_rule(awaits_attach, msize, &Request::Remove { fid }, fids) {
         return Err(Reply::Error(rule));
     }
     match fids.take_any(fid) {
         Ok(entry) => Ok(remove_run_question(now, entry)),
-        Err(_) => Err(Reply::Error(RuleId::S5)),
+        // the rules refuse a fid that isn't there
+        Err(_) => unreachable!(),
     }
 }
 
-/// The reply to a remove.
+/// The reply to a remove that the run answered: Remove, or the refusal.
 pub(crate) fn remove_reply(answer: Answer) -> Reply
     ensures value { result ≡ remove_reply answer }
     ensures plain { IsPlain result }

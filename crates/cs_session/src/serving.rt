@@ -31,6 +31,7 @@ pub enum ServeFault {
 }
 
 impl fmt::Display for ServeFault {
+    /// Writes the fault as a short text.
     fn fmt<W: fmt::Write>(&self, f: &mut fmt::Formatter<W>) -> fmt::Result {
         match self {
             ServeFault::ReadFault => write!(f, "the stream cannot be read"),
@@ -41,10 +42,10 @@ impl fmt::Display for ServeFault {
     }
 }
 
-/// Why no more messages were answered.
+/// Why `answer_some` answered no more messages.
 #[derive(Clone, Copy, Debug, PartialEq, Eq)]
 pub(crate) enum Progress {
-    /// The replies fill their room.
+    /// There may be more messages, but the replies fill their room.
     More,
     /// No whole message is left.
     Done,
@@ -52,8 +53,9 @@ pub(crate) enum Progress {
     Stopped(FrameFault),
 }
 
-/// The buffers of a connection: one for what comes, and one for the replies. They never grow.
-fn buffers(alloc: Global) -> Result<(Framer, Vec<u8>), AllocError>
+/// The buffers of a connection: one that holds the longest message, and one for the replies, which
+/// holds two of the longest. They never grow.
+fn make_buffers(alloc: Global) -> Result<(Framer, Vec<u8>), AllocError>
     ensures left { IfOk result (λ x. pending_bytes x.0 ≡ []) }
     ensures size { IfOk result (λ x. MESSAGE_BYTES ≤ size_of x.0) }
     ensures room { IfOk result (λ x. 2 * MESSAGE_BYTES ≤ vec_capacity x.1) }
@@ -64,7 +66,8 @@ fn buffers(alloc: Global) -> Result<(Framer, Vec<u8>), AllocError>
     Ok((framer, replies))
 }
 
-/// Answers a message, and adds its reply after the others.
+/// Answers a message at the moment `now`, and appends the reply to `replies`, which has room for
+/// it.
 fn answer_one<P: Port>(
     alloc: Global,
     session: &mut Session,
@@ -82,11 +85,12 @@ fn answer_one<P: Port>(
     ensures idle { session.new.awaited ≡ None }
 {
     let reply = session.reply(alloc, port, now, message);
+    // the replies have room for it
     encode_reply(&reply, replies).unwrap();
 }
 
-/// Answers whole messages while there is room for a reply, and adds each reply after the others.
-/// Neither a message nor a reply is copied.
+/// Answers the whole messages that came, until none is left or `replies` may have no room for
+/// another reply. Returns why it stopped. Neither a message nor a reply is copied.
 fn answer_some<P: Port, C: Clock>(
     alloc: Global,
     framer: &mut Framer,
@@ -119,7 +123,8 @@ fn answer_some<P: Port, C: Clock>(
 }
 
 /// Answers every whole message that came, and writes the replies, as many at once as the buffer
-/// holds.
+/// holds. If what comes next is no message, the error is FrameFault, after the replies to those
+/// before it.
 fn answer_all<S: Stream, P: Port, C: Clock>(
     alloc: Global,
     framer: &mut Framer,
@@ -162,7 +167,8 @@ fn answer_all<S: Stream, P: Port, C: Clock>(
     }
 }
 
-/// Reads and answers until the stream ends.
+/// Reads and answers until the stream ends. `Ok` if it ends between two messages; an error says why
+/// the connection can't go on.
 fn converse<S: Stream, P: Port, C: Clock>(
     alloc: Global,
     framer: &mut Framer,
@@ -198,6 +204,7 @@ fn converse<S: Stream, P: Port, C: Clock>(
     ensures memory { result ≢ Err ServeFault.Memory }
     ensures idle { session.new.awaited ≡ None }
 {
+    // reads in a row that were interrupted
     let mut waits = 0;
     for _ in 0..CONNECTION_READS {
         framer.make_room();
@@ -227,7 +234,7 @@ fn converse<S: Stream, P: Port, C: Clock>(
 }
 
 /// Serves a stream to its end: answers each whole message at its moment, and writes the replies in
-/// order. Then it hangs up, whatever it returns.
+/// order. Then it hangs up, also after an error.
 ///
 /// It returns `Ok` if the stream ended between two messages. An interrupted read or write is tried
 /// again, up to 999 in a row: the thousandth in a row is a fault. A connection has 4,294,967,295
@@ -244,7 +251,7 @@ pub fn serve_stream<S: Stream, P: Port, C: Clock>(
     ensures faults { FaultsHaveCauses result (S.counts stream.old) (S.counts stream.new) }
 {
     let mut session = Session::new(alloc);
-    let result = match buffers(alloc) {
+    let result = match make_buffers(alloc) {
         Ok((mut framer, mut replies)) => converse(
             alloc,
             &mut framer,

@@ -1,4 +1,5 @@
-//! A connection's session and its steps. Those that make a call are in `calls`.
+//! A connection's session and its steps. Those that make a call are in `calls`; what a whole
+//! message does is in `answering`.
 ghost use Rattle.std.specs.Prelude.{◌≡◌, ◌≢◌, ◌<◌, is_ok, is_some, IfSome, IsOk, IsSome, None};
 ghost use Rattle.std.specs.FinMap.{len};
 ghost use Rattle.cs_fids.specs.Tables.{least_open, opened_in};
@@ -17,14 +18,14 @@ use crate::closing::{close_reply, decide_close};
 use crate::message::{AttachMessage, TableStep};
 use crate::port::Port;
 use crate::reply::Reply;
-use crate::versions::{clunk, session_size, version_reply};
+use crate::versions::{clunk_walked, session_size, version_reply};
 use cs_fids::FidTable;
 use cs_names::RuleId;
 use std::alloc::Global;
 use std::marker::Model;
 
-/// A connection: the message size of its session, if it has begun one; the run that awaits its
-/// attach, if any; and its fids.
+/// What is kept of a connection: the message size of its session, None if none has begun; the run
+/// that awaits its attach, if any; and its fids.
 #[derive(Drop)]
 pub struct Session {
     msize: Option<u32>,
@@ -46,7 +47,7 @@ impl Model for Session {
 }
 
 impl Session {
-    /// A connection with no session and no fid.
+    /// A connection that has begun no session and has no fid.
     pub fn new(alloc: Global) -> Session
         ensures { result ≡ empty_session None }
     {
@@ -57,7 +58,7 @@ impl Session {
         }
     }
 
-    /// The message size of the session, if one has begun.
+    /// The message size of the session; None if none has begun.
     pub fn msize(&self) -> Option<u32>
         ensures value { result ≡ self.now.msize }
         ensures agreed { ForSome result IsAgreed }
@@ -65,9 +66,9 @@ impl Session {
         self.msize
     }
 
-    /// Finds the run of an attach, and answers Found: the run then awaits the attach. If it is
-    /// refused, the connection is unchanged. The moment counts for nothing; the contract, which is
-    /// that of every step, names it.
+    /// Finds the run of an attach, and replies Found: the run then awaits the attach. If the find
+    /// is refused, the connection is unchanged. The moment counts for nothing; the contract, which
+    /// is that of every step, names it.
     pub fn find_step<P: Port>(
         &mut self,
         alloc: Global,
@@ -81,8 +82,8 @@ impl Session {
         ensures found { result ≡ Reply.Found → IsSome self.new.awaited }
         ensures refused { result ≢ Reply.Found → self.new.awaited ≡ self.old.awaited }
     {
-        let awaits = self.awaited.is_some();
-        match decide_find(alloc, awaits, self.msize, &mut self.fids, &message) {
+        let awaits_attach = self.awaited.is_some();
+        match decide_find(alloc, awaits_attach, self.msize, &mut self.fids, &message) {
             Err(reply) => reply,
             Ok((name, user)) => match port.find(alloc, &name) {
                 Ok(run) => {
@@ -99,8 +100,8 @@ impl Session {
         }
     }
 
-    /// Attaches to the run that was found. Whatever the reply is, no run awaits its attach then.
-    /// S5 if none was found. Only the port takes memory.
+    /// Attaches to the run that was found. S5 if none was. Whatever the reply, no run awaits its
+    /// attach afterwards. Only the port takes memory.
     pub fn attach_step<P: Port>(&mut self, alloc: Global, port: &mut P, now: u32) -> Reply
         ensures takes { IsStepTaken P.gives now self.old port.old AttachStep result self.new
             port.new }
@@ -123,8 +124,8 @@ impl Session {
         }
     }
 
-    /// Closes an open fid. The fid is free then, whatever the run answers. S5, and nothing changes,
-    /// if the fid isn't open or a run awaits its attach.
+    /// Closes an open fid, which is free afterwards, whatever the run answers. S5, and nothing
+    /// changes, if the fid isn't open or a run awaits its attach.
     pub fn close_step<P: Port>(&mut self, alloc: Global, port: &mut P, now: u32, fid: u32) -> Reply
         ensures takes { IsStepTaken P.gives now self.old port.old (CloseStep fid) result self.new
             port.new }
@@ -133,17 +134,18 @@ impl Session {
         ensures fewer { self.old.awaited ≡ None → IsOk (opened_in (entry_at self.old fid))
             → len self.new.fids < len self.old.fids }
     {
-        let awaits = self.awaited.is_some();
-        let ask = match decide_close(awaits, &mut self.fids, now, fid) {
-            Ok(ask) => ask,
+        let awaits_attach = self.awaited.is_some();
+        let question = match decide_close(awaits_attach, &mut self.fids, now, fid) {
+            Ok(question) => question,
             Err(reply) => return reply,
         };
-        let answer = ask.put(alloc, port);
+        let answer = question.ask(alloc, port);
         close_reply(answer)
     }
 
-    /// Frees every fid, and begins a session of that message size, or none.
-    fn begin(&mut self, msize: Option<u32>)
+    /// Frees every fid. The session has that message size afterwards; if it is None, there is no
+    /// session.
+    fn reset(&mut self, msize: Option<u32>)
         requires agreed { ForSome msize IsAgreed }
         requires idle { self.old.awaited ≡ None }
         ensures { self.new ≡ empty_session msize }
@@ -171,26 +173,26 @@ impl Session {
                 if self.msize.is_none() {
                     return Reply::Error(RuleId::S1);
                 }
-                clunk(&mut self.fids, fid)
+                clunk_walked(&mut self.fids, fid)
             }
             TableStep::Version { msize, version } => {
                 if self.fids.least_open().is_some() {
                     return Reply::Error(RuleId::S5);
                 }
-                self.begin(session_size(msize, version.as_str()));
+                self.reset(session_size(msize, version.as_str()));
                 version_reply(msize, version.as_str())
             }
             TableStep::HangUp => {
                 if self.fids.least_open().is_some() {
                     return Reply::Error(RuleId::S5);
                 }
-                self.begin(None);
+                self.reset(None);
                 Reply::Closed
             }
         }
     }
 
-    /// The least number of an open fid, if any.
+    /// The least number of an open fid; None if no fid is open.
     pub(crate) fn least_open(&self) -> Option<u32>
         ensures least { result ≡ least_open self.now.fids }
         ensures found { IfSome result (λ fid. IsOk (opened_in (entry_at self.now fid))) }
@@ -198,7 +200,7 @@ impl Session {
         self.fids.least_open()
     }
 
-    /// Whether the fid of that number is open; false if there is none.
+    /// Whether there is an open fid of that number.
     pub(crate) fn is_open(&self, fid: u32) -> bool
         ensures { result ≡ is_ok (opened_in (entry_at self.now fid)) }
     {

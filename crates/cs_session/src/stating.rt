@@ -7,34 +7,31 @@ ghost use Rattle.cs_session.specs.Sizes.{IsPlain};
 ghost use Rattle.cs_session.specs.Stats.{stat_reply, wstat_reply};
 
 use crate::message::WstatMessage;
-use crate::question::{RunQuestion, refusal};
+use crate::question::{RunQuestion, first_failing_rule, refusal};
 use crate::reply::Reply;
 use cs_fids::FidTable;
-use cs_names::RuleId;
-use cs_permit::{Call, StatCall, WstatCall};
+use cs_permit::{Call, Request, StatCall, WstatCall};
 use cs_run::Answer;
 
-/// What a stat asks the fid's run, or the reply that refuses it. It takes no memory.
+/// What a stat asks the run of its fid. An error is the reply that refuses it. It takes no memory.
 pub(crate) fn decide_stat(
-    awaits: bool,
+    awaits_attach: bool,
     msize: Option<u32>,
     fids: &FidTable,
     now: u32,
     fid: u32,
 ) -> Result<RunQuestion<'static>, Reply>
     ensures decided { Decides question_of
-        (call_decision now awaits msize fids.now.fids (call.Stat fid)) result }
+        (call_decision now awaits_attach msize fids.now.fids (call.Stat fid)) result }
     ensures plain { IfErr result IsPlain }
-    ensures idle { IsOk result → awaits ≡ false }
+    ensures idle { IsOk result → awaits_attach ≡ false }
 {
-    if awaits {
-        return Err(Reply::Error(RuleId::S5));
-    }
-    if msize.is_none() {
-        return Err(Reply::Error(RuleId::S1));
+    if let Some(rule) = first_failing_rule(awaits_attach, msize, &Request::Stat { fid }, fids) {
+        return Err(Reply::Error(rule));
     }
     let Some(entry) = fids.look(fid) else {
-        return Err(Reply::Error(RuleId::H1));
+        // the rules refuse a fid that isn't there
+        unreachable!()
     };
     let call = Call::Stat(StatCall {
         number: entry.number(),
@@ -42,27 +39,26 @@ pub(crate) fn decide_stat(
     Ok(RunQuestion::new(now, entry.run(), entry.pass(), call))
 }
 
-/// What a wstat asks the fid's run, or the reply that refuses it.
+/// What a wstat asks the run of its fid. An error is the reply that refuses it.
 pub(crate) fn decide_wstat(
-    awaits: bool,
+    awaits_attach: bool,
     msize: Option<u32>,
     fids: &FidTable,
     now: u32,
     message: WstatMessage,
 ) -> Result<RunQuestion<'static>, Reply>
     ensures decided { Decides question_of
-        (call_decision now awaits msize fids.now.fids (call.Wstat message)) result }
+        (call_decision now awaits_attach msize fids.now.fids (call.Wstat message)) result }
     ensures plain { IfErr result IsPlain }
-    ensures idle { IsOk result → awaits ≡ false }
+    ensures idle { IsOk result → awaits_attach ≡ false }
 {
-    if awaits {
-        return Err(Reply::Error(RuleId::S5));
-    }
-    if msize.is_none() {
-        return Err(Reply::Error(RuleId::S1));
+    let request = Request::Wstat { fid: message.fid };
+    if let Some(rule) = first_failing_rule(awaits_attach, msize, &request, fids) {
+        return Err(Reply::Error(rule));
     }
     let Some(entry) = fids.look(message.fid) else {
-        return Err(Reply::Error(RuleId::Q1));
+        // the rules refuse a fid that isn't there
+        unreachable!()
     };
     let Ok(user) = entry.user().try_clone() else {
         return Err(Reply::Memory);
@@ -75,7 +71,7 @@ pub(crate) fn decide_wstat(
     Ok(RunQuestion::new(now, entry.run(), entry.pass(), call))
 }
 
-/// The reply to a stat.
+/// The reply to a stat that the run answered: the file's attributes, or the refusal.
 pub(crate) fn stat_reply(answer: Answer) -> Reply
     ensures value { result ≡ stat_reply answer }
     ensures plain { IsPlain result }
@@ -86,7 +82,7 @@ pub(crate) fn stat_reply(answer: Answer) -> Reply
     }
 }
 
-/// The reply to a wstat.
+/// The reply to a wstat that the run answered: Wstat, or the refusal.
 pub(crate) fn wstat_reply(answer: Answer) -> Reply
     ensures value { result ≡ wstat_reply answer }
     ensures plain { IsPlain result }

@@ -1,4 +1,4 @@
-//! Versions, and the other changes of a connection's own table (version(5), clunk(5)).
+//! What a version and the clunk of a fid that isn't open change and reply (version(5), clunk(5)).
 ghost use Rattle.std.specs.Option.{ForSome};
 ghost use Rattle.std.specs.Prelude.{◌≡◌};
 ghost use Rattle.cs_fids.specs.Tables.{fid_at};
@@ -12,22 +12,23 @@ use cs_fids::{FidFault, FidTable};
 use cs_names::limits::{LEAST_MESSAGE_SIZE, MESSAGE_BYTES};
 use cs_names::{Pieces, RuleId};
 
-/// The text up to its first period; all of it if it has none.
+/// The text before its first period; all of it if it has none.
 fn before_period(text: &[u8]) -> &[u8]
     ensures { result.now ≡ before_period text.now }
 {
+    // every text has a first piece, which may be empty
     Pieces::of(text, b'.').next().unwrap_or(b"".as_slice())
 }
 
-/// Whether the text, up to its first period, is the version that this server speaks.
+/// Whether the text before its first period is `9P2000`, the version that this server speaks.
 fn is_spoken(text: &[u8]) -> bool
     ensures { result ≡ is_spoken text.now }
 {
     before_period(text) == b"9P2000".as_slice()
 }
 
-/// The reply to a version: the smaller message size of the client's and the server's, and whether
-/// the version is spoken. S4 if the client's is too small for a session.
+/// The reply to a version: the smaller of the client's and the server's message size, and whether
+/// the version is spoken. S4 if the client's size is too small for a session.
 pub(crate) fn version_reply(msize: u32, version: &str) -> Reply
     ensures value { result ≡ version_reply msize version.now }
     ensures plain { IsPlain result }
@@ -41,7 +42,8 @@ pub(crate) fn version_reply(msize: u32, version: &str) -> Reply
     }
 }
 
-/// The message size of the session that a version begins; None if it begins none.
+/// The message size of the session that a version begins; None if it begins none, because the
+/// client's size is too small or the version isn't spoken.
 pub(crate) fn session_size(msize: u32, version: &str) -> Option<u32>
     ensures value { result ≡ session_size msize version.now }
     ensures agreed { ForSome result IsAgreed }
@@ -52,8 +54,9 @@ pub(crate) fn session_size(msize: u32, version: &str) -> Option<u32>
     Some(msize.min(MESSAGE_BYTES))
 }
 
-/// Frees a fid that isn't open. S5 if it is open, N1 if there is none: the fids stay as they were.
-pub(crate) fn clunk(fids: &mut FidTable, fid: u32) -> Reply
+/// Frees a fid that isn't open, and returns the reply. S5 if it is open, N1 if there is none; then
+/// no fid changes.
+pub(crate) fn clunk_walked(fids: &mut FidTable, fid: u32) -> Reply
     ensures value { result ≡ clunk_reply (fid_at fids.old fid) }
     ensures plain { IsPlain result }
     ensures left { fids.new.fids ≡ clunk_left fids.old.fids fid (fid_at fids.old fid) }

@@ -11,30 +11,30 @@ ghost use Rattle.cs_run.specs.declared.answer.Answer.{Answer};
 ghost use Rattle.cs_session.specs.Sizes.{IsPlain, ReplyFits};
 ghost use Rattle.cs_session.specs.Walks.{walk_after, walk_left};
 
+use crate::fid_changes::put_new;
 use crate::message::WalkMessage;
-use crate::question::{RunQuestion, first_of, refusal};
+use crate::question::{RunQuestion, first_failing_rule, refusal};
 use crate::reply::Reply;
 use cs_fids::{Fid, FidEntry, FidTable, NOFID, Walked};
-use cs_names::RuleId;
 use cs_permit::{Call, Request, WalkCall};
 use cs_run::{Answer, Walk};
 
-/// What a walk asks the fid's run, and a copy of the fid from which it goes; or the reply that
-/// refuses it. It makes room in the table for a new fid.
+/// What a walk asks the run of its fid, and a copy of that fid. An error is the reply that refuses
+/// it. No fid changes; after `Ok` the table has room for a new fid, if the walk makes one.
 pub(crate) fn decide_walk(
-    awaits: bool,
+    awaits_attach: bool,
     msize: Option<u32>,
     fids: &mut FidTable,
     now: u32,
     message: WalkMessage,
 ) -> Result<(RunQuestion<'static>, Fid<Walked>), Reply>
     ensures decided { Decides (λ a. question_of a.0)
-        (call_decision now awaits msize fids.old.fids (call.Walk message)) result }
+        (call_decision now awaits_attach msize fids.old.fids (call.Walk message)) result }
     ensures plain { IfErr result IsPlain }
     ensures fits { IfOk result
         (λ a. (answer : Answer) → FitsCall a.0.call answer
         → qids_in answer ≤ length message.names) }
-    ensures idle { IsOk result → awaits ≡ false }
+    ensures idle { IsOk result → awaits_attach ≡ false }
     ensures from { IfOk result (λ a. walked_at fids.old.fids message.fid ≡ Some a.1) }
     ensures named { IsOk result → message.newfid ≢ NOFID }
     ensures free { IsOk result → message.newfid ≢ message.fid
@@ -47,14 +47,15 @@ pub(crate) fn decide_walk(
         fid: message.fid,
         newfid: message.newfid,
     };
-    if let Some(rule) = first_of(awaits, msize, &request, fids) {
+    if let Some(rule) = first_failing_rule(awaits_attach, msize, &request, fids) {
         return Err(Reply::Error(rule));
     }
     if message.newfid != message.fid && fids.reserve().is_err() {
         return Err(Reply::Memory);
     }
     let Some(FidEntry::Walked(fid)) = fids.look(message.fid) else {
-        return Err(Reply::Error(RuleId::S5));
+        // the rules refuse a fid that is open or isn't there
+        unreachable!()
     };
     let Ok(user) = fid.user().try_clone() else {
         return Err(Reply::Memory);
@@ -67,29 +68,32 @@ pub(crate) fn decide_walk(
         user,
         names: message.names,
     });
-    let ask = RunQuestion::new(now, fid.run(), fid.pass(), call);
-    Ok((ask, from))
+    let question = RunQuestion::new(now, fid.run(), fid.pass(), call);
+    Ok((question, from))
 }
 
-/// Makes the new fid that of the last file, unless a rule stopped the walk.
-fn move_fid(fids: &mut FidTable, fid: u32, newfid: u32, from: Fid<Walked>, way: &Walk)
+/// Makes `newfid` the fid of the walk's last file: it is added, or moved if it is `fid` itself, of
+/// which `from` is a copy. No fid changes if a rule stopped the walk.
+fn move_fid(fids: &mut FidTable, fid: u32, newfid: u32, from: Fid<Walked>, walk: &Walk)
     requires from { walked_at fids.old.fids fid ≡ Some from }
     requires named { newfid ≢ NOFID }
     requires free { newfid ≢ fid → get fids.old.fids newfid ≡ None }
     requires room { newfid ≢ fid → 0 < fids.old.room }
-    ensures { fids.new.fids ≡ walk_left fids.old.fids newfid (Some from) way.now }
+    ensures { fids.new.fids ≡ walk_left fids.old.fids newfid (Some from) walk.now }
 {
-    if way.stopped().is_some() {
+    if walk.stopped().is_some() {
         return;
     }
     if newfid == fid {
-        let _moved = fids.move_to(fid, way.last());
+        // the fid is there, and isn't open
+        fids.move_to(fid, walk.last()).unwrap();
     } else {
-        let _put = fids.put(newfid, FidEntry::Walked(from.moved_to(way.last())));
+        put_new(fids, newfid, from.moved_to(walk.last()));
     }
 }
 
-/// The reply to a walk, which makes or moves its new fid.
+/// The reply to a walk that the run answered. The new fid is added or moved, unless the run refuses
+/// the walk or a rule stops it.
 pub(crate) fn settle_walk(
     fids: &mut FidTable,
     fid: u32,
@@ -106,9 +110,9 @@ pub(crate) fn settle_walk(
         → ReplyFits msize result }
 {
     match answer {
-        Answer::Walked(way) => {
-            move_fid(fids, fid, newfid, from, &way);
-            Reply::Walk(way)
+        Answer::Walked(walk) => {
+            move_fid(fids, fid, newfid, from, &walk);
+            Reply::Walk(walk)
         }
         answer => refusal(answer),
     }

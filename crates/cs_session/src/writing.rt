@@ -7,41 +7,34 @@ ghost use Rattle.cs_session.specs.Sizes.{IsPlain};
 ghost use Rattle.cs_session.specs.Reads.{write_reply};
 
 use crate::message::WriteMessage;
-use crate::question::{RunQuestion, refusal};
+use crate::question::{RunQuestion, first_failing_rule, refusal};
 use crate::reply::Reply;
 use cs_fids::{FidEntry, FidTable};
-use cs_names::RuleId;
-use cs_permit::mode::covers_write;
-use cs_permit::{Call, WriteCall};
+use cs_permit::{Call, Request, WriteCall};
 use cs_run::Answer;
 
-/// What a write asks the fid's run, or the reply that refuses it.
+/// What a write asks the run of its fid. An error is the reply that refuses it. The call borrows
+/// the message's bytes.
 pub(crate) fn decide_write<'a>(
-    awaits: bool,
+    awaits_attach: bool,
     msize: Option<u32>,
     fids: &FidTable,
     now: u32,
     message: WriteMessage<'a>,
 ) -> Result<RunQuestion<'a>, Reply>
     ensures decided { Decides question_of
-        (call_decision now awaits msize fids.now.fids (call.Write message.entry)) result }
+        (call_decision now awaits_attach msize fids.now.fids (call.Write message.entry)) result }
     ensures plain { IfErr result IsPlain }
-    ensures idle { IsOk result → awaits ≡ false }
+    ensures idle { IsOk result → awaits_attach ≡ false }
 {
-    if awaits {
-        return Err(Reply::Error(RuleId::S5));
+    let request = Request::Write { fid: message.fid };
+    if let Some(rule) = first_failing_rule(awaits_attach, msize, &request, fids) {
+        return Err(Reply::Error(rule));
     }
-    if msize.is_none() {
-        return Err(Reply::Error(RuleId::S1));
-    }
-    let fid = match fids.look(message.fid) {
-        Some(FidEntry::Opened(fid)) => fid,
-        Some(FidEntry::Walked(_)) => return Err(Reply::Error(RuleId::E2)),
-        None => return Err(Reply::Error(RuleId::E1)),
+    let Some(FidEntry::Opened(fid)) = fids.look(message.fid) else {
+        // the rules refuse a fid that isn't open
+        unreachable!()
     };
-    if !covers_write(fid.mode()) {
-        return Err(Reply::Error(RuleId::E2));
-    }
     let Ok(user) = fid.user().try_clone() else {
         return Err(Reply::Memory);
     };
@@ -54,7 +47,7 @@ pub(crate) fn decide_write<'a>(
     Ok(RunQuestion::new(now, fid.run(), fid.pass(), call))
 }
 
-/// The reply to a write.
+/// The reply to a write that the run answered: how many bytes were written, or the refusal.
 pub(crate) fn write_reply(answer: Answer) -> Reply
     ensures value { result ≡ write_reply answer }
     ensures plain { IsPlain result }

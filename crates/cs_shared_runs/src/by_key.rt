@@ -14,6 +14,7 @@ impl<S: ServerBrand> PartialEq for SharedRun<S> {
 
     ghost laws = { partial_equiv_from_equiv same_key-laws };
 
+    /// Whether both are of the same run: they have the same key.
     fn eq(&self, other: &SharedRun<S>) -> bool {
         self.key() == other.key()
     }
@@ -28,6 +29,7 @@ impl<S: ServerBrand> PartialOrd for SharedRun<S> {
 
     ghost laws = { key_order };
 
+    /// The order of the keys, as `cmp` returns it; never None.
     fn partial_cmp(&self, other: &SharedRun<S>) -> Option<Ordering> {
         Some(self.cmp(other))
     }
@@ -42,6 +44,7 @@ impl<S: ServerBrand> Ord for SharedRun<S> {
 
     ghost matches_eq = { key_ties };
 
+    /// The order of the keys: by the numbers of the states, and then by the bytes of the names.
     fn cmp(&self, other: &SharedRun<S>) -> Ordering {
         let (one, other) = (self.key(), other.key());
         one.number()

@@ -59,8 +59,8 @@ impl<S: ServerBrand> Locked<S> {
         self.number == number
     }
 
-    /// Does a call under a pass at that moment. Denied by S5 if the run is of another number, which
-    /// can't happen, or the pass isn't one of it.
+    /// Does a call under a pass at that moment, by `Run::step`. Denied by S5, with nothing changed,
+    /// if the pass isn't one of the run, or if the run is of another number, which can't happen.
     pub(crate) fn call(
         &mut self,
         alloc: Global,
@@ -85,8 +85,9 @@ impl<S: ServerBrand> Locked<S> {
         self.run.step(alloc, pass, now, call)
     }
 
-    /// Attaches a user under a new pass at that moment. Foreign if the run is of another number,
-    /// which can't happen.
+    /// Attaches a user under a new pass at that moment. Room or Memory if `Run::new_pass` refuses
+    /// the pass; Foreign if the run is of another number, which can't happen. After a refusal the
+    /// run is as it was.
     pub(crate) fn attach(
         &mut self,
         alloc: Global,

@@ -90,7 +90,7 @@ impl<S: ServerBrand> Registry<S> {
         self.states.scene()
     }
 
-    /// How many states of the plan aren't published yet.
+    /// How many states of the plan aren't published yet; 0 if all are.
     pub fn missing(&self) -> u32
         ensures count { result ≡ missing_of self.now }
         ensures few { result ≤ length self.now.scene.plan }
@@ -99,8 +99,8 @@ impl<S: ServerBrand> Registry<S> {
         self.states.missing()
     }
 
-    /// Publishes a state under its number, as `States::publish`: refused as Stranger, Twice or
-    /// Memory, in this order.
+    /// Publishes a state under its number, as `States::publish` does: refused as Stranger, Twice or
+    /// Memory, in this order. A refused state is dropped, and the registry is as it was.
     pub fn publish(&mut self, alloc: Global, state: Published) -> Result<(), PublishFault>
         ensures publishes { Publishes self.old state result self.new }
         ensures own { S.is_scene self.old.scene }
@@ -109,7 +109,7 @@ impl<S: ServerBrand> Registry<S> {
     }
 
     /// Publishes a state of the only scene that may be the server's, as `publish` does but without
-    /// comparing contents. It is never Stranger.
+    /// comparing contents. It may be refused as Twice or Memory, but never as Stranger.
     pub fn publish_own(&mut self, alloc: Global, state: Published) -> Result<(), PublishFault>
         requires { IsOnly S.is_scene state.scene }
         ensures publishes { Publishes self.old state result self.new }
@@ -120,21 +120,22 @@ impl<S: ServerBrand> Registry<S> {
         self.states.publish_own(alloc, state)
     }
 
-    /// Finds the run of a key, as `States::find_key`, and returns a handle of it. Memory also if
-    /// the run has as many handles as can be; the find stays counted then.
+    /// Finds or makes the run of a key, as `States::find_key` does, and returns a handle of it.
+    /// Memory also if the run has as many handles as can be; the find stays counted then. After any
+    /// other refusal the registry is as it was.
     pub fn find_key(&mut self, alloc: Global, key: RunKey) -> Result<SharedRun<S>, FindFault>
         ensures finds { FindsShared self.old key result self.new }
         ensures key { IfOk result (λ shared. shared ≡ key) }
     {
         let place = self.states.find_key(alloc, key)?;
-        match self.states.held_at(place).again() {
+        match self.states.held_at(place).try_clone() {
             Ok(shared) => Ok(shared),
             Err(_) => Err(FindFault::Memory),
         }
     }
 
-    /// Loads these users, for the runs that are made from now on. If memory runs out, the old list
-    /// stays.
+    /// Loads these users, for the runs that are made from now on, and returns them as the list that
+    /// was loaded. If memory runs out, the old list stays.
     pub fn reload(&mut self, users: Arc<Users>) -> Result<LoadedUsers, AllocError>
         ensures value { IfOk result (λ loaded. loaded ≡ arc_value users) }
         ensures loads { IfOk result (λ loaded. self.new ≡ with_users self.old (arc_value users)) }
@@ -166,7 +167,7 @@ fn all_runs<S: ServerBrand>(
 {
     let mut runs = Vec::new(alloc);
     for place in 0..states.run_count() {
-        let run = states.held_at(place).again()?;
+        let run = states.held_at(place).try_clone()?;
         runs.push(run)?;
     }
     Ok(runs)

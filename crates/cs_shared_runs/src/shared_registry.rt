@@ -58,7 +58,7 @@ impl<S: ServerBrand> SharedRegistry<S> {
         })
     }
 
-    /// The states and the runs of this registry, to be shared.
+    /// The registry, put under a lock for threads to share. An error drops it.
     pub fn of(registry: Registry<S>) -> Result<SharedRegistry<S>, AllocError>
         ensures { IfOk result (λ shared. shared ≡ registry.scene) }
     {
@@ -79,7 +79,7 @@ impl<S: ServerBrand> SharedRegistry<S> {
         &self.scene
     }
 
-    /// How many states of the plan aren't published yet.
+    /// How many states of the plan aren't published yet. Other threads may publish some meanwhile.
     pub fn missing(&self, rt: &impl Wait) -> u32
         ensures { IsOnly S.is_scene self.now → result ≤ length self.now.plan }
     {
@@ -131,7 +131,7 @@ impl<S: ServerBrand> SharedRegistry<S> {
         self.find_key(rt, alloc, RunKey::new(number, name))
     }
 
-    /// Finds the run of a key, as `find` does.
+    /// Finds or makes the run of a key: as `find` does for the key's number and name.
     pub fn find_key(
         &self,
         rt: &impl Wait,

@@ -37,7 +37,8 @@ impl<S: ServerBrand> Model for SharedRun<S> {
 }
 
 impl<S: ServerBrand> SharedRun<S> {
-    /// A handle of a new run of that key, over the tree of its state, with no open and no entry.
+    /// A handle of a new run of that key, with no open and no entry. `lower` is the tree of the
+    /// run's state.
     pub fn fresh(
         alloc: Global,
         key: RunKey,
@@ -54,11 +55,11 @@ impl<S: ServerBrand> SharedRun<S> {
     }
 
     /// Another handle of the same run. It fails if the run has as many handles as can be.
-    pub fn again(&self) -> Result<SharedRun<S>, AllocError>
+    pub fn try_clone(&self) -> Result<SharedRun<S>, AllocError>
         ensures { IfOk result (λ shared. shared ≡ self.now) }
     {
         Ok(SharedRun {
-            key: self.key.again(),
+            key: self.key.copy(),
             run: Arc::try_clone(&self.run)?,
         })
     }
@@ -71,8 +72,9 @@ impl<S: ServerBrand> SharedRun<S> {
     }
 
     /// Attaches a user under a new pass at that moment, in seconds since 1970. Room if the run gave
-    /// RUN_ATTACHES passes; otherwise it may be Memory. (Foreign, for a run of another number under
-    /// the lock, can't happen.) After a refusal no pass was given, and the run is as it was.
+    /// RUN_ATTACHES passes already; else Memory if an allocation fails. (Foreign, for a run of
+    /// another number under the lock, can't happen.) After an error no pass was given, and the run
+    /// is unchanged.
     pub fn attach(
         &self,
         rt: &impl Wait,
@@ -122,13 +124,13 @@ impl<S: ServerBrand> Held for SharedRun<S> {
 
     ghost is_fresh = { λ key tree users shared. shared ≡ key };
 
-    /// A handle of the new run of that key.
+    /// As `SharedRun::fresh`, for a copy of the key.
     fn fresh(
         alloc: Global,
         key: &RunKey,
         lower: Arc<Built>,
         users: Arc<Users>,
     ) -> Result<SharedRun<S>, AllocError> {
-        SharedRun::fresh(alloc, key.again(), lower, users)
+        SharedRun::fresh(alloc, key.copy(), lower, users)
     }
 }

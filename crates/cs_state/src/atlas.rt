@@ -1,4 +1,4 @@
-//! A trace with all that its states share, and the state of a set.
+//! An atlas: a trace with all that its crash states share, and how the state of a set is made.
 ghost use Rattle.std.specs.Prelude.{◌≡◌, length, IfOk};
 ghost use Rattle.cs_tree_model.specs.Tree.{IsTree};
 ghost use Rattle.cs_trace.specs.Traces.{start_paths};
@@ -23,7 +23,7 @@ use std::alloc::{AllocError, Global};
 use std::marker::Model;
 use std::sync::Arc;
 
-/// The store of a state.
+/// The store of a state, as an atlas makes it.
 pub type Built = StateTree;
 
 /// A trace with its micro-operations, and with what is computed once for all its states: every path
@@ -47,7 +47,8 @@ impl Model for Atlas {
 }
 
 impl Atlas {
-    /// The atlas of a trace and what it breaks into, as `break_up` returns it.
+    /// The atlas of a trace and its micro-operations, which must be those that `break_up` returns.
+    /// What all states share is computed here, once.
     pub fn of(alloc: Global, trace: Trace, micros: Micros) -> Result<Atlas, AllocError>
         requires broken { micros ≡ micros_in trace }
         requires legal { AreLegal (block_of_version trace.version) (start_paths trace)
@@ -79,7 +80,7 @@ impl Atlas {
         &self.parts.trace
     }
 
-    /// What the trace breaks into.
+    /// What the trace breaks into: its micro-operations and sync points.
     pub fn micros(&self) -> &Micros
         ensures value { result.now ≡ micros_in self.now }
         ensures legal { AreLegal (block_of_version self.now.version) (start_paths self.now)
@@ -88,7 +89,7 @@ impl Atlas {
         &self.parts.micros
     }
 
-    /// The state of an allowed set.
+    /// The state of an allowed set, which has the micro-operations at these places.
     pub fn build(&self, alloc: Global, places: &[u32]) -> Result<Built, AllocError>
         requires { IsAllowed (needs_of (micros_in self.now)) (length (micros_in self.now).ops)
             places.now }

@@ -1,4 +1,5 @@
-//! What a state doesn't share with the others.
+//! What a state doesn't share with the others: what is at the touched paths, at which states may
+//! differ. `kept` paths are those at which every state has the same.
 ghost use Rattle.std.specs.Prelude.{◌≡◌, ◌+◌, ◌<◌, ◌^◌, ◌++◌, ℕ, length, IfOk, OnOk};
 ghost use Rattle.cs_apm.specs.Orders.{needs_of};
 ghost use Rattle.cs_apm.specs.Sets.{IsAllowed};
@@ -14,7 +15,8 @@ use cs_apm::slot::Slot;
 use cs_apm::state::slots_of_set;
 use std::alloc::{AllocError, Global};
 
-/// Appends what is at a touched path, if there is something. `before` kept paths come before it.
+/// Appends what is in the slot of the touched path `id`, with its number in the state; nothing if
+/// the slot is empty. `before` kept paths come before the path.
 fn push_own(own: &mut Vec<Own>, id: u32, before: u32, slot: Slot) -> Result<(), AllocError>
     requires { before + length own.old.items < 2 ^ 32 }
     ensures { OnOk result
@@ -27,8 +29,9 @@ fn push_own(own: &mut Vec<Own>, id: u32, before: u32, slot: Slot) -> Result<(), 
     Ok(())
 }
 
-/// The touched paths at which there is something, with their numbers.
-fn count_standing(
+/// What is at those touched paths at which there is something, with their numbers in the state.
+/// `slots` has what is at each path, and `kept_below` how many kept paths come before each.
+fn touched_entries(
     alloc: Global,
     touched: &[u32],
     kept_below: &[u32],
@@ -48,8 +51,9 @@ fn count_standing(
     Ok(own)
 }
 
-/// What the state of a set doesn't share with the others: the members' steps are made in the slots,
-/// and the slots of the touched paths are kept.
+/// What the state of a set doesn't share with the others. The steps of the members, which are at
+/// these places, are made in a copy of the slots, and what the slots of the touched paths then have
+/// is collected.
 pub fn own_of(alloc: Global, parts: &Parts, places: &[u32]) -> Result<Vec<Own>, AllocError>
     requires parts { AreParts parts.now }
     requires allowed { IsAllowed (needs_of parts.now.micros) (length parts.now.micros.ops)
@@ -60,7 +64,7 @@ pub fn own_of(alloc: Global, parts: &Parts, places: &[u32]) -> Result<Vec<Own>, 
 {
     let shares = &parts.shares;
     let slots = slots_of_set(alloc, &parts.tables, places)?;
-    let own = count_standing(alloc, &shares.touched, &shares.kept_below, &slots)?;
+    let own = touched_entries(alloc, &shares.touched, &shares.kept_below, &slots)?;
     let own = Vec::from_slice(alloc, &own)?;
     Ok(own)
 }

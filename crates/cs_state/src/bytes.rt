@@ -18,8 +18,9 @@ use crate::members::{first_members, is_member};
 use cs_micro::MicroOp;
 use std::alloc::{AllocError, Global};
 
-/// The size of the file after the members, from the size that it had: that of the last member in
-/// `sizes`, which has the places of all that change it.
+/// The size of the file after the members: that which the last member in `sizes` sets, or `size`,
+/// the size at the start, if none is a member. `sizes` has the places of the micro-operations that
+/// change it, of which the members must be the first.
 pub fn size_left(file: usize, size: u64, ops: &[MicroOp], sizes: &[u32], members: &[bool]) -> u64
     requires sizes { sizes.now
         ≡ numbers_that_pass (λ k. resizes file (op_at ops.now k)) (length ops.now) }
@@ -36,7 +37,7 @@ pub fn size_left(file: usize, size: u64, ops: &[MicroOp], sizes: &[u32], members
     size_after(file, size, &ops[sizes[count - 1] as usize])
 }
 
-/// At most `count` of the bytes, from an offset on; none if the offset is past their end.
+/// At most `count` of the bytes, from the offset on; none if the offset is past their end.
 fn piece_of(bytes: &[u8], offset: usize, count: usize) -> &[u8]
     ensures { result.now ≡ take count (drop offset bytes.now) }
 {
@@ -44,8 +45,8 @@ fn piece_of(bytes: &[u8], offset: usize, count: usize) -> &[u8]
     &rest[..rest.len().min(count)]
 }
 
-/// A copy of at most `count` of the bytes, from an offset on. It runs out of memory only if there
-/// is a byte to copy.
+/// A copy of at most `count` of the bytes, from the offset on; empty if the offset is past their
+/// end. It runs out of memory only if there is a byte to copy.
 pub fn copy_piece(
     alloc: Global,
     bytes: &[u8],
@@ -62,8 +63,9 @@ pub fn copy_piece(
     Vec::from_slice(alloc, piece)
 }
 
-/// Applies a change of size or a write to a part of a file that begins at the offset; any other
-/// micro-operation changes nothing. A change of size only zeroes what is past it.
+/// Applies a change of size or a write, whichever file it names, to a part of a file that begins at
+/// the offset. The part keeps its length: a change of size zeroes what is past the new size. Any
+/// other micro-operation changes nothing.
 fn apply_op(part: &mut [u8], offset: usize, op: &MicroOp)
     requires room { offset + length part.old < 2 ^ 64 }
     requires small { IsSmall op.now }
@@ -83,8 +85,8 @@ fn apply_op(part: &mut [u8], offset: usize, op: &MicroOp)
     }
 }
 
-/// Applies those of the places that are members, in their order, to a part of a file that begins at
-/// the offset.
+/// Applies the micro-operations at those of the places that are members, in their order, to a part
+/// of a file that begins at the offset.
 fn apply_members(part: &mut [u8], offset: usize, ops: &[MicroOp], places: &[u32], members: &[bool])
     requires room { offset + length part.old < 2 ^ 64 }
     requires small { All IsSmall ops.now }
@@ -100,8 +102,9 @@ fn apply_members(part: &mut [u8], offset: usize, ops: &[MicroOp], places: &[u32]
     }
 }
 
-/// Applies those of the places that are members, in their order, to the bytes of one page, in a
-/// part of a file that begins at the offset.
+/// Applies the micro-operations at those of the places that are members, in their order, to those
+/// bytes of a part that are in one page. The part begins at the offset in the file; `page` is the
+/// page's number.
 fn apply_to_page(
     part: &mut [u8],
     offset: usize,
@@ -129,8 +132,8 @@ fn apply_to_page(
     apply_members(&mut part[from..end], offset + from, ops, places, members);
 }
 
-/// `count` bytes of a file after the members, from an offset on, with zeros past its end. `start`
-/// has its bytes at the start, and `steps` the micro-operations that change it.
+/// `count` bytes of a file after the members, from the offset on, with zeros past its end. `start`
+/// has its bytes at the start, and `steps` the places of the micro-operations that change it.
 pub fn part_left(
     alloc: Global,
     start: &[u8],

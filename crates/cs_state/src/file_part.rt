@@ -1,4 +1,5 @@
-//! A part of a file: `count` of its bytes from an offset on, and what changes them.
+//! A part of a file: `count` of its bytes from an offset on, with zeros past its end, and what
+//! changes them.
 ghost use Rattle.std.specs.Prelude.{◌≡◌, ◌+◌, ◌<◌, ◌≤◌, ◌^◌, length, take, IfOk};
 ghost use Rattle.cs_names.specs.declared.limits.TheConstants.{FILE_BYTES};
 ghost use Rattle.cs_apm.specs.States.{Content, overwritten};
@@ -7,7 +8,7 @@ ghost use Rattle.cs_state.specs.Windows.{whole_content, IsPart};
 use cs_apm::content::put_at;
 use std::alloc::{AllocError, Global};
 
-/// `count` bytes of a file from an offset on, with zeros past its end.
+/// A copy of `count` bytes of a file from the offset on, with zeros past its end.
 pub fn copy_part(
     alloc: Global,
     bytes: &[u8],
@@ -25,7 +26,8 @@ pub fn copy_part(
     Ok(part)
 }
 
-/// Overwrites by zeros what is past a size of the file, in a part that begins at the offset.
+/// Zeroes those bytes of a part that are past `size` bytes of the file. The part begins at the
+/// offset in the file.
 pub fn zero_past(part: &mut [u8], offset: usize, size: usize)
     ensures long { length part.new ≡ length part.old }
     ensures part { (f : Content) → IsPart offset f part.old
@@ -35,8 +37,8 @@ pub fn zero_past(part: &mut [u8], offset: usize, size: usize)
     part[from..].fill(0);
 }
 
-/// Writes what of the piece is within a part that begins at the offset; `at` is the piece's offset
-/// in the file.
+/// Writes those bytes of the piece that fall into a part; nothing if none does. The part begins at
+/// `offset` in the file, and the piece at `at`.
 pub fn write_piece(part: &mut [u8], offset: usize, at: usize, piece: &[u8])
     requires room { offset + length part.old < 2 ^ 64 }
     requires small { at + length piece.now ≤ FILE_BYTES }

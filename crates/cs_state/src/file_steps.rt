@@ -34,7 +34,7 @@ pub struct FileSteps {
     pub pages: BTreeMap<u64, Vec<u32>>,
 }
 
-/// The file's size after a micro-operation.
+/// The file's size after a micro-operation, if it was `size` before.
 pub fn size_after(file: usize, size: u64, op: &MicroOp) -> u64
     ensures { result ≡ size_after file size op.now }
 {
@@ -63,8 +63,8 @@ fn resizes(file: usize, op: &MicroOp) -> bool
     }
 }
 
-/// Whether the micro-operation makes its file shorter than `size`, or writes into the page, if one
-/// is given.
+/// Whether the micro-operation makes its file shorter than `size`, or writes into the page. If
+/// `page` is None, no write counts.
 fn reaches(page: Option<u64>, size: u64, op: &MicroOp) -> bool
     requires { IsSmall op.now }
     ensures { result ≡ reaches page size op.now }
@@ -88,7 +88,8 @@ fn changes(file: usize, op: &MicroOp) -> bool
     }
 }
 
-/// The size of the file before each micro-operation, after all before it.
+/// The size of the file before each micro-operation, if all those before it are members. `start` is
+/// its size at the start.
 fn sizes_before(
     alloc: Global,
     file: usize,
@@ -137,8 +138,8 @@ fn changing_places(alloc: Global, file: usize, ops: &[MicroOp]) -> Result<Vec<u3
     Ok(places)
 }
 
-/// Those of the places whose micro-operations write into the page, if one is given, or make the
-/// file shorter. `sizes` has the file's size before each micro-operation.
+/// Those of the places whose micro-operations write into the page, or make the file shorter. If
+/// `page` is None, no write counts. `sizes` has the file's size before each micro-operation.
 fn places_reaching(
     alloc: Global,
     page: Option<u64>,
@@ -161,7 +162,8 @@ fn places_reaching(
     Ok(found)
 }
 
-/// Adds a row for the page, unless it has one.
+/// Adds the page's row, unless it has one: those of the places that write into the page, or make
+/// the file shorter.
 fn add_row(
     alloc: Global,
     rows: &mut BTreeMap<u64, Vec<u32>>,
@@ -216,8 +218,8 @@ fn page_rows(
 }
 
 impl FileSteps {
-    /// The steps of a file that nothing changes.
-    fn none(alloc: Global) -> FileSteps {
+    /// The steps of a file that no micro-operation changes: no places.
+    fn empty(alloc: Global) -> FileSteps {
         FileSteps {
             sizes: Vec::new(alloc),
             cuts: Vec::new(alloc),
@@ -225,7 +227,8 @@ impl FileSteps {
         }
     }
 
-    /// The steps of the file of this number, which has `start` bytes at the start.
+    /// The places of the micro-operations that change the file of this number, which has `start`
+    /// bytes at the start.
     fn of(
         alloc: Global,
         file: usize,
@@ -244,7 +247,8 @@ impl FileSteps {
         Ok(FileSteps { sizes, cuts, pages })
     }
 
-    /// The places of the micro-operations that write into the page, or make the file shorter.
+    /// The places of the micro-operations that write into the page, or make the file shorter; only
+    /// the latter if none writes into it.
     pub fn row(&self, page: u64) -> &[u32]
         ensures { result.now ≡ row_at self.now page }
     {
@@ -255,8 +259,8 @@ impl FileSteps {
     }
 }
 
-/// The bytes of the file at the start; none if an operation makes it. `_ops` is for the contract
-/// only: it speaks of all files, those that `ops` makes too.
+/// The bytes of the file at the start; empty if a micro-operation makes it. `_ops` is for the
+/// contract only, which speaks of the files that they make, too.
 pub fn start_bytes<'a>(trace: &'a Trace, _ops: &[MicroOp], tables: &Tables, file: usize) -> &'a [u8]
     requires { AreStarts trace.now tables.now.starts.items }
     ensures { result.now ≡ (content_before trace.now _ops.now file).bytes }
@@ -269,7 +273,8 @@ pub fn start_bytes<'a>(trace: &'a Trace, _ops: &[MicroOp], tables: &Tables, file
     record.content.bytes().unwrap_or(&[])
 }
 
-/// The steps of the file, or no step if no micro-operation changes it.
+/// The places of the micro-operations that change the file; no places if `tables` says that none
+/// does.
 fn steps_of(
     alloc: Global,
     trace: &Trace,
@@ -286,14 +291,14 @@ fn steps_of(
         → AreFileSteps file (length (content_before trace.now ops.now file).bytes) ops.now steps) }
 {
     if !tables.changed[file] {
-        return Ok(FileSteps::none(alloc));
+        return Ok(FileSteps::empty(alloc));
     }
     let start = start_bytes(trace, ops, tables, file);
     let steps = FileSteps::of(alloc, file, start.len(), ops)?;
     Ok(steps)
 }
 
-/// The steps of each file, by its number.
+/// For each file, by its number, the places of the micro-operations that change it.
 pub fn all_steps(
     alloc: Global,
     trace: &Trace,

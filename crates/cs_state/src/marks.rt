@@ -1,4 +1,5 @@
-//! Which of the paths that ever exist some operation touches.
+//! Which of the paths that ever exist some step touches, and which are kept: every state has the
+//! same there. A path is given by its id, its place among all of them.
 ghost use Rattle.std.specs.Prelude.{◌≡◌, ◌+◌, ◌<◌, ◌^◌, ◌⊎◌, ◌++◌, ◌∷◌, [], ℕ, cond, false, true};
 ghost use Rattle.std.specs.Prelude.{length, IfOk, OnOk};
 ghost use Rattle.std.specs.List.{All};
@@ -10,7 +11,7 @@ ghost use Rattle.cs_state.specs.Shares.{IsLeft, IsTouched, Leaves, Touches};
 use cs_apm::slot::{Slot, Step};
 use std::alloc::{AllocError, Global};
 
-/// Marks the paths that a step changes; there are at most two.
+/// Marks the paths that a step changes: two of a move, none of `Step::Other`, and else one.
 fn mark_touched(marks: &mut [bool], step: Step)
     requires { FitsIn (length marks.old) step }
     ensures long { length marks.new ≡ length marks.old }
@@ -55,7 +56,7 @@ pub fn is_entry(slot: Slot) -> bool
     }
 }
 
-/// Appends the id, if it passes.
+/// Appends the id of a path, or the place of a micro-operation, if it passes.
 pub fn push_if(ids: &mut Vec<u32>, id: usize, passes: bool) -> Result<(), AllocError>
     requires { id < 2 ^ 20 }
     ensures { OnOk result (ids.new.items ≡ ids.old.items ++ cond passes (id ∷ []) []) }
@@ -79,7 +80,7 @@ pub fn marked_ids(alloc: Global, marks: &[bool]) -> Result<Vec<u32>, AllocError>
     Ok(found)
 }
 
-/// Whether there is something at the path from the start on, and no step changes it.
+/// Whether the path is kept: there is something from the start on, and no step changes it.
 fn is_kept(marks: &[bool], slots: &[Slot], id: usize) -> bool
     requires marked { id < length marks.now }
     requires there { id < length slots.now }
@@ -88,8 +89,8 @@ fn is_kept(marks: &[bool], slots: &[Slot], id: usize) -> bool
     !marks[id] && is_entry(slots[id])
 }
 
-/// The ids, ascending, of the paths at which there is something from the start on, and that no step
-/// changes.
+/// The ids of the kept paths, ascending: there is something from the start on, and no step changes
+/// it.
 pub fn kept_of(alloc: Global, marks: &[bool], slots: &[Slot]) -> Result<Vec<u32>, AllocError>
     requires few { length slots.now < 2 ^ 20 }
     requires long { length marks.now ≡ length slots.now }
@@ -104,7 +105,7 @@ pub fn kept_of(alloc: Global, marks: &[bool], slots: &[Slot]) -> Result<Vec<u32>
     Ok(found)
 }
 
-/// One more than the count, if it passes.
+/// One more than the count if it passes, else the count.
 fn count_if(count: u32, passes: bool) -> u32
     requires { count < 2 ^ 20 }
     ensures { result ≡ count + cond passes 1 0 }

@@ -1,5 +1,5 @@
-//! The numbers of the files and directories of a state, from what all states share and from what
-//! the state doesn't share.
+//! The numbers of the files and directories of a state: their places in the order of paths, from 0.
+//! They are computed from the kept paths, which all states share, and the state's own entries.
 ghost use Rattle.std.specs.Prelude.{◌≡◌, ◌+◌, ◌^◌, ◌<◌, ◌≤◌, ℕ, length, IfNone, IfSome};
 ghost use Rattle.std.specs.List.Sorted.{IsNonDecreasingBy};
 ghost use Rattle.cs_state.specs.Numbers.{own_in_place, count_with_key_below, kept_at, number_in};
@@ -25,8 +25,8 @@ pub struct Found {
     pub slot: Slot,
 }
 
-/// How many of the own numbers are below this one. They must be at least `least` and at most
-/// `most`; the binary search is between these.
+/// How many of the own entries have a number below this one. There must be at least `least` and at
+/// most `most` of them; the binary search is between these.
 fn numbers_below(own: &[Own], least: usize, most: usize, number: u64) -> usize
     requires rising { IsNonDecreasingBy (λ (o : Own). o.number) own.now }
     requires least { (k : ℕ) → k < least → k < length own.now
@@ -43,8 +43,8 @@ fn numbers_below(own: &[Own], least: usize, most: usize, number: u64) -> usize
     from + own[from..end].partition_point(|o| (o.number as u64) < number)
 }
 
-/// How many of the own ids are below this one. They must be at least `least` and at most `most`;
-/// the binary search is between these.
+/// How many of the own entries have an id below this one. There must be at least `least` and at
+/// most `most` of them; the binary search is between these.
 fn ids_below(own: &[Own], least: usize, most: usize, id: u32) -> usize
     requires rising { IsNonDecreasingBy (λ (o : Own). o.id) own.now }
     requires least { (k : ℕ) → k < least → k < length own.now → (own_in_place own.now k).id < id }
@@ -58,7 +58,7 @@ fn ids_below(own: &[Own], least: usize, most: usize, id: u32) -> usize
     from + own[from..end].partition_point(|o| o.id < id)
 }
 
-/// What has the number in the state, if it has so many.
+/// What has the number in the state, with the id of its path. None if the state has no such number.
 pub fn found_at(kept: &[u32], slots: &[Slot], own: &[Own], number: u64) -> Option<Found>
     requires merge { IsMerge kept.now own.now }
     requires inside { (k : ℕ) → k < length kept.now → kept_at kept.now k < length slots.now }
@@ -88,7 +88,8 @@ pub fn found_at(kept: &[u32], slots: &[Slot], own: &[Own], number: u64) -> Optio
     }
 }
 
-/// The number of what is at the path with this id. None if there is nothing in the state.
+/// The number of what is at the path with this id; `kept` and `own` are the state's paths, as in
+/// `State::number`. None if nothing is there in the state.
 pub fn number_of(kept: &[u32], kept_below: &[u32], own: &[Own], id: u32) -> Option<u64>
     requires merge { IsMerge kept.now own.now }
     requires there { id < length kept_below.now }
@@ -103,7 +104,7 @@ pub fn number_of(kept: &[u32], kept_below: &[u32], own: &[Own], id: u32) -> Opti
     ensures none { IfNone result (HasId kept.now own.now id → ⊥) }
 {
     let place = kept_below[id as usize] as usize;
-    // at most so many own ones come before it, and at most so many from it on
+    // At most `most` own ones come before it, and at most `others` from it on.
     let most = id as usize - place;
     let others = (kept_below.len() - id as usize).saturating_sub(kept.len() - place);
     let before = ids_below(own, own.len().saturating_sub(others), most, id);

@@ -20,7 +20,8 @@ use std::collections::BTreeMap;
 /// The places of the micro-operations that set the owner, group and permissions of files.
 #[derive(Debug, Drop)]
 pub struct OwnerSteps {
-    /// For each file that some micro-operation names so, by its number: the places of all that do.
+    /// For each file whose owner, group and permissions some micro-operation sets, by its number:
+    /// the places of all that do.
     pub rows: BTreeMap<u32, Vec<u32>>,
 }
 
@@ -49,7 +50,8 @@ fn rights_places(alloc: Global, file: u32, ops: &[MicroOp]) -> Result<Vec<u32>, 
     Ok(places)
 }
 
-/// Adds a row for the file, unless it has one.
+/// Adds the file's row, unless it has one: the places of the micro-operations that set its owner,
+/// group and permissions.
 fn add_row(
     alloc: Global,
     rows: &mut BTreeMap<u32, Vec<u32>>,
@@ -73,7 +75,7 @@ fn add_row(
 }
 
 impl OwnerSteps {
-    /// The owner steps of a trace's micro-operations.
+    /// Which of a trace's micro-operations set the owner, group and permissions of which file.
     pub fn of(alloc: Global, ops: &[MicroOp]) -> Result<OwnerSteps, AllocError>
         requires { length ops.now < 2 ^ 20 }
         ensures { IfOk result (AreOwnerSteps ops.now) }
@@ -103,8 +105,9 @@ impl OwnerSteps {
     }
 }
 
-/// The owner, group and permissions of the file after the members, from those that it had: those
-/// that the last member in `places` sets.
+/// The owner, group and permissions of the file after the members: those that the last member in
+/// `places` sets, or `owner`, those that it was made with, if none is a member. `places` has the
+/// micro-operations that set them, of which the members must be the first.
 pub fn owner_left<'a>(
     file: u32,
     owner: &'a Rights,

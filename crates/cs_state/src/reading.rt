@@ -21,7 +21,7 @@ use cs_trace::Rights;
 use cs_tree_model::{DMDIR, Kind, Metadata};
 use std::alloc::{AllocError, Global};
 
-/// The bytes of the file at the start; none if an operation makes it.
+/// As `start_bytes`, with the trace and the tables from the parts.
 fn start_of<'a>(parts: &'a Parts, file: u32) -> &'a [u8]
     requires { AreParts parts.now }
     ensures { result.now ≡ bytes_before parts.now file }
@@ -92,9 +92,9 @@ fn changed_part(
     Ok(part)
 }
 
-/// At most `count` bytes after the members, from an offset on, of a file that some micro-operation
-/// changes; `start` has its bytes at the start. It runs out of memory only if there is a byte to
-/// read.
+/// At most `count` bytes after the members, from the offset on, of a file that some micro-operation
+/// changes: fewer, or none, near its end or past it. `start` has its bytes at the start. It runs
+/// out of memory only if there is a byte to read.
 fn changed_bytes(
     alloc: Global,
     parts: &Parts,
@@ -126,8 +126,8 @@ fn changed_bytes(
     Ok(bytes)
 }
 
-/// At most `count` bytes of the file after the members, from an offset on. It runs out of memory
-/// only if there is a byte to read.
+/// At most `count` bytes of the file after the members, from the offset on: fewer, or none, near
+/// its end or past it. It runs out of memory only if there is a byte to read.
 fn bytes_of(
     alloc: Global,
     parts: &Parts,
@@ -185,7 +185,8 @@ fn unchanged_metadata(number: u64, rights: &Rights, bit: u32, kind: Kind) -> Met
     }
 }
 
-/// The metadata of what is in a slot. None if the slot is empty.
+/// The metadata, with this number, of what is in a slot after the members. None if the slot is
+/// empty.
 pub fn metadata_of<'a>(
     parts: &'a Parts,
     members: &[bool],
@@ -214,8 +215,9 @@ pub fn metadata_of<'a>(
     }
 }
 
-/// At most `count` bytes from an offset on of the file in a slot. None if there is no file. It runs
-/// out of memory only if there is a byte to read.
+/// At most `count` bytes, from the offset on, of the file in a slot after the members: fewer, or
+/// none, near its end or past it. None if there is no file in the slot. It runs out of memory only
+/// if there is a byte to read.
 pub fn read(
     alloc: Global,
     parts: &Parts,

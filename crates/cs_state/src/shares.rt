@@ -28,7 +28,7 @@ pub struct Shares {
     pub names: PlainTree,
 }
 
-/// Every path that ever exists as a directory.
+/// A tree that has each path that ever exists as a directory, numbered by its place among them.
 fn names_of(
     alloc: Global,
     trace: &Trace,

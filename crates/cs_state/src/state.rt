@@ -29,8 +29,8 @@ pub struct State {
     pub own: Vec<Own>,
 }
 
-/// What has the number in the state of a set, if it has so many. `_members` is for the contract
-/// only, which speaks of the set.
+/// What has the number in the state of a set, with the id of its path. None if the state has no
+/// such number. `_members` is for the contract only, which speaks of the set.
 fn found_in(parts: &Parts, _members: &[bool], own: &[Own], number: u64) -> Option<Found>
     requires { IsState parts.now (members_in _members.now) own.now }
     ensures slot { IfSome result
@@ -42,7 +42,7 @@ fn found_in(parts: &Parts, _members: &[bool], own: &[Own], number: u64) -> Optio
     found_at(&parts.shares.kept, &parts.tables.slots, own, number)
 }
 
-/// The number of what is at the path with this id in the state of a set. None if there is nothing.
+/// The number of what is at the path with this id in the state of a set. None if nothing is there.
 /// `_members` is for the contract only, which speaks of the set.
 fn number_in(parts: &Parts, _members: &[bool], own: &[Own], id: u64) -> Option<u64>
     requires state { IsState parts.now (members_in _members.now) own.now }
@@ -53,7 +53,7 @@ fn number_in(parts: &Parts, _members: &[bool], own: &[Own], id: u64) -> Option<u
 }
 
 impl State {
-    /// What has the number, if the state has so many.
+    /// What has the number, with the id of its path. None if the state has no such number.
     pub fn found(&self, number: u64) -> Option<Found>
         requires { IsMade self.now }
         ensures slot { IfSome result (λ f. f.slot ≡ slot_at (slots_in self.now) f.id) }
@@ -64,7 +64,7 @@ impl State {
         found_in(&self.parts, &self.members, &self.own, number)
     }
 
-    /// The number of what is at the path with this id. None if there is nothing.
+    /// The number of what is at the path with this id. None if nothing is there.
     pub fn number(&self, id: u64) -> Option<u64>
         requires made { IsMade self.now }
         requires there { id < length (arc_value self.now.parts).tables.slots.items }
@@ -80,7 +80,8 @@ impl State {
         &self.parts.shares.names
     }
 
-    /// How many files and directories the state has, including the root.
+    /// How many files and directories the state has, including the root: one at each kept path, and
+    /// its own.
     pub fn count(&self) -> usize
         requires { IsMade self.now }
         ensures { result ≡ count_in (arc_value self.now.parts) (members_in self.now.members.items) }
@@ -88,7 +89,7 @@ impl State {
         self.parts.shares.kept.len() + self.own.len()
     }
 
-    /// The metadata of what is in a slot. None if the slot is empty.
+    /// The metadata, with this number, of what is in a slot. None if the slot is empty.
     pub fn metadata(&self, number: u64, slot: Slot) -> Option<Metadata<'_>>
         requires made { IsMade self.now }
         requires known { IsKnown (length (arc_value self.now.parts).tables.rights.items)

@@ -1,4 +1,4 @@
-//! The state of a set.
+//! The state of a set, read as a tree.
 ghost use Rattle.std.specs.Prelude.{◌≡◌, Some, IfSome, IsSome};
 ghost use Rattle.std.specs.Option.{option_copied, option_map};
 ghost use Rattle.cs_tree_model.specs.Nexts.{entry_name, IsEntryBelow};
@@ -43,33 +43,38 @@ impl StateTree {
 impl TreeRead for StateTree {
     ghost tree = { λ t. t };
 
-    /// Computed from the members and the shared tables: a state has no records.
+    /// The metadata of what has the number; None if nothing has. A state keeps no records: they are
+    /// computed from the members and the shared tables.
     fn record(&self, number: u64) -> Option<Metadata<'_>> {
         let found = self.state.found(number)?;
         self.state.metadata(number, found.slot)
     }
 
-    /// Looks the name up among all paths, and then whether there is something in this state.
+    /// The number of the entry of this name in the directory; None if there is none. The name is
+    /// looked up among all paths, and then in this state.
     fn find_number(&self, directory: u64, name: &str) -> Option<u64> {
         let found = self.state.found(directory)?;
         let id = self.state.names().find_number(found.id as u64, name)?;
         self.state.number(id)
     }
 
-    /// The number of the parent path, which has a directory in every state that has the entry.
+    /// The number of the directory of what has the number; None if nothing has. The parent path has
+    /// a directory in every state that has the entry.
     fn parent_of(&self, number: u64) -> Option<u64> {
         let found = self.state.found(number)?;
         let id = self.state.names().parent_of(found.id as u64)?;
         self.state.number(id)
     }
 
-    /// A path has the same name in every state, so it is lent from the shared tree of names.
+    /// The name of what has the number; None for the root, and if nothing has the number. It is
+    /// lent from the shared tree of names, since a path has the same name in every state.
     fn name_of(&self, number: u64) -> Option<&Name> {
         let found = self.state.found(number)?;
         self.state.names().name_of(found.id as u64)
     }
 
-    /// Skips names at which there is nothing in this state.
+    /// The directory's next entry after `last` and before `bound`; None if there is none. Names at
+    /// which there is nothing in this state are skipped.
     fn entry_after(
         &self,
         directory: u64,
@@ -80,17 +85,19 @@ impl TreeRead for StateTree {
         entry_in(&self.state, found.id as u64, last, bound)
     }
 
-    /// Paths that are the same in every state, and this state's own.
+    /// How many files and directories the state has, including the root.
     fn count(&self) -> usize {
         self.state.count()
     }
 
-    /// Numbers are places in the order of paths, and the root is in every state.
+    /// The greatest number. Numbers are places in the order of paths, from 0, and the root is in
+    /// every state.
     fn last_number(&self) -> u64 {
         self.state.count() as u64 - 1
     }
 
-    /// Applies only those members that reach the pages that are read.
+    /// At most `count` bytes of the file from the offset on; None if no file has the number. Only
+    /// those members are applied that reach the pages that are read.
     fn read_at(
         &self,
         alloc: Global,
@@ -106,8 +113,8 @@ impl TreeRead for StateTree {
     }
 }
 
-/// The next entry of a directory, given by its path's id, after `last` and up to `bound`. Names at
-/// which there is nothing in this state are skipped.
+/// The next entry of a directory, which is given by its path's id, after `last` and before `bound`.
+/// None if there is none. Names at which there is nothing in this state are skipped.
 fn entry_in<'a>(
     state: &'a State,
     directory: u64,

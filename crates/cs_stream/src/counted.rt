@@ -1,4 +1,4 @@
-//! Streams over readers and writers, with their calls counted.
+//! Streams over a reader and a writer that are one object, or two, with their calls counted.
 ghost use Rattle.std.specs.Prelude.{◌≡◌, None};
 ghost use Rattle.cs_stream.specs.Overs.{inner_of, counts_of, reader_of, writer_of, ends_counts};
 ghost use Rattle.cs_stream.specs.Overs.{transfer_of};
@@ -6,8 +6,9 @@ ghost use Rattle.cs_stream.specs.Overs.{transfer_of};
 use crate::stream::{Counts, Stream, Transfer};
 use std::io::{self, ErrorKind, Read, Write};
 
-/// The transfer that a reader's or a writer's answer means.
-fn transfer(answer: io::Result<usize>) -> Transfer
+/// What a reader's or a writer's answer means: an error is Interrupted if it is of that kind, and
+/// Failed if it is of any other.
+fn transfer_of(answer: io::Result<usize>) -> Transfer
     ensures { result ≡ transfer_of answer }
 {
     match answer {
@@ -19,7 +20,7 @@ fn transfer(answer: io::Result<usize>) -> Transfer
     }
 }
 
-/// A stream over one object that is both reader and writer, as a socket is. Contracts don't know
+/// A stream over one object that is both reader and writer, such as a socket. Contracts don't know
 /// its bytes.
 #[derive(Drop)]
 pub struct Counted<RW> {
@@ -46,7 +47,7 @@ impl<RW> Counted<RW> {
         self.counts
     }
 
-    /// The reader and writer that it is over; the counts are dropped.
+    /// Returns the object that is the reader and writer; the counts are dropped.
     pub fn into_inner(self) -> RW
         ensures { result ≡ inner_of self }
     {
@@ -62,20 +63,20 @@ impl<RW: Read + Write> Stream for Counted<RW> {
     ghost counts = { counts_of };
 
     fn read(&mut self, buf: &mut [u8]) -> Transfer {
-        let done = transfer(self.inner.read(buf));
-        self.counts.count_read(done, buf.len());
-        done
+        let transfer = transfer_of(self.inner.read(buf));
+        self.counts.count_read(transfer, buf.len());
+        transfer
     }
 
     fn write(&mut self, buf: &[u8]) -> Transfer {
-        let done = transfer(self.inner.write(buf));
-        self.counts.count_write(done, buf.len());
-        done
+        let transfer = transfer_of(self.inner.write(buf));
+        self.counts.count_write(transfer, buf.len());
+        transfer
     }
 }
 
-/// A stream over a reader and a writer that are two objects. Contracts know the bytes of an end if
-/// they know those of its reader or writer.
+/// A stream over a reader and a writer that are two objects. Contracts know what it reads if they
+/// know the reader's bytes, and what it has written if they know the writer's.
 #[derive(Drop)]
 pub struct TwoEnded<R, W> {
     reader: R,
@@ -84,7 +85,7 @@ pub struct TwoEnded<R, W> {
 }
 
 impl<R, W> TwoEnded<R, W> {
-    /// A stream over both, with no call counted.
+    /// A stream that reads from `reader` and writes to `writer`, with no call counted.
     pub fn new(reader: R, writer: W) -> TwoEnded<R, W>
         ensures reader { reader_of result ≡ reader }
         ensures writer { writer_of result ≡ writer }
@@ -104,7 +105,7 @@ impl<R, W> TwoEnded<R, W> {
         self.counts
     }
 
-    /// The writer; the reader and the counts are dropped.
+    /// Returns the writer; the reader and the counts are dropped.
     pub fn into_writer(self) -> W
     where
         R: Drop,
@@ -122,14 +123,14 @@ impl<R: Read, W: Write> Stream for TwoEnded<R, W> {
     ghost counts = { ends_counts };
 
     fn read(&mut self, buf: &mut [u8]) -> Transfer {
-        let done = transfer(self.reader.read(buf));
-        self.counts.count_read(done, buf.len());
-        done
+        let transfer = transfer_of(self.reader.read(buf));
+        self.counts.count_read(transfer, buf.len());
+        transfer
     }
 
     fn write(&mut self, buf: &[u8]) -> Transfer {
-        let done = transfer(self.writer.write(buf));
-        self.counts.count_write(done, buf.len());
-        done
+        let transfer = transfer_of(self.writer.write(buf));
+        self.counts.count_write(transfer, buf.len());
+        transfer
     }
 }

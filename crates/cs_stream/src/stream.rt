@@ -11,7 +11,7 @@ use cs_names::limits::INTERRUPTIONS;
 /// What a read or a write did.
 #[derive(Clone, Copy, Debug, PartialEq, Eq)]
 pub enum Transfer {
-    /// It moved this many bytes. A read of none into some room met the stream's end.
+    /// It moved this many bytes. If a read that had room moved none, it met the stream's end.
     Bytes(usize),
     /// It was interrupted, and moved none.
     Interrupted,
@@ -19,7 +19,8 @@ pub enum Transfer {
     Failed,
 }
 
-/// How often a stream was called, and with which results. A count that is full stays so.
+/// How often a stream was called, and with which results. A count that reaches u64::MAX stays
+/// there.
 #[derive(Clone, Copy, Debug, PartialEq, Eq)]
 pub struct Counts {
     /// Reads.
@@ -28,7 +29,7 @@ pub struct Counts {
     pub failed_reads: u64,
     /// Interrupted reads since the last read that wasn't.
     pub interrupted_reads: u64,
-    /// Reads of no byte into some room.
+    /// Reads that had room and moved no byte: they met the stream's end.
     pub ends: u64,
     /// Writes.
     pub writes: u64,
@@ -36,7 +37,7 @@ pub struct Counts {
     pub failed_writes: u64,
     /// Interrupted writes since the last write that wasn't.
     pub interrupted_writes: u64,
-    /// Writes of some bytes that took none.
+    /// Writes that had bytes to move and moved none.
     pub idle_writes: u64,
 }
 
@@ -53,12 +54,12 @@ impl Counts {
         idle_writes: 0,
     };
 
-    /// Counts a read into `room` bytes.
-    pub fn count_read(&mut self, done: Transfer, room: usize)
-        ensures { self.new ≡ counted_read done room self.old }
+    /// Counts a read that had room for `room` bytes and did this.
+    pub fn count_read(&mut self, transfer: Transfer, room: usize)
+        ensures { self.new ≡ counted_read transfer room self.old }
     {
         self.reads = self.reads.saturating_add(1);
-        match done {
+        match transfer {
             Transfer::Bytes(count) => {
                 self.interrupted_reads = 0;
                 if count == 0 && room > 0 {
@@ -75,12 +76,12 @@ impl Counts {
         }
     }
 
-    /// Counts a write of `bytes` bytes.
-    pub fn count_write(&mut self, done: Transfer, bytes: usize)
-        ensures { self.new ≡ counted_write done bytes self.old }
+    /// Counts a write that was given `bytes` bytes and did this.
+    pub fn count_write(&mut self, transfer: Transfer, bytes: usize)
+        ensures { self.new ≡ counted_write transfer bytes self.old }
     {
         self.writes = self.writes.saturating_add(1);
-        match done {
+        match transfer {
             Transfer::Bytes(count) => {
                 self.interrupted_writes = 0;
                 if count == 0 && bytes > 0 {
@@ -109,14 +110,15 @@ pub trait Stream {
     /// The counts of its calls so far.
     ghost counts: { Self → Counts };
 
-    /// Reads some bytes into the front of `buf`.
+    /// Reads bytes into the front of `buf`, at most as many as fit, and counts the read. No byte
+    /// into a `buf` that isn't empty means the stream's end.
     fn read(&mut self, buf: &mut [u8]) -> Transfer
         ensures bytes { ReadGives (remaining self.old) (remaining self.new) result buf.new }
         ensures contents { contents self.new ≡ contents self.old }
         ensures counted { counts self.new
             ≡ counted_read result (length buf.old) (counts self.old) };
 
-    /// Writes some of the bytes, from the front.
+    /// Writes some of the bytes, from the front and perhaps none, and counts the write.
     fn write(&mut self, buf: &[u8]) -> Transfer
         ensures bytes { WriteGives (contents self.old) (contents self.new) result buf.now }
         ensures remaining { remaining self.new ≡ remaining self.old }
@@ -129,7 +131,7 @@ pub trait Stream {
 pub struct WriteFault;
 
 /// Writes all of the bytes. An interrupted write is tried again, but the thousandth in a row is a
-/// fault. After a fault some of the bytes, from the front, were written.
+/// fault. After a fault some of the bytes, from the front, were written, or none.
 pub fn write_all<S: Stream>(stream: &mut S, bytes: &[u8]) -> Result<(), WriteFault>
     ensures ok { OnOk result (Appends (S.contents stream.old) (S.contents stream.new) bytes.now) }
     ensures err { OnErr result

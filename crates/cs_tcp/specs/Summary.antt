@@ -23,26 +23,26 @@ verdict_text (Err (Changed place)) = codes "changed " ++ decimal place
 
 -- how many entries the journal of a run has, and its audit; foreign if the run was of another
 -- number
-abbrev pub told_text : Option (ℕ × Result (Unit {0}) AuditFault) → List ℕ
-told_text None = codes "foreign"
-told_text (Some told) =
-    codes "entries " ++ (decimal told.0 ++ (codes " audit " ++ verdict_text told.1))
+abbrev pub finding_text : Option (ℕ × Result (Unit {0}) AuditFault) → List ℕ
+finding_text None = codes "foreign"
+finding_text (Some finding) =
+    codes "entries " ++ (decimal finding.0 ++ (codes " audit " ++ verdict_text finding.1))
 
 -- the line of a run: the number of its state, its name, and what is printed of it
 abbrev pub run_line : RunReport → List ℕ
 run_line report =
     codes "run " ++ (decimal report.key.number ++ (codes "/" ++ (report.key.name
-    ++ (codes " " ++ (told_text report.told ++ codes "\n")))))
+    ++ (codes " " ++ (finding_text report.finding ++ codes "\n")))))
 
 -- the run has so many entries, and the audit of its journal by these passes has this result
 abbrev pub IsAudit : List PassOf → RunOf → ℕ × Result (Unit {0}) AuditFault → Type 0
-IsAudit passes run told = (told.0 ≡ length run.journal) × Audits passes run.journal told.1
+IsAudit passes run finding = (finding.0 ≡ length run.journal) × Audits passes run.journal finding.1
 
--- what is printed is of a run that the server has under the number of the key, audited by the passes
--- that were kept for that key
+-- what is printed is of a run that the server has under the number of the key, audited by the
+-- passes that were kept for that key
 abbrev pub IsReport : HasTree → Given → RunReport → Type 0
 IsReport serves given report =
-    IsTold serves report.key.number (IsAudit (passes_of given report.key)) report.told
+    IsTold serves report.key.number (IsAudit (passes_of given report.key)) report.finding
 
 -- The text has the line of each key's run, in the order of the keys.
 pub record AreReported (serves : HasTree) (given : Given) (keys : List Key) (text : List ℕ)

@@ -1,4 +1,4 @@
-//! Connections are accepted.
+//! Accepting one connection. Which threads do that, and when no more come in, is in `entrance`.
 
 use std::io::ErrorKind;
 use std::net::{OpenListener, SocketAddr};
@@ -11,31 +11,32 @@ use std::time::Duration;
 /// How many accepts in a row may fail.
 const FAILED_ACCEPTS: u32 = 100;
 
-/// How long to wait after an accept without a connection: nobody asks for one, or the accept failed,
-/// as it may at once, again and again, if there are too many open files.
+/// How long to wait after an accept without a connection: no client asks for one, or the accept
+/// failed. With too many open files it fails at once, again and again.
 const PAUSE_MILLISECONDS: u64 = 10;
 
-/// What came of waiting for a connection.
+/// The result of waiting for a connection.
 #[derive(Drop)]
 pub(crate) enum Accepted<S> {
     /// A connection, and its peer's address.
     Connection(S, SocketAddr),
-    /// No more are to come.
-    Ended,
+    /// No more connections are accepted.
+    Closing,
     /// FAILED_ACCEPTS accepts in a row failed.
     Failed,
 }
 
-/// Waits for the next connection, until no more are to come. The listener's accepts don't wait.
+/// Waits for the next connection, until `closing` is set or FAILED_ACCEPTS accepts in a row have
+/// failed. The listener must not block: `closing` is looked at between its accepts.
 pub(crate) fn accept<R: Wait + Clock, L: OpenListener>(
     rt: &R,
     listener: &L,
-    ended: &AtomicBool,
+    closing: &AtomicBool,
 ) -> Accepted<L::Stream> {
     let mut failures = 0u32;
     for _ in rt.forever() {
-        if ended.load(Ordering::SeqCst) {
-            return Accepted::Ended;
+        if closing.load(Ordering::SeqCst) {
+            return Accepted::Closing;
         }
         match listener.accept() {
             Ok((stream, from)) => return Accepted::Connection(stream, from),

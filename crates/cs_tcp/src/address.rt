@@ -1,8 +1,8 @@
-//! The address that is listened on.
+//! The address that the server listens on, as it is printed.
 
 use std::fmt;
 
-/// An address as it was given; if its port is 0, with the port that was taken in its place.
+/// An address as the command line gave it, and the port that the system took.
 #[derive(Clone, Copy, Debug)]
 pub(crate) struct Address<'a> {
     pub(crate) given: &'a str,
@@ -10,6 +10,7 @@ pub(crate) struct Address<'a> {
 }
 
 impl fmt::Display for Address<'_> {
+    /// Writes the address as it was given, but the port that was taken in place of a port 0.
     fn fmt<W: fmt::Write>(&self, f: &mut fmt::Formatter<W>) -> fmt::Result {
         let given = self.given;
         match given.rsplit_once(':') {

@@ -1,4 +1,4 @@
-//! Whose clients connect.
+//! Which kind of client connects.
 
 /// A client of 9P2000.
 #[derive(Clone, Copy, Debug, PartialEq, Eq)]

@@ -1,9 +1,9 @@
-//! One connection over TCP.
+//! One connection over TCP, served to its end. The threads that do so are in `slots`.
 
 use crate::client::Client;
 use crate::for_linux::LinuxStream;
-use crate::heard::LoggedStream;
 use crate::log::Log;
+use crate::logged::LoggedStream;
 use crate::wall_clock::WallClock;
 use cs_connection::{Connection, Server, serve_connection};
 use cs_shared_runs::ServerBrand;
@@ -18,31 +18,33 @@ use std::time::Duration;
 /// How many seconds a write may wait for a client that doesn't read.
 const WRITE_TIMEOUT_SECONDS: u64 = 30;
 
-/// Sets how the stream writes: at once, and with an end to waiting. A read may wait for ever: an
-/// idle client is no fault.
+/// Sets the stream to write at once, and to give up a write after WRITE_TIMEOUT_SECONDS. A read has
+/// no timeout: an idle client is no fault.
 fn set_up(stream: &TcpStream) -> io::Result<()> {
     stream.set_nodelay(true)?;
     stream.set_write_timeout(Some(Duration::from_secs(WRITE_TIMEOUT_SECONDS)))
 }
 
-/// What serves streams. What is generic over it serves streams that lend, whatever a server keeps.
+/// A server of streams. Functions that are generic over it can serve a stream that borrows, though
+/// the type of what a server keeps may not.
 trait StreamServer {
-    /// What comes of a stream.
-    type Ended;
+    /// What is left of a stream that was served.
+    type Served;
 
-    /// Serves the stream to its end, and closes it.
-    fn serve<R: Wait + Clock, RW: Read + Write + Drop>(
+    /// Serves the stream to its end, and drops it, which closes it.
+    fn serve_stream<R: Wait + Clock, RW: Read + Write + Drop>(
         &self,
         rt: &R,
         alloc: Global,
         stream: RW,
-    ) -> Self::Ended;
+    ) -> Self::Served;
 }
 
 impl<S: ServerBrand> StreamServer for Server<S> {
-    type Ended = Connection<S>;
+    type Served = Connection<S>;
 
-    fn serve<R: Wait + Clock, RW: Read + Write + Drop>(
+    /// Serves the stream by the clock of the machine. Returns its connection, with its passes.
+    fn serve_stream<R: Wait + Clock, RW: Read + Write + Drop>(
         &self,
         rt: &R,
         alloc: Global,
@@ -54,26 +56,28 @@ impl<S: ServerBrand> StreamServer for Server<S> {
     }
 }
 
-/// Serves the stream to its end; its messages are printed, if the log prints these.
-fn serve_heard<V: StreamServer, R: Wait + Clock, E: Write, RW: Read + Write + Drop>(
+/// Serves the stream of the connection `conn` to its end. Its messages are printed if the log is
+/// verbose.
+fn serve_logged<V: StreamServer, R: Wait + Clock, E: Write, RW: Read + Write + Drop>(
     rt: &R,
     alloc: Global,
     server: &V,
     stream: RW,
     conn: u32,
     log: Log<E>,
-) -> V::Ended {
+) -> V::Served {
     if log.verbose {
-        let heard = LoggedStream::new(rt, alloc, stream, conn, log);
-        server.serve(rt, alloc, heard)
+        let logged = LoggedStream::new(rt, alloc, stream, conn, log);
+        server.serve_stream(rt, alloc, logged)
     } else {
-        server.serve(rt, alloc, stream)
+        server.serve_stream(rt, alloc, stream)
     }
 }
 
-/// Serves the connection of that number to its end, and prints how it ended; its messages too, if
-/// the log prints these. None if its socket can't be set up: then nothing was read.
-pub(crate) fn serve<S: ServerBrand, R: Wait + Clock, E: Write>(
+/// Serves a client, whose connection has the number `conn`, to its end, and prints how that came;
+/// its messages too if the log is verbose. None if its socket can't be set up: then nothing was
+/// read.
+pub(crate) fn serve_client<S: ServerBrand, R: Wait + Clock, E: Write>(
     rt: &R,
     alloc: Global,
     server: &Server<S>,
@@ -83,16 +87,16 @@ pub(crate) fn serve<S: ServerBrand, R: Wait + Clock, E: Write>(
     log: Log<E>,
 ) -> Option<Connection<S>> {
     if set_up(&stream).is_err() {
-        log.not_set_up(rt, conn);
+        log.print_not_set_up(rt, conn);
         return None;
     }
-    let ended = match client {
-        Client::Plan9 => serve_heard(rt, alloc, server, stream, conn, log),
+    let connection = match client {
+        Client::Plan9 => serve_logged(rt, alloc, server, stream, conn, log),
         Client::Linux => {
             let stream = LinuxStream::new(alloc, stream);
-            serve_heard(rt, alloc, server, stream, conn, log)
+            serve_logged(rt, alloc, server, stream, conn, log)
         }
     };
-    log.ended(rt, conn, ended.result());
-    Some(ended)
+    log.print_end(rt, conn, connection.result());
+    Some(connection)
 }

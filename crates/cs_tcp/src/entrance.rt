@@ -1,4 +1,4 @@
-//! Where connections come in.
+//! The entrance of connections: a listener that threads share until no more come in.
 
 use crate::accepting::{Accepted, accept};
 use std::net::{SocketAddr, TcpListener, TcpStream};
@@ -6,37 +6,39 @@ use std::rt::Clock;
 use std::sync::atomic::{AtomicBool, Ordering};
 use std::sync::{Mutex, Wait};
 
-/// What a thread that serves connections is given.
+/// What a thread that asks for a connection is given.
 #[derive(Drop)]
 pub(crate) enum Admitted {
     /// The connection of that number, and its peer's address.
     Connection(u32, TcpStream, SocketAddr),
-    /// It is closed: no more come in.
+    /// None: the entrance is closed.
     Closed,
-    /// Accepting failed. It is closed from now on.
+    /// None: accepting failed, which closed the entrance.
     Failed,
 }
 
-/// The listener of an entrance that is open.
+/// The listener of an entrance, and the numbers of its connections.
 #[derive(Drop)]
 struct Door {
+    /// None once the entrance is closed.
     listener: Option<TcpListener>,
     /// The number of the next connection.
     next: u32,
-    /// How many more come in, if that has an end.
+    /// How many more connections come in. None if any number may.
     left: Option<u32>,
     /// Whether accepting failed.
     failed: bool,
 }
 
 impl Door {
-    /// Listens no more.
+    /// Drops the listener: it listens no more.
     fn close(&mut self) {
         self.listener = None;
     }
 
-    /// The number of a connection that comes in. The last one closes the door.
-    fn count(&mut self) -> u32 {
+    /// Counts a connection that came in, and returns its number. The last one that may come in
+    /// closes the door.
+    fn count_connection(&mut self) -> u32 {
         let number = self.next;
         self.next = number.wrapping_add(1);
         if let Some(left) = self.left {
@@ -48,16 +50,17 @@ impl Door {
         number
     }
 
-    /// Waits for the next connection, until no more are to come.
-    fn admit<R: Wait + Clock>(&mut self, rt: &R, ended: &AtomicBool) -> Admitted {
+    /// Waits for the next connection and counts it. Once `closing` is set, or accepting fails, the
+    /// door is closed.
+    fn admit<R: Wait + Clock>(&mut self, rt: &R, closing: &AtomicBool) -> Admitted {
         let Some(listener) = &self.listener else {
             return Admitted::Closed;
         };
-        match accept(rt, listener, ended) {
+        match accept(rt, listener, closing) {
             Accepted::Connection(stream, from) => {
-                Admitted::Connection(self.count(), stream, from)
+                Admitted::Connection(self.count_connection(), stream, from)
             }
-            Accepted::Ended => {
+            Accepted::Closing => {
                 self.close();
                 Admitted::Closed
             }
@@ -70,19 +73,19 @@ impl Door {
     }
 }
 
-/// Where connections come in until it is closed: then it listens no more. Threads share it, and one
-/// of them at a time waits for a connection, with the lock held; those that wait for the lock have
-/// nothing else to do.
+/// Where connections come in until it is closed. Threads share it. One at a time waits for a
+/// connection, with the lock held: the others wait for the lock, and have nothing else to do.
 #[derive(Drop)]
 pub(crate) struct Entrance {
     door: Mutex<Door>,
-    /// Whether no more connections are to come in: a thread that waits for one looks at this.
-    ended: AtomicBool,
+    /// Whether the entrance is to be closed. The thread that waits for a connection, and so has the
+    /// lock, looks at this.
+    closing: AtomicBool,
 }
 
 impl Entrance {
-    /// That of a listener whose accepts don't wait, by which so many connections come in, or any
-    /// number. Their numbers begin at 0, and do so again after 4,294,967,295.
+    /// An open entrance. The listener must not block. `left` connections come in, any number if it
+    /// is None. Their numbers begin at 0, and again after 4,294,967,295.
     pub(crate) fn new(listener: TcpListener, left: Option<u32>) -> Entrance {
         let door = Door {
             listener: Some(listener),
@@ -92,23 +95,24 @@ impl Entrance {
         };
         Entrance {
             door: Mutex::new(door),
-            ended: AtomicBool::new(false),
+            closing: AtomicBool::new(false),
         }
     }
 
-    /// Waits for the next connection, until it is closed.
+    /// Waits for the next connection, until the entrance is closed.
     pub(crate) fn admit<R: Wait + Clock>(&self, rt: &R) -> Admitted {
-        self.door.lock(rt).admit(rt, &self.ended)
+        self.door.lock(rt).admit(rt, &self.closing)
     }
 
-    /// Closes it. A thread that waits for a connection notices within a pause of accepting.
+    /// Closes the entrance. It waits for the lock until the thread that waits for a connection
+    /// notices, which is after one pause of `accept` at most.
     pub(crate) fn close(&self, rt: &impl Wait) {
-        self.ended.store(true, Ordering::SeqCst);
+        self.closing.store(true, Ordering::SeqCst);
         self.door.lock(rt).close();
     }
 
-    /// Whether accepting failed.
-    pub(crate) fn failed(&self, rt: &impl Wait) -> bool {
+    /// Whether accepting failed, so that the entrance was closed.
+    pub(crate) fn has_failed(&self, rt: &impl Wait) -> bool {
         self.door.lock(rt).failed
     }
 }

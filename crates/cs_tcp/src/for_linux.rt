@@ -1,6 +1,7 @@
-//! A connection's stream, as Linux's own client needs it.
+//! A connection's stream, as Linux's own client needs it: messages are changed on their way. How
+//! one message is changed is in cs_linux; which requests a rename takes, in `pending`.
 
-use crate::asked::{PendingRequests, ReplyFate, reply_type_of, type_of};
+use crate::pending::{PendingRequests, ReplyFate, reply_type_of, request_type_of};
 use cs_linux::{reply_to_linux, request_of_linux};
 use cs_names::limits::MESSAGE_BYTES;
 use cs_wire::{
@@ -11,43 +12,44 @@ use std::alloc::Global;
 use std::collections::VecDeque;
 use std::io::{self, Read, Write};
 
-/// A stream to a client of Linux: what is read from it is what the client means, and what is
-/// written to it has texts that the client knows. A message goes on once it is whole; one for which
-/// there is no memory goes on as it is. If the client renames a file over another, more requests are
-/// read than it sent, and it doesn't get their replies.
+/// A stream to a client of Linux. What is read from it are requests as the client means them; what
+/// is written to it reaches the client with texts of errors that it knows. A message goes on once
+/// it is whole. If it can't be changed because out of memory, it goes on as it is. If the client
+/// renames a file over another, more requests are read than it sent, whose replies it doesn't get.
 #[derive(Drop)]
 pub(crate) struct LinuxStream<RW> {
     stream: RW,
     alloc: Global,
-    /// What the client sent, from the first request on that isn't whole.
+    /// What the client sent and isn't in `to_server` yet.
     requests: Framer,
-    /// What is still to be read of what it means.
-    meant: VecDeque<u8>,
+    /// What is to be read next: requests for the server.
+    to_server: VecDeque<u8>,
     /// What was written, from the first reply on that isn't whole.
     replies: Framer,
-    /// What was read of what it means, as far as replies to it matter.
-    asked: PendingRequests,
+    /// The requests that the server was asked, as far as their replies matter.
+    pending: PendingRequests,
 }
 
-/// What the client means by a Twstat. None of any other request.
-fn meant_by(alloc: Global, request: &[u8]) -> Option<TMessage<'_>> {
-    if type_of(request) != Some(TKind::Wstat) {
+/// The request that the client means by a Twstat. None of any other request, and if out of memory.
+fn request_meant_by(alloc: Global, request: &[u8]) -> Option<TMessage<'_>> {
+    if request_type_of(request) != Some(TKind::Wstat) {
         return None;
     }
     Some(request_of_linux(decode_request(alloc, request).ok()?))
 }
 
-/// What the client gets for an Rerror. None for any other reply.
-fn told_of(alloc: Global, reply: &[u8]) -> Option<RMessage> {
+/// The reply that the client gets for an Rerror. None of any other reply, and if out of memory.
+fn error_for_linux(alloc: Global, reply: &[u8]) -> Option<RMessage> {
     if reply_type_of(reply) != Some(RKind::Error) {
         return None;
     }
     Some(reply_to_linux(decode_reply(alloc, reply).ok()?))
 }
 
-/// The bytes of what the client means by a request. None if they are the request's own.
-fn bytes_meant(alloc: Global, request: &[u8]) -> Option<Vec<u8>> {
-    let meant = meant_by(alloc, request)?;
+/// The bytes of the request that the client means by this one. None if they are this one's own: it
+/// means what it says, is too long when changed, or out of memory.
+fn request_bytes_meant(alloc: Global, request: &[u8]) -> Option<Vec<u8>> {
+    let meant = request_meant_by(alloc, request)?;
     if !meant.fits() {
         return None;
     }
@@ -56,89 +58,98 @@ fn bytes_meant(alloc: Global, request: &[u8]) -> Option<Vec<u8>> {
     Some(bytes)
 }
 
-/// The bytes of what the client gets for a reply. None if they are the reply's own.
-fn bytes_told(alloc: Global, reply: &[u8]) -> Option<Vec<u8>> {
-    let told = told_of(alloc, reply)?;
-    if !told.fits() {
+/// The bytes of the reply that the client gets for this one. None if they are this one's own: it is
+/// no Rerror, is too long when changed, or out of memory.
+fn reply_bytes_for_linux(alloc: Global, reply: &[u8]) -> Option<Vec<u8>> {
+    let error = error_for_linux(alloc, reply)?;
+    if !error.fits() {
         return None;
     }
     let mut bytes = Vec::new(alloc);
-    encode_reply(&told, &mut bytes).ok()?;
+    encode_reply(&error, &mut bytes).ok()?;
     Some(bytes)
 }
 
-/// Appends what the client means by each whole request, up to one whose reply matters, and all of
-/// the rest if that begins no request.
+/// Moves requests to `to_server`, as the client means them: each whole one, up to one whose reply
+/// matters, which must come before the next is asked. If the bytes after them begin no request,
+/// they are moved as they are. The error is out of memory.
 fn translate_requests(
     alloc: Global,
     requests: &mut Framer,
-    asked: &mut PendingRequests,
-    meant: &mut VecDeque<u8>,
+    pending: &mut PendingRequests,
+    to_server: &mut VecDeque<u8>,
 ) -> io::Result<()> {
     while let Ok(Some(request)) = requests.next() {
-        let waits = match bytes_meant(alloc, request) {
+        let matters = match request_bytes_meant(alloc, request) {
             Some(bytes) => {
-                meant.write_all(&bytes)?;
-                asked.ask(&bytes)
+                to_server.write_all(&bytes)?;
+                pending.note_request(&bytes)
             }
             None => {
-                meant.write_all(request)?;
-                asked.ask(request)
+                to_server.write_all(request)?;
+                pending.note_request(request)
             }
         };
-        if waits {
+        if matters {
             return Ok(());
         }
     }
     if requests.next().is_err() {
-        give_rest(alloc, requests, meant)?;
+        move_rest(alloc, requests, to_server)?;
     }
     Ok(())
 }
 
-/// Appends what is left, which is no whole request.
-fn give_rest(alloc: Global, requests: &mut Framer, meant: &mut VecDeque<u8>) -> io::Result<()> {
+/// Moves all bytes that are left to `to_server`, as they are: they are no whole request.
+fn move_rest(alloc: Global, requests: &mut Framer, to_server: &mut VecDeque<u8>) -> io::Result<()> {
     let (bytes, place) = requests.buffered();
-    meant.write_all(&bytes[place..])?;
+    to_server.write_all(&bytes[place..])?;
     *requests = Framer::new(alloc);
     Ok(())
 }
 
-/// Appends a request of no client's.
-fn put_request(alloc: Global, request: &TMessage<'_>, meant: &mut VecDeque<u8>) -> io::Result<()> {
+/// Appends a request that no client sent, a step of a rename. The error is InvalidData if it is too
+/// long for a message, else out of memory.
+fn put_request(
+    alloc: Global,
+    request: &TMessage<'_>,
+    to_server: &mut VecDeque<u8>,
+) -> io::Result<()> {
     if !request.fits() {
         return Err(io::Error::from(io::ErrorKind::InvalidData));
     }
     let mut bytes = Vec::new(alloc);
     encode_request(request, &mut bytes)?;
-    meant.write_all(&bytes)
+    to_server.write_all(&bytes)
 }
 
-/// Appends what the client gets for a reply.
-fn put_reply(reply: RMessage, told: &mut Vec<u8>) -> io::Result<()> {
+/// Appends the reply with which a rename ends, with a text that the client knows if it is an
+/// Rerror. The error is InvalidData if it is too long for a message, else out of memory.
+fn put_reply(reply: RMessage, to_client: &mut Vec<u8>) -> io::Result<()> {
     let reply = reply_to_linux(reply);
     if !reply.fits() {
         return Err(io::Error::from(io::ErrorKind::InvalidData));
     }
-    encode_reply(&reply, told)?;
+    encode_reply(&reply, to_client)?;
     Ok(())
 }
 
-/// Appends what the client gets for each whole reply, or what the server is asked then.
+/// Appends to `to_client`, for each whole reply, the one that the client gets. If the server must
+/// be asked something first, that is appended to `to_server` instead.
 fn translate_replies(
     alloc: Global,
     replies: &mut Framer,
-    asked: &mut PendingRequests,
-    meant: &mut VecDeque<u8>,
-    told: &mut Vec<u8>,
+    pending: &mut PendingRequests,
+    to_server: &mut VecDeque<u8>,
+    to_client: &mut Vec<u8>,
 ) -> io::Result<()> {
     while let Ok(Some(reply)) = replies.next() {
-        match asked.answer(reply) {
-            ReplyFate::Asked(request) => put_request(alloc, &request, meant)?,
-            ReplyFate::Instead(reply) => put_reply(reply, told)?,
-            ReplyFate::Told => match bytes_told(alloc, reply) {
-                Some(bytes) => told.extend_from_slice(&bytes)?,
-                None => told.extend_from_slice(reply)?,
+        match pending.note_reply(reply) {
+            ReplyFate::Followed(request) => put_request(alloc, &request, to_server)?,
+            ReplyFate::Replaced(reply) => put_reply(reply, to_client)?,
+            ReplyFate::Passed => match reply_bytes_for_linux(alloc, reply) {
+                Some(bytes) => to_client.extend_from_slice(&bytes)?,
+                None => to_client.extend_from_slice(reply)?,
             },
         }
     }
@@ -146,49 +157,53 @@ fn translate_replies(
 }
 
 impl<RW> LinuxStream<RW> {
-    /// The stream, of which nothing was read or written.
+    /// A stream over this one, of which nothing was read or written.
     pub(crate) fn new(alloc: Global, stream: RW) -> LinuxStream<RW> {
         LinuxStream {
             stream,
             alloc,
             requests: Framer::new(alloc),
-            meant: VecDeque::new(alloc),
+            to_server: VecDeque::new(alloc),
             replies: Framer::new(alloc),
-            asked: PendingRequests::new(alloc),
+            pending: PendingRequests::new(alloc),
         }
     }
 
-    /// Appends what the client means by requests that came.
-    fn mean(&mut self) -> io::Result<()> {
+    /// Moves the requests that came to `to_server`, up to one whose reply matters. The error is out
+    /// of memory; some of them may be moved then.
+    fn move_requests(&mut self) -> io::Result<()> {
         translate_requests(
             self.alloc,
             &mut self.requests,
-            &mut self.asked,
-            &mut self.meant,
+            &mut self.pending,
+            &mut self.to_server,
         )
     }
 
-    /// Takes what the client sent; no byte if it sends no more.
+    /// Takes bytes that the client sent. No bytes mean that it sends no more: what is left goes on
+    /// as it is. The error is out of memory, after which some requests may be missing.
     fn take_bytes(&mut self, bytes: &[u8]) -> io::Result<()> {
         if bytes.is_empty() {
-            return give_rest(self.alloc, &mut self.requests, &mut self.meant);
+            return move_rest(self.alloc, &mut self.requests, &mut self.to_server);
         }
         self.requests.feed(bytes)?;
-        self.mean()
+        self.move_requests()
     }
 }
 
 impl<RW: Read> Read for LinuxStream<RW> {
+    /// Reads requests for the server. Waits for the client until there is a byte of them; 0 if it
+    /// sends no more.
     fn read(&mut self, buf: &mut [u8]) -> io::Result<usize> {
         if buf.is_empty() {
             return Ok(0);
         }
-        if self.meant.is_empty() {
-            self.mean()?;
+        if self.to_server.is_empty() {
+            self.move_requests()?;
         }
         // each read but the last gives a byte at least of a request that isn't whole
         for _ in 0..MESSAGE_BYTES {
-            if !self.meant.is_empty() {
+            if !self.to_server.is_empty() {
                 break;
             }
             let count = self.stream.read(buf)?;
@@ -197,22 +212,24 @@ impl<RW: Read> Read for LinuxStream<RW> {
                 break;
             }
         }
-        self.meant.read(buf)
+        self.to_server.read(buf)
     }
 }
 
 impl<RW: Write> Write for LinuxStream<RW> {
+    /// Takes bytes of replies, and writes those that the client gets of each reply that is whole
+    /// now. After an error, of the stream or out of memory, some replies may be missing.
     fn write(&mut self, buf: &[u8]) -> io::Result<usize> {
-        let mut told = Vec::new(self.alloc);
+        let mut to_client = Vec::new(self.alloc);
         self.replies.feed(buf)?;
         translate_replies(
             self.alloc,
             &mut self.replies,
-            &mut self.asked,
-            &mut self.meant,
-            &mut told,
+            &mut self.pending,
+            &mut self.to_server,
+            &mut to_client,
         )?;
-        self.stream.write_all(&told)?;
+        self.stream.write_all(&to_client)?;
         Ok(buf.len())
     }
 

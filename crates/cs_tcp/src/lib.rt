@@ -1,17 +1,24 @@
 //! The command `serve`: the states that a crash may leave, served over TCP, each connection in a
-//! thread of its own.
+//! thread of its own. What a connection is answered is cs_connection's; here are the sockets, the
+//! threads, and what is printed.
+//!
+//! Most functions have no clause: what they do happens at a socket, a file, a clock or in another
+//! thread, of which contracts say little. Tests hold them: `tests` over loopback, with real
+//! threads, and tools/tests with the built program. The clauses say what needs none of these: the
+//! lines of the runs, the users that a file spells, and that the states are those of the server's
+//! own scene.
 #![tactic(auto)]
 
 mod accepting;
 mod address;
-mod asked;
 pub mod client;
 mod connection;
 mod entrance;
 mod for_linux;
-mod heard;
 mod line_ends;
 mod log;
+mod logged;
+mod pending;
 mod progress;
 mod publishing;
 mod reloading;

@@ -1,9 +1,9 @@
-//! The line ends of a users file.
+//! The line ends of a users file: those of Windows become line feeds before it is read.
 
 use cs_names::Pieces;
 use std::alloc::{AllocError, Global};
 
-/// The line without the carriage return at its end.
+/// The line without one carriage return at its end, if it has one.
 fn without_return(line: &[u8]) -> &[u8] {
     match line.strip_suffix(b"\r".as_slice()) {
         Some(text) => text,
@@ -11,7 +11,8 @@ fn without_return(line: &[u8]) -> &[u8] {
     }
 }
 
-/// The bytes with a line feed alone at each line's end. A carriage return inside a line stays.
+/// The bytes without the carriage return before each line feed and at their end. Any other carriage
+/// return stays, also a second one there.
 pub fn with_line_feeds(alloc: Global, bytes: &[u8]) -> Result<Vec<u8>, AllocError> {
     let mut text = Vec::new(alloc);
     let mut lines = Pieces::of(bytes, b'\n');

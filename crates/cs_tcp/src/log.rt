@@ -1,6 +1,6 @@
-//! What is printed on standard error.
+//! The lines that `serve` prints on standard error, each by a function of `Log`.
 
-use cs_serve::{ProgramFault, tell};
+use cs_serve::{ProgramFault, print_exchange};
 use cs_session::ServeFault;
 use cs_wire::{
     FrameFault, RBody, RMessage, TBody, TMessage, WireFault, decode_reply, decode_request,
@@ -15,9 +15,9 @@ use std::sync::{Mutex, Wait};
 /// together are written; then they are flushed. A line that can't be written is dropped.
 pub(crate) struct Log<'a, E> {
     pub(crate) writer: &'a Mutex<E>,
-    /// Whether connections, their messages, and how many states were published are printed.
+    /// Whether it also prints connections, their messages, and that all states are published.
     pub(crate) verbose: bool,
-    /// Whether it is printed how far publishing is.
+    /// Whether it also prints how many states are published so far.
     pub(crate) progress: bool,
 }
 
@@ -29,9 +29,9 @@ impl<E> Clone for Log<'_, E> {
 
 impl<E> Copy for Log<'_, E> {}
 
-/// The user and the run's key of an attach that was granted: the parts of its message, since a
-/// run's key is spelled in one way.
-fn attached<'a>(
+/// The user and the run's key of an attach that was granted, as its message has them: a run's key
+/// has one spelling. None of any other message, and of an attach that was refused.
+fn granted_attach<'a>(
     message: &'a Result<TMessage<'_>, WireFault>,
     reply: &Result<RMessage, WireFault>,
 ) -> Option<(&'a str, &'a str)> {
@@ -55,48 +55,49 @@ fn attached<'a>(
 }
 
 impl<E: Write> Log<'_, E> {
-    /// Prints a line.
-    fn line(&self, rt: &impl Wait, line: &impl fmt::Display) {
+    /// Prints the text and a line feed, and flushes. A line that can't be written is dropped.
+    fn print_line(&self, rt: &impl Wait, line: &impl fmt::Display) {
         let mut writer = self.writer.lock(rt);
         let _unheard = writeln!(&mut *writer, "{line}");
         let _unheard = writer.flush();
     }
 
-    /// Prints what is wrong.
-    pub(crate) fn fault(&self, rt: &impl Wait, fault: &impl fmt::Display) {
-        self.line(rt, &format_args!("crashfs: {fault}"));
+    /// Prints a fault, after `crashfs: `.
+    pub(crate) fn print_fault(&self, rt: &impl Wait, fault: &impl fmt::Display) {
+        self.print_line(rt, &format_args!("crashfs: {fault}"));
     }
 
-    /// Prints that the address can't be listened on, and why.
-    pub(crate) fn no_listener(&self, rt: &impl Wait, address: &str, error: &io::Error) {
-        self.fault(rt, &ProgramFault::Listen);
-        self.fault(rt, &format_args!("{address}: {error}"));
+    /// Prints, as two faults, that the address can't be listened on, and why.
+    pub(crate) fn print_no_listener(&self, rt: &impl Wait, address: &str, error: &io::Error) {
+        self.print_fault(rt, &ProgramFault::Listen);
+        self.print_fault(rt, &format_args!("{address}: {error}"));
     }
 
-    /// Prints how many states are published so far, and of how many.
-    pub(crate) fn progress(&self, rt: &impl Wait, published: u32, states: u32) {
+    /// Prints that `published` of `states` are published so far, if progress is printed.
+    pub(crate) fn print_progress(&self, rt: &impl Wait, published: u32, states: u32) {
         if self.progress {
-            self.line(rt, &format_args!("published {published} of {states}"));
+            self.print_line(rt, &format_args!("published {published} of {states}"));
         }
     }
 
-    /// Prints that all states are published.
-    pub(crate) fn published(&self, rt: &impl Wait, states: u32) {
+    /// Prints that all states are published, if the log is verbose or progress is printed.
+    pub(crate) fn print_published(&self, rt: &impl Wait, states: u32) {
         if self.verbose || self.progress {
             let word = if states == 1 { "state" } else { "states" };
-            self.line(rt, &format_args!("published {states} {word}"));
+            self.print_line(rt, &format_args!("published {states} {word}"));
         }
     }
 
-    /// Prints that a connection was accepted, if connections are printed.
-    pub(crate) fn accepted(&self, rt: &impl Wait, conn: u32, from: SocketAddr) {
+    /// Prints that a connection was accepted, and from where, if the log is verbose.
+    pub(crate) fn print_accepted(&self, rt: &impl Wait, conn: u32, from: SocketAddr) {
         if self.verbose {
-            self.line(rt, &format_args!("{conn} accepted from {from}"));
+            self.print_line(rt, &format_args!("{conn} accepted from {from}"));
         }
     }
 
-    /// Prints a message and its reply, and the user and the run of an attach that was granted.
-    pub(crate) fn exchanged(
+    /// Prints a message and its reply, given as bytes, and the user and the run of an attach that
+    /// was granted. These lines stay together. Only a verbose log is given messages.
+    pub(crate) fn print_message_and_reply(
         &self,
         rt: &impl Wait,
         alloc: Global,
@@ -107,43 +108,44 @@ impl<E: Write> Log<'_, E> {
         let message = decode_request(alloc, message);
         let reply = decode_reply(alloc, reply);
         let mut writer = self.writer.lock(rt);
-        tell(conn, &message, &reply, &mut *writer);
-        if let Some((user, run)) = attached(&message, &reply) {
+        print_exchange(conn, &message, &reply, &mut *writer);
+        if let Some((user, run)) = granted_attach(&message, &reply) {
             let _unheard = writeln!(&mut *writer, "{conn} attached {user} to {run}");
         }
         let _unheard = writer.flush();
     }
 
-    /// Prints that a connection's messages aren't printed from here on.
-    pub(crate) fn lost(&self, rt: &impl Wait, conn: u32) {
-        self.line(rt, &format_args!("{conn} tells no more: out of memory"));
+    /// Prints that no more messages of a connection are printed, because out of memory.
+    pub(crate) fn print_loss(&self, rt: &impl Wait, conn: u32) {
+        self.print_line(rt, &format_args!("{conn} tells no more: out of memory"));
     }
 
-    /// Prints that a connection wasn't served, since its socket couldn't be set up.
-    pub(crate) fn not_set_up(&self, rt: &impl Wait, conn: u32) {
+    /// Prints that a connection wasn't served, as its socket couldn't be set up, if the log is
+    /// verbose.
+    pub(crate) fn print_not_set_up(&self, rt: &impl Wait, conn: u32) {
         if self.verbose {
-            self.line(
+            self.print_line(
                 rt,
                 &format_args!("{conn} ended: its socket cannot be set up"),
             );
         }
     }
 
-    /// Prints how a connection ended, if connections are printed; else only that its client speaks
-    /// another protocol.
-    pub(crate) fn ended(&self, rt: &impl Wait, conn: u32, ended: Result<(), ServeFault>) {
+    /// Prints how a connection ended, if the log is verbose. Else prints only that a client speaks
+    /// another protocol, which is a fault; a stream that ends inside a message is none.
+    pub(crate) fn print_end(&self, rt: &impl Wait, conn: u32, end: Result<(), ServeFault>) {
         if self.verbose {
-            match ended {
-                Ok(()) => self.line(rt, &format_args!("{conn} ended")),
-                Err(fault) => self.line(rt, &format_args!("{conn} ended: {fault}")),
+            match end {
+                Ok(()) => self.print_line(rt, &format_args!("{conn} ended")),
+                Err(fault) => self.print_line(rt, &format_args!("{conn} ended: {fault}")),
             }
             return;
         }
-        let Err(ServeFault::FrameFault(fault)) = ended else {
+        let Err(ServeFault::FrameFault(fault)) = end else {
             return;
         };
         if !matches!(fault, FrameFault::Cut) {
-            self.fault(rt, &format_args!("connection {conn} is no 9P2000: {fault}"));
+            self.print_fault(rt, &format_args!("connection {conn} is no 9P2000: {fault}"));
         }
     }
 }

@@ -1,4 +1,4 @@
-//! How far publishing is.
+//! Lines that say how many states are published so far. How they are printed is in `log`.
 
 use crate::log::Log;
 use cs_connection::Server;
@@ -7,10 +7,11 @@ use cs_shared_runs::ServerBrand;
 use std::io::Write;
 use std::sync::Wait;
 
-/// It is printed before each state whose number is a multiple of this one, but 0.
+/// A line is printed before each state whose number is a multiple of this, but not before state 0.
 const STATES: u32 = 1_024;
 
-/// Prints, as states are made, how many are published by then, if the log prints progress.
+/// A gate that holds no state: before some it prints how many are published, if the log prints
+/// progress.
 #[derive(Drop)]
 pub(crate) struct Progress<'a, S: ServerBrand, R, E> {
     pub(crate) rt: &'a R,
@@ -19,6 +20,7 @@ pub(crate) struct Progress<'a, S: ServerBrand, R, E> {
 }
 
 impl<S: ServerBrand + Send + Sync, R: Wait + Sync, E: Write + Send> Gate for Progress<'_, S, R, E> {
+    /// Prints how many states are published, if the number is a multiple of STATES and isn't 0.
     fn before(&self, number: u32) {
         if number == 0 || number % STATES != 0 {
             return;
@@ -26,6 +28,7 @@ impl<S: ServerBrand + Send + Sync, R: Wait + Sync, E: Write + Send> Gate for Pro
         let registry = self.server.registry();
         let all = registry.scene().plan().len() as u32;
         let missing = registry.missing(self.rt);
-        self.log.progress(self.rt, all.saturating_sub(missing), all);
+        self.log
+            .print_progress(self.rt, all.saturating_sub(missing), all);
     }
 }

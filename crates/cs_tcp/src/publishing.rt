@@ -1,4 +1,4 @@
-//! The states of a server's scene are published.
+//! Publishing the states of a server's scene, with its lines on standard error.
 ghost use Rattle.cs_shared_runs.specs.Serving.{IsOnly};
 
 use crate::log::Log;
@@ -12,7 +12,8 @@ use std::io::Write;
 use std::sync::Wait;
 use std::thread::Threads;
 
-/// Publishes all states by so many workers: whether it did. Else it printed why.
+/// Publishes all states of the server's scene by `workers` threads, and returns once they have
+/// ended. False if a fault was printed; some states may be published then.
 pub(crate) fn publish<S: ServerBrand + Send + Sync, R: Threads + Wait + Sync, E: Write + Send>(
     rt: &R,
     alloc: Global,
@@ -25,12 +26,12 @@ pub(crate) fn publish<S: ServerBrand + Send + Sync, R: Threads + Wait + Sync, E:
     let progress = Progress { rt, server, log };
     let fault = match publish_own_into(rt, alloc, server.registry(), workers, &progress) {
         Ok(states) => {
-            log.published(rt, states);
+            log.print_published(rt, states);
             return true;
         }
         Err(PublishAllFault::Memory) => ProgramFault::Memory,
         Err(PublishAllFault::Workers | PublishAllFault::Channel) => ProgramFault::Publishing,
     };
-    log.fault(rt, &fault);
+    log.print_fault(rt, &fault);
     false
 }

@@ -1,4 +1,5 @@
-//! The users file is read again while connections are served.
+//! The users file is read again while connections are served. Runs that exist keep the users that
+//! they were made with.
 ghost use Rattle.std.specs.Prelude.{◌≡◌, ◌≢◌, Err, Ok};
 ghost use Rattle.cs_users.specs.Reading.{users_in};
 ghost use Rattle.cs_tcp.specs.Reloads.{Loads};
@@ -13,7 +14,7 @@ use std::io::{self, ErrorKind, Read, Write};
 use std::rt::Files;
 use std::sync::{Mutex, Wait};
 
-/// Why the list of users stays.
+/// Why the registry keeps its users.
 #[derive(Clone, Copy, Debug)]
 enum ReloadFault {
     /// The file can't be read.
@@ -22,13 +23,14 @@ enum ReloadFault {
     Users(UsersFault),
 }
 
-/// What reads files, in whichever thread.
+/// What can read a file in any thread. Each runtime with `Files` can.
 pub trait ReadsFiles {
     /// The bytes of the file at the path.
     fn read_file(&self, alloc: Global, path: &str) -> io::Result<Vec<u8>>;
 }
 
 impl<R: Files> ReadsFiles for R {
+    /// Opens the file, and reads it to its end.
     fn read_file(&self, alloc: Global, path: &str) -> io::Result<Vec<u8>> {
         let mut file = fs::open(self, path)?;
         let mut bytes = Vec::new(alloc);
@@ -37,8 +39,9 @@ impl<R: Files> ReadsFiles for R {
     }
 }
 
-/// Loads the users that the bytes of a users file spell, if these aren't the last ones; now they
-/// are. If it is out of memory the last ones stay, so that these are tried again.
+/// Loads the users that the bytes of a users file spell, unless they are the bytes `last`, and
+/// makes them the last, also if they have a fault. If out of memory users and `last` stay, so that
+/// the same bytes are tried again.
 fn load<S: ServerBrand>(
     rt: &impl Wait,
     alloc: Global,
@@ -71,12 +74,13 @@ fn load<S: ServerBrand>(
 #[derive(Drop)]
 pub(crate) struct Reloading {
     path: String,
-    /// The bytes that were last loaded, or refused with a line.
+    /// The bytes that were last loaded, or refused with a line, with line feeds alone.
     last: Mutex<Vec<u8>>,
 }
 
 impl Reloading {
-    /// That of the path, which had these bytes, with line feeds, when the server was made.
+    /// The users file of the path, which had these bytes, with line feeds alone, when the server
+    /// was made.
     pub(crate) fn new(alloc: Global, path: &str, bytes: &[u8]) -> Result<Reloading, AllocError> {
         Ok(Reloading {
             path: path.to_string(alloc)?,
@@ -84,9 +88,9 @@ impl Reloading {
         })
     }
 
-    /// Reads the file, and loads its users if it changed. One thread at a time, so that what the
-    /// file was earlier is never loaded later.
-    fn read<S: ServerBrand, R: ReadsFiles + Wait>(
+    /// Reads the file, and loads its users if it changed. The lock is held all the time: else a
+    /// thread could load what it read after another has read and loaded a later file.
+    fn reload<S: ServerBrand, R: ReadsFiles + Wait>(
         &self,
         rt: &R,
         alloc: Global,
@@ -105,9 +109,9 @@ impl Reloading {
         }
     }
 
-    /// Reads the file again: runs that are made from now on have its users. Else it prints why the
-    /// list stays.
-    pub(crate) fn again<S: ServerBrand, R: ReadsFiles + Wait, E: Write>(
+    /// Reads the file again: runs that are made from now on have its users. After a fault, which is
+    /// printed, the users stay.
+    pub(crate) fn reload_or_print<S: ServerBrand, R: ReadsFiles + Wait, E: Write>(
         &self,
         rt: &R,
         alloc: Global,
@@ -115,10 +119,10 @@ impl Reloading {
         log: Log<E>,
     ) {
         let path = self.path.as_str();
-        match self.read(rt, alloc, registry) {
+        match self.reload(rt, alloc, registry) {
             Ok(()) => {}
-            Err(ReloadFault::Unread) => log.fault(rt, &format_args!("{path}: cannot read")),
-            Err(ReloadFault::Users(fault)) => log.fault(rt, &fault),
+            Err(ReloadFault::Unread) => log.print_fault(rt, &format_args!("{path}: cannot read")),
+            Err(ReloadFault::Users(fault)) => log.print_fault(rt, &fault),
         }
     }
 }

@@ -1,4 +1,5 @@
-//! The command `serve`, after its files were read.
+//! The command `serve`, after its files were read, from the scene to the lines of the runs. What
+//! one connection's thread does is in `slots` and `connection`.
 ghost use Rattle.std.specs.Prelude.{◌≡◌, ◌≤◌, IfOk};
 ghost use Rattle.std.specs.Arc.{arc_value};
 ghost use Rattle.cs_shared_runs.specs.Serving.{IsOnly, ServesAll};
@@ -28,12 +29,12 @@ use std::thread::Threads;
 /// What is served, and to whom.
 #[derive(Clone, Copy, Debug, PartialEq, Eq)]
 pub struct Serving<'a> {
-    /// The address that is listened on: an IP address or a host's name, a colon and a port. With
-    /// the port 0 the system chooses one.
+    /// The address to listen on: an IP address or a host's name, a colon and a port. With the port
+    /// 0 the system chooses one.
     pub listen: &'a str,
-    /// How many threads make the states.
+    /// How many threads make the states. With 0 publishing fails.
     pub workers: u32,
-    /// How many connections are served before the end, or at once if others come after them.
+    /// How many connections are served before the end; with `again`, how many at once.
     pub connections: u32,
     /// Whether another connection is accepted when one ends, until the input ends.
     pub again: bool,
@@ -41,13 +42,14 @@ pub struct Serving<'a> {
     pub ready: bool,
     /// The path of the users file, if it is read again after each accept.
     pub reload: Option<&'a str>,
-    /// Whose clients connect.
+    /// Which kind of client connects.
     pub client: Client,
-    /// Whether it is printed how far publishing is.
+    /// Whether it prints how many states are published so far.
     pub progress: bool,
 }
 
-/// A server of the scene with the users of the inputs: no state is published.
+/// A server of the scene with the users of the inputs. No state is published yet. The errors are a
+/// fault of the users, and out of memory.
 pub(crate) fn server_of<S: ServerBrand>(
     alloc: Global,
     scene: Arc<Scene>,
@@ -67,7 +69,7 @@ pub(crate) fn server_of<S: ServerBrand>(
     }
 }
 
-/// The users file, if it is to be read again.
+/// The users file that is read again. None if none is. The error is out of memory.
 fn reloading_of(
     alloc: Global,
     inputs: &Inputs,
@@ -82,7 +84,8 @@ fn reloading_of(
     }
 }
 
-/// Listens on the address, and says which port it has. The listener's accepts don't wait.
+/// A listener on the address, and the port that it has. It is not blocking: an accept without a
+/// connection is an error at once.
 fn listen<R: Net<Listener = TcpListener, Stream = TcpStream>>(
     rt: &R,
     given: &str,
@@ -93,15 +96,15 @@ fn listen<R: Net<Listener = TcpListener, Stream = TcpStream>>(
     Ok((listener, port))
 }
 
-/// Prints the address that is listened on.
+/// Prints the address that the server listens on, with the port that it has, and flushes.
 fn print_address<W: Write>(given: &str, taken: u16, out: &mut W) -> Result<(), ProgramFault> {
     let address = Address { given, taken };
     writeln!(out, "listening {address}").map_err(|_| ProgramFault::Output)?;
     out.flush().map_err(|_| ProgramFault::Output)
 }
 
-/// Accepts connections and serves each in a thread until all have ended, and publishes meanwhile if
-/// that is still to be done: whether no fault was printed.
+/// Accepts connections and serves each in a thread, and returns once all have ended. Without
+/// `ready` it also publishes the states, in a thread beside them. False if a fault was printed.
 fn serve_each<
     's,
     S: ServerBrand + Send + Sync + 's,
@@ -131,7 +134,7 @@ fn serve_each<
                 { publish(rt, alloc, &site.server, workers, log) },
             );
             let Ok(publisher) = publisher else {
-                log.fault(rt, &ProgramFault::Memory);
+                log.print_fault(rt, &ProgramFault::Memory);
                 site.entrance.close(rt);
                 return false;
             };
@@ -141,7 +144,8 @@ fn serve_each<
     )
 }
 
-/// Serves a scene, the only one that may be the server's, as `serve` does.
+/// Makes a server of the scene, serves it, and prints the lines of its runs. `S` says which scene
+/// the server may have: this one only. The result is as in `run_server`.
 fn serve_scene<S: ServerBrand + Send + Sync, R, I: Read + Drop + Send, W: Write, E: Write + Send>(
     rt: &R,
     alloc: Global,
@@ -166,7 +170,7 @@ where
     let (listener, port) = match listen(rt, serving.listen) {
         Ok(listening) => listening,
         Err(error) => {
-            log.no_listener(rt, serving.listen, &error);
+            log.print_no_listener(rt, serving.listen, &error);
             return Ok(false);
         }
     };
@@ -178,7 +182,7 @@ where
     };
     let site = Site::new(alloc, server, Entrance::new(listener, left), reloading);
     let served = serve_each(rt, alloc, &site, serving, input, log);
-    let failed = site.entrance.failed(rt);
+    let failed = site.entrance.has_failed(rt);
     let (server, passes) = site.into_parts();
     let summary = summary_of(rt, alloc, &server, &passes)?;
     print_to(out, summary.as_bytes())?;
@@ -186,9 +190,9 @@ where
     Ok(served && !failed)
 }
 
-/// The command, but for the fault that ends it: that is returned, and not printed yet. Else whether
-/// no fault was printed.
-fn serve<R, I: Read + Drop + Send, W: Write, E: Write + Send>(
+/// The command, but for the line of a fault that ends it, which is the error. False if another
+/// fault was printed.
+fn run_server<R, I: Read + Drop + Send, W: Write, E: Write + Send>(
     rt: &R,
     alloc: Global,
     inputs: &Inputs,
@@ -207,25 +211,26 @@ where
     serve_scene::<Brand, R, I, W, E>(rt, alloc, scene, inputs, serving, input, out, log)
 }
 
-/// The command `serve`: publishes all states, before it listens or meanwhile, prints the address
-/// that it listens on, serves connections, each in a thread, and at the end prints a line for each
-/// run, with its audit by the passes of all connections.
+/// The command `serve`. It publishes all states, prints on `out` the address that it listens on,
+/// serves each connection in a thread, and at the end prints a line for each run, with its audit by
+/// the passes of all connections. With `ready` it publishes before it listens, else at the same
+/// time as it serves.
 ///
-/// It ends when so many connections have ended. With `again` no more than so many are served at
-/// once; when one has ended another is accepted, until `input` ends or can't be read, which is
-/// standard input, and whose bytes count for nothing. Then it listens no more, serves those that it
-/// has to their end, and ends. Without `again` nothing is read of `input`.
+/// It ends when `connections` connections have ended. With `again` that is how many it serves at
+/// once: when one has ended it accepts another, until `input`, which is standard input, ends or
+/// can't be read. Then it listens no more, and ends when the connections that it has are served.
+/// The bytes of `input` are dropped; without `again` none is read.
 ///
 /// With `reload` it reads the users file again after each accept: runs that are made from then on
-/// have its users. If it can't be read, is no users file, or there is no memory for it, a line on
-/// `err` says so, and the list stays.
+/// have its users. If the file can't be read or is no users file, or if out of memory, a line on
+/// `err` says so, and the users stay.
 ///
-/// Its status: 0, or 1 if a fault was printed, each by a line on `err`. A fault of a connection, or
+/// It returns 0, or 1 if a fault was printed, each as a line on `err`. A fault of a connection, or
 /// of a users file that is read again, is none of the command. If accepting or publishing fails
 /// while there are connections, these are served to their end, and the runs are printed; with
-/// `again` not before `input` ends. If the inputs ask for it, `err` also gets a line for each
+/// `again` not before `input` ends. If the inputs are verbose, `err` also gets a line for each
 /// connection that comes and for each that ends, each message with its reply, and each attach that
-/// was granted. It may wait for clients for ever.
+/// was granted. It may wait for clients forever.
 pub fn serve_of<R, I: Read + Drop + Send, W: Write, E: Write + Send>(
     rt: &R,
     alloc: Global,
@@ -244,12 +249,12 @@ where
         verbose: inputs.verbose,
         progress: serving.progress,
     };
-    match serve(rt, alloc, inputs, serving, input, out, log) {
+    match run_server(rt, alloc, inputs, serving, input, out, log) {
         Ok(true) => 0,
         Ok(false) => 1,
         Err(fault) => {
             let _printed = out.flush();
-            log.fault(rt, &fault);
+            log.print_fault(rt, &fault);
             1
         }
     }

@@ -1,4 +1,4 @@
-//! What the threads of connections share.
+//! What the threads that serve connections share.
 ghost use Rattle.std.specs.Prelude.{◌≡◌};
 
 use crate::entrance::Entrance;
@@ -8,8 +8,8 @@ use cs_shared_runs::ServerBrand;
 use std::alloc::Global;
 use std::sync::{Mutex, Wait};
 
-/// A server, the entrance of its connections, its users file if that is read again, and the passes of
-/// the connections that ended.
+/// A server, the entrance of its connections, its users file if that is read again, and the passes
+/// of the connections that have ended.
 #[derive(Drop)]
 pub(crate) struct Site<S: ServerBrand> {
     pub(crate) server: Server<S>,
@@ -19,7 +19,7 @@ pub(crate) struct Site<S: ServerBrand> {
 }
 
 impl<S: ServerBrand> Site<S> {
-    /// That of a server of which no connection ended.
+    /// The site of a server that has served no connection yet.
     pub(crate) fn new(
         alloc: Global,
         server: Server<S>,
@@ -36,13 +36,13 @@ impl<S: ServerBrand> Site<S> {
         }
     }
 
-    /// Keeps the passes of a connection that ended. Those for which there is no memory are dropped:
-    /// an audit of their runs counts too few.
-    pub(crate) fn keep(&self, rt: &impl Wait, alloc: Global, ended: Connection<S>) {
-        let _lost = self.passes.lock(rt).keep(alloc, ended);
+    /// Keeps the passes of a connection that has ended, for the audits. If out of memory some are
+    /// dropped: the audits of their runs then say `count`.
+    pub(crate) fn keep_passes(&self, rt: &impl Wait, alloc: Global, connection: Connection<S>) {
+        let _lost = self.passes.lock(rt).keep(alloc, connection);
     }
 
-    /// The server, and the passes.
+    /// The server, and the passes of all connections that have ended.
     pub(crate) fn into_parts(self) -> (Server<S>, GivenPasses) {
         (self.server, self.passes.into_inner())
     }

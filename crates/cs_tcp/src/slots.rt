@@ -1,7 +1,8 @@
-//! Threads that serve connections, one after another each.
+//! The threads that accept and serve connections, each one after another, and the one that ends
+//! them.
 
 use crate::client::Client;
-use crate::connection;
+use crate::connection::serve_client;
 use crate::entrance::{Admitted, Entrance};
 use crate::log::Log;
 use crate::reloading::ReadsFiles;
@@ -14,8 +15,9 @@ use std::rt::Clock;
 use std::sync::Wait;
 use std::thread::Scope;
 
-/// Serves connections until no more come in, and keeps the passes of each. Before one is served the
-/// users file is read again, if it is to be.
+/// Serves one connection after another until no more come in, and keeps the passes of each. Before
+/// one is served the users file is read again, if the site has one. A fault of accepting is
+/// printed.
 fn serve_slot<S: ServerBrand, R: Wait + Clock + ReadsFiles, E: Write>(
     rt: &R,
     alloc: Global,
@@ -27,26 +29,26 @@ fn serve_slot<S: ServerBrand, R: Wait + Clock + ReadsFiles, E: Write>(
         let admitted = site.entrance.admit(rt);
         match admitted {
             Admitted::Connection(conn, stream, from) => {
-                log.accepted(rt, conn, from);
+                log.print_accepted(rt, conn, from);
                 if let Some(reloading) = &site.reloading {
-                    reloading.again(rt, alloc, site.server.registry(), log);
+                    reloading.reload_or_print(rt, alloc, site.server.registry(), log);
                 }
-                let ended = connection::serve(rt, alloc, &site.server, stream, conn, client, log);
-                if let Some(ended) = ended {
-                    site.keep(rt, alloc, ended);
+                let served = serve_client(rt, alloc, &site.server, stream, conn, client, log);
+                if let Some(connection) = served {
+                    site.keep_passes(rt, alloc, connection);
                 }
             }
             Admitted::Closed => return,
             Admitted::Failed => {
-                log.fault(rt, &ProgramFault::Listen);
+                log.print_fault(rt, &ProgramFault::Listen);
                 return;
             }
         }
     }
 }
 
-/// Starts so many threads that serve connections: whether it did. Else it printed why, and closed
-/// the entrance.
+/// Starts `slots` threads that serve connections. False if one can't be started: then that is
+/// printed, and the entrance is closed, so that those before it end.
 pub(crate) fn start_slots<
     's,
     Env,
@@ -65,7 +67,7 @@ pub(crate) fn start_slots<
     for _ in 0..slots {
         let slot = scope.spawn(move || serve_slot(rt, alloc, site, client, log));
         if slot.is_err() {
-            log.fault(rt, &ProgramFault::Memory);
+            log.print_fault(rt, &ProgramFault::Memory);
             site.entrance.close(rt);
             return false;
         }
@@ -73,14 +75,15 @@ pub(crate) fn start_slots<
     true
 }
 
-/// Reads to the end, or to a read that fails, keeps nothing of it, and closes the entrance.
+/// Reads the input to its end, or to a read that fails, and then closes the entrance. Its bytes are
+/// dropped.
 fn close_at_end<I: Read + Drop>(rt: &impl Wait, mut input: I, entrance: &Entrance) {
     let _thrown_away = io::copy(&mut input, &mut io::sink());
     entrance.close(rt);
 }
 
-/// Starts a thread that closes the entrance when `input` ends, if connections are accepted again:
-/// whether it did. Else it printed why, and closed the entrance.
+/// Starts a thread that closes the entrance when `input` ends, if `again`; else does nothing. False
+/// if it can't be started: then that is printed, and the entrance is closed.
 pub(crate) fn start_watch<'s, Env, R: Wait + Sync, I: Read + Drop + Send + 's, E: Write + Send>(
     scope: &'s Scope<'s, Env>,
     rt: &'s R,
@@ -94,7 +97,7 @@ pub(crate) fn start_watch<'s, Env, R: Wait + Sync, I: Read + Drop + Send + 's, E
     }
     let watch = scope.spawn(move || close_at_end(rt, input, entrance));
     if watch.is_err() {
-        log.fault(rt, &ProgramFault::Memory);
+        log.print_fault(rt, &ProgramFault::Memory);
         entrance.close(rt);
         return false;
     }

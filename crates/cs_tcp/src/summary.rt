@@ -1,6 +1,6 @@
-//! What is printed of the runs at the end.
+//! The lines that are printed of the runs at the end, each with the audit of its journal.
 ghost use Rattle.std.specs.Prelude.{◌≡◌, ◌++◌, IfOk, OnOk, Some, string_bytes};
-ghost use Rattle.cs_tcp.specs.Summary.{AreReported, IsReport, IsSummary, run_line, told_text};
+ghost use Rattle.cs_tcp.specs.Summary.{AreReported, IsReport, IsSummary, finding_text, run_line};
 ghost use Rattle.cs_tcp.specs.Summary.{verdict_text};
 
 use cs_connection::{GivenPasses, Server};
@@ -19,6 +19,7 @@ struct Verdict(Result<(), AuditFault>);
 impl fmt::Display for Verdict {
     ghost output = { λ verdict. Some (verdict_text verdict.0) };
 
+    /// Writes `ok`, `count`, or `missing` or `changed` with the place of a receipt.
     fn fmt<W: fmt::Write>(&self, f: &mut fmt::Formatter<W>) -> fmt::Result {
         match self.0 {
             Ok(()) => f.write_str("ok"),
@@ -29,13 +30,15 @@ impl fmt::Display for Verdict {
     }
 }
 
-/// How many entries a run's journal has, and its audit's result.
+/// How many entries a run's journal has, and the result of its audit. None if the run under the
+/// lock is of another number.
 #[derive(Clone, Copy)]
-struct Told(Option<(usize, Result<(), AuditFault>)>);
+struct Finding(Option<(usize, Result<(), AuditFault>)>);
 
-impl fmt::Display for Told {
-    ghost output = { λ told. Some (told_text told.0) };
+impl fmt::Display for Finding {
+    ghost output = { λ finding. Some (finding_text finding.0) };
 
+    /// Writes the number of entries and the audit's result; `foreign` if there is neither.
     fn fmt<W: fmt::Write>(&self, f: &mut fmt::Formatter<W>) -> fmt::Result {
         match self.0 {
             Some((entries, audit)) => {
@@ -47,36 +50,37 @@ impl fmt::Display for Told {
     }
 }
 
-/// What is printed of a run: its key, how many entries its journal has, and its audit's result;
-/// neither if the run under the lock is of another number.
+/// What is printed of a run: its key, how many entries its journal has, and its audit's result. The
+/// last two are missing if the run under the lock is of another number.
 #[derive(Drop)]
 pub(crate) struct RunReport {
     key: RunKey,
-    told: Option<(usize, Result<(), AuditFault>)>,
+    finding: Option<(usize, Result<(), AuditFault>)>,
 }
 
 impl fmt::Display for RunReport {
     ghost output = { λ report. Some (run_line report) };
 
+    /// Writes the line, with its line feed.
     fn fmt<W: fmt::Write>(&self, f: &mut fmt::Formatter<W>) -> fmt::Result {
-        let (number, name, told) = (self.key.number(), self.key.name(), Told(self.told));
-        write!(f, "run {number}/{name} {told}\n")
+        let (number, name, finding) = (self.key.number(), self.key.name(), Finding(self.finding));
+        write!(f, "run {number}/{name} {finding}\n")
     }
 }
 
-/// Audits a run by the passes of its key.
+/// The report of a run, audited by the passes that were kept for its key.
 fn report_of<S: ServerBrand, R: Wait>(rt: &R, run: &SharedRun<S>, passes: &GivenPasses) -> RunReport
     ensures key { result.key ≡ run.now }
     ensures report { IsReport S.serves passes.now result }
 {
     let passes = passes.of(run.key());
     RunReport {
-        key: run.key().again(),
-        told: run.inspect(rt, AuditBy { passes }),
+        key: run.key().copy(),
+        finding: run.inspect(rt, AuditBy { passes }),
     }
 }
 
-/// Adds the line of a run.
+/// Adds the line of a run to the text. After an error the text is unchanged.
 fn push_line(alloc: Global, text: &mut String, report: &RunReport) -> Result<(), AllocError>
     ensures { OnOk result
         (string_bytes text.new ≡ string_bytes text.old ++ run_line report.now) }
@@ -85,7 +89,7 @@ fn push_line(alloc: Global, text: &mut String, report: &RunReport) -> Result<(),
     text.push_str(line.as_str())
 }
 
-/// The lines of these runs, in their order.
+/// The lines of these runs, in their order. Empty if there is no run.
 fn runs_text<S: ServerBrand, R: Wait>(
     rt: &R,
     alloc: Global,
@@ -102,8 +106,9 @@ fn runs_text<S: ServerBrand, R: Wait>(
     Ok(text)
 }
 
-/// A line for each run, by the numbers of their states and then by name: its key, how many entries
-/// its journal has, and the result of its audit by the passes of its key.
+/// A line for each run of the server, in the order of the numbers of their states and then of their
+/// names: its key, how many entries its journal has, and the result of its audit by the passes that
+/// were kept for its key. The error is out of memory.
 pub(crate) fn summary_of<S: ServerBrand, R: Wait>(
     rt: &R,
     alloc: Global,

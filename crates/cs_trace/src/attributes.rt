@@ -1,4 +1,6 @@
-//! Owner, group and permissions of the files and directories while a trace is read.
+//! Rights (owner, group and permissions) of the files and directories while a trace is read. They
+//! are kept in the versions that have chmod and chown. An error is that memory ran out; then the
+//! whole trace is given up, so no clause says what is left.
 ghost use Rattle.std.specs.Prelude.{◌≡◌, ◌∷◌, ◌++◌, [], IfOk, OnOk, option_map, slice_set};
 ghost use Rattle.std.specs.FinMap as map;
 ghost use Rattle.cs_trace.specs.Attributes.{attributes_after, no_attributes, rights_at};
@@ -38,7 +40,7 @@ impl Model for Directories {
 }
 
 impl Directories {
-    /// The rights of no directory.
+    /// No directory's rights.
     fn new(alloc: Global) -> Directories
         ensures { result ≡ map.empty }
     {
@@ -47,14 +49,15 @@ impl Directories {
         }
     }
 
-    /// The rights of the last directory at the path. It takes no memory.
+    /// The rights of the last directory at the path, which may be removed by now. None if there
+    /// never was one. It takes no memory.
     fn get(&self, path: &Path) -> Option<&Rights>
         ensures { option_map (λ rights. rights.now) result ≡ map.get self.now path.now }
     {
         self.by_path.get(path)
     }
 
-    /// Sets the rights of the directory at the path, in place of those that were there.
+    /// Sets the rights of the directory at the path, in place of any that were there.
     fn insert(&mut self, path: Path, rights: Rights) -> Result<(), AllocError>
         ensures { OnOk result (self.new ≡ map.insert self.old path rights) }
     {
@@ -74,7 +77,7 @@ fn set_file(files: &mut [Rights], file: u32, rights: Rights)
 }
 
 impl Attributes {
-    /// Those of no file and no directory.
+    /// No file's and no directory's rights.
     pub(crate) fn new(alloc: Global) -> Attributes
         ensures { attributes_of result ≡ no_attributes }
     {
@@ -84,7 +87,7 @@ impl Attributes {
         }
     }
 
-    /// Adds a file, which gets the next number.
+    /// Adds the rights of a file, which gets the next number.
     fn add_file(&mut self, rights: Rights) -> Result<(), AllocError>
         ensures { OnOk result (attributes_of self.new ≡ with_file (attributes_of self.old) rights) }
     {
@@ -92,7 +95,7 @@ impl Attributes {
         Ok(())
     }
 
-    /// Sets the rights of the directory at the path, in place of those that were there.
+    /// As `Directories::insert`, in the table of directories.
     fn set_directory(&mut self, path: Path, rights: Rights) -> Result<(), AllocError>
         ensures { OnOk result
             (attributes_of self.new ≡ with_directory (attributes_of self.old) path rights) }
@@ -100,8 +103,8 @@ impl Attributes {
         self.directories.insert(path, rights)
     }
 
-    /// Adds the rights of a new entry: of a file, which gets the next number, or of a directory at
-    /// the path.
+    /// Adds a copy of the rights of a new entry: of a file, which gets the next number whatever
+    /// `node` says, or of a directory at the path.
     pub(crate) fn add(
         &mut self,
         alloc: Global,
@@ -119,7 +122,8 @@ impl Attributes {
         }
     }
 
-    /// The rights of this file or directory, which is at the path. It takes no memory.
+    /// The rights of a file, by its number in `node`, or of the last directory at the path. None if
+    /// none were set. It takes no memory.
     pub(crate) fn rights(&self, node: Node, path: &Path) -> Option<&Rights>
         ensures { option_map (λ rights. rights.now) result
             ≡ rights_at (attributes_of self.now) node path.now }
@@ -130,7 +134,8 @@ impl Attributes {
         }
     }
 
-    /// Applies the operation: it adds or sets rights, or leaves them as they are.
+    /// Applies an operation. A creat and a mkdir add rights, a chmod and a chown set them, and any
+    /// other operation leaves them as they are.
     pub(crate) fn change(&mut self, alloc: Global, operation: &Operation) -> Result<(), AllocError>
         ensures { OnOk result (attributes_of self.new
             ≡ attributes_after (attributes_of self.old) operation.now) }

@@ -1,4 +1,5 @@
-//! The files and directories at the start, by their paths.
+//! The files and directories at the start, by their paths. What is at the paths later, without
+//! bytes and rights, is in `standing`.
 ghost use Rattle.std.specs.Prelude.{◌≡◌, IfOk, OnOk};
 ghost use Rattle.std.specs.FinMap as map;
 ghost use Rattle.std.specs.Option.{is_some, option_map};
@@ -35,7 +36,7 @@ impl Model for Entries {
 }
 
 impl Entries {
-    /// No file and no directory.
+    /// A start without files and directories, not even the root.
     pub(crate) fn new(alloc: Global) -> Entries
         ensures { result ≡ map.empty }
     {
@@ -44,14 +45,15 @@ impl Entries {
         }
     }
 
-    /// The entry at the path. It takes no memory.
+    /// The entry at the path; None if nothing is there. It takes no memory.
     pub(crate) fn entry(&self, path: &Path) -> Option<&StartFile>
         ensures { option_map (λ entry. entry.now) result ≡ map.get self.now path.now }
     {
         self.by_path.get(path)
     }
 
-    /// Whether a file or a directory is at the path, and which. It takes no memory.
+    /// What is at the path: a directory, or a file by its number. None if nothing is there. It
+    /// takes no memory.
     pub(crate) fn get(&self, path: &Path) -> Option<Node>
         ensures { result ≡ option_map node_of (map.get self.now path.now) }
     {
@@ -61,7 +63,8 @@ impl Entries {
         }
     }
 
-    /// Whether something is below the path: it would come right after it. It takes no memory.
+    /// Whether something is below the path. In the order of paths, it would come right after the
+    /// path. It takes no memory.
     pub(crate) fn has_below(&self, path: &Path) -> bool
         ensures { result ≡ has_below (map_values node_of self.now) path.now }
     {
@@ -75,7 +78,7 @@ impl Entries {
         }
     }
 
-    /// Copies the map, without what only the start has.
+    /// What is at each path at the start, as a copy without bytes and rights.
     pub(crate) fn nodes(&self, alloc: Global) -> Result<Standing, AllocError>
         ensures { IfOk result (λ standing. standing ≡ map_values node_of self.now) }
     {
@@ -86,7 +89,8 @@ impl Entries {
         Ok(standing)
     }
 
-    /// Puts the entry at the path, and returns whether another was there before.
+    /// Puts the entry at the path, and returns whether it replaced another. After an error, the
+    /// trace is given up.
     pub(crate) fn insert(&mut self, path: Path, entry: StartFile) -> Result<bool, AllocError>
         ensures stood { IfOk result (λ stood. stood ≡ is_some (map.get self.old path)) }
         ensures state { OnOk result (self.new ≡ map.insert self.old path entry) }
@@ -95,7 +99,8 @@ impl Entries {
         Ok(before.is_some())
     }
 
-    /// The records in the order of their paths, numbered from 0, and the file or directory of each.
+    /// A record of each entry, in the order of their paths and numbered from 0; and, in the same
+    /// order, the node of each: a directory, or a file by its number.
     pub(crate) fn into_parts(
         self,
         alloc: Global,

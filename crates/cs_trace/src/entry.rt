@@ -7,16 +7,16 @@ use crate::operation::{Node, Rights};
 use cs_tree_model::{Content, DMDIR, Kind, Record};
 use std::alloc::{AllocError, Global};
 
-/// A file or a directory, without its path.
+/// A file or a directory at the start, without its path.
 #[derive(Debug, Drop)]
 pub(crate) struct StartFile {
-    /// The number of a file; a directory has none.
+    /// The number of a file; 0 for a directory, which has none.
     pub(crate) number: u32,
     pub(crate) rights: Rights,
     pub(crate) content: Content,
 }
 
-/// The mode of a record: the permissions, with a directory's bit above them.
+/// The mode of a record: the permissions, and above them the bit DMDIR for a directory.
 fn file_mode(content: &Content, permissions: u16) -> u32
     ensures { result ≡ file_mode content.now permissions }
 {
@@ -37,7 +37,7 @@ impl StartFile {
         }
     }
 
-    /// The same entry again, for another path of the file.
+    /// A copy of the entry, for another path of its file.
     pub(crate) fn try_clone(&self, alloc: Global) -> Result<StartFile, AllocError>
         ensures { IfOk result (λ copy. copy ≡ self.now) }
     {
@@ -48,7 +48,8 @@ impl StartFile {
         })
     }
 
-    /// The entry as a record of that number that nobody has changed yet.
+    /// The entry as a record of that number. Nobody has changed it: its version and times are 0,
+    /// and its owner counts as the user who changed it last.
     pub(crate) fn into_record(self, number: u64) -> Result<Record, AllocError>
         ensures { IfOk result (λ fresh. fresh ≡ fresh_record number (record_of self)) }
     {

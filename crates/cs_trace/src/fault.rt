@@ -38,6 +38,7 @@ pub enum TraceFaultKind {
 impl fmt::Display for TraceFaultKind {
     ghost output = { λ kind. Some (kind_text kind) };
 
+    /// Prints the kind's name; Memory is `out of memory`.
     fn fmt<W: fmt::Write>(&self, f: &mut fmt::Formatter<W>) -> fmt::Result {
         f.write_str(match self {
             TraceFaultKind::Syntax => "Syntax",
@@ -58,6 +59,7 @@ impl fmt::Display for TraceFaultKind {
 impl From<AllocError> for TraceFaultKind {
     ghost from_gives = { λ _ kind. kind ≡ Memory };
 
+    /// A failed allocation is Memory.
     fn from(_refused: AllocError) -> TraceFaultKind {
         TraceFaultKind::Memory
     }
@@ -76,6 +78,7 @@ pub struct TraceFault {
 impl fmt::Display for TraceFault {
     ghost output = { λ fault. Some (fault_text fault.line fault.kind) };
 
+    /// Prints the line and the kind, or only `out of memory`.
     fn fmt<W: fmt::Write>(&self, f: &mut fmt::Formatter<W>) -> fmt::Result {
         match self.kind {
             TraceFaultKind::Memory => f.write_str("out of memory"),

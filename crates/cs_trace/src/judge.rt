@@ -11,7 +11,7 @@ use crate::tree::Tree;
 use cs_names::Path;
 use cs_names::limits::{FILE_BYTES, TRACE_PATH_NAMES, TREE_RECORDS};
 
-/// The number of the file at the path.
+/// The number of the file at the path. Nothing there is Missing, and a directory is NotFile.
 pub(crate) fn file_at(tree: &Tree, path: &Path) -> Result<u32, TraceFaultKind>
     ensures { result ≡ file_at tree.now.nodes path.now }
 {
@@ -22,7 +22,8 @@ pub(crate) fn file_at(tree: &Tree, path: &Path) -> Result<u32, TraceFaultKind>
     }
 }
 
-/// Whether a new entry may be made at the path, in the directory above. If not, why.
+/// Checks that a new entry may be made at the path, whose parent path is `above`. Nothing at the
+/// parent path is NoParent, a file there is NotDir, and anything at the path itself is Exists.
 pub(crate) fn check_free(tree: &Tree, above: &Path, path: &Path) -> Result<(), TraceFaultKind>
     requires { above.now ≡ parent_path path.now }
     ensures { result ≡ free_at tree.now.nodes path.now }
@@ -35,8 +36,9 @@ pub(crate) fn check_free(tree: &Tree, above: &Path, path: &Path) -> Result<(), T
     }
 }
 
-/// Whether a file may be moved to the path, over a file that is there, in the directory above. If
-/// not, why.
+/// Checks that a file may be moved to the path, whose parent path is `above`; it may replace a
+/// file. Nothing at the parent path is NoParent, a file there is NotDir, and a directory at the
+/// path itself is NotFile.
 pub(crate) fn check_target(tree: &Tree, above: &Path, path: &Path) -> Result<(), TraceFaultKind>
     requires { above.now ≡ parent_path path.now }
     ensures { result ≡ target_at tree.now.nodes path.now }
@@ -49,7 +51,8 @@ pub(crate) fn check_target(tree: &Tree, above: &Path, path: &Path) -> Result<(),
     }
 }
 
-/// Whether an empty directory is at the path. If not, why.
+/// Checks that an empty directory is at the path. Nothing there is Missing, a file is NotDir, and a
+/// directory with something in it is NotEmpty.
 pub(crate) fn check_emptied(tree: &Tree, path: &Path) -> Result<(), TraceFaultKind>
     ensures { result ≡ emptied_at tree.now.nodes path.now }
 {
@@ -61,7 +64,7 @@ pub(crate) fn check_emptied(tree: &Tree, path: &Path) -> Result<(), TraceFaultKi
     }
 }
 
-/// Whether the node is the file of that number.
+/// Whether the node, of what is at some path, is the file of that number.
 pub(crate) fn is_path_of(file: u32, node: Option<Node>) -> bool
     ensures { result ≡ is_path_of file node }
 {
@@ -71,22 +74,22 @@ pub(crate) fn is_path_of(file: u32, node: Option<Node>) -> bool
     }
 }
 
-/// Whether a path of so many names has too many.
+/// Whether a path of this many names is over the limit of a trace's paths.
 pub(crate) fn are_too_many(names: usize) -> bool
     ensures { result ≡ nat_lt TRACE_PATH_NAMES names }
 {
     names > TRACE_PATH_NAMES
 }
 
-/// Whether a limit forbids one record more, after `made`, at a path of so many names.
+/// Whether a limit forbids one more record, at a path of this many names, after `made` records.
 pub(crate) fn is_too_much(made: usize, names: usize) -> bool
     ensures { result ≡ (nat_lt TRACE_PATH_NAMES names || nat_le TREE_RECORDS made) }
 {
     are_too_many(names) || made >= TREE_RECORDS
 }
 
-/// Whether a write of these bytes ends above the greatest size of a file. A write of no byte never
-/// does.
+/// Whether a write of these bytes at the offset ends above FILE_BYTES, the greatest size of a file.
+/// A write of no byte never does, at any offset.
 pub(crate) fn ends_above(offset: u64, bytes: &[u8]) -> bool
     ensures { result ≡ ends_above offset bytes.now }
 {
@@ -94,7 +97,7 @@ pub(crate) fn ends_above(offset: u64, bytes: &[u8]) -> bool
     count > 0 && (offset > FILE_BYTES || count > FILE_BYTES - offset)
 }
 
-/// The size of the file of that number; 0 if there is none.
+/// The size in bytes of the file of that number; 0 if there is no such file.
 pub(crate) fn size_in(sizes: &[u64], file: u32) -> u64
     ensures { result ≡ size_in sizes.now file }
 {

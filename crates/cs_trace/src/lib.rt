@@ -1,4 +1,5 @@
-//! The trace of a storage application: the files and directories at its start, and its operations.
+//! Reads and checks the trace of a storage application: the files and directories at its start, and
+//! its operations. How a line is read by itself is in cs_trace_lines.
 #![tactic(auto)]
 
 mod attributes;

@@ -1,4 +1,5 @@
-//! The lines of a trace, one after another.
+//! Applies the lines of a trace, one after another, to the state of the lines so far. A fault ends
+//! the trace, so no clause says what it leaves of the state.
 ghost use Rattle.std.specs.Prelude.{◌≡◌, ◌≢◌, false, IfErr, IfOk, None, Some, Ok, Err, length};
 ghost use Rattle.cs_trace.specs.Judging.{IsPastNames};
 ghost use Rattle.cs_trace.specs.Kept.{IsBounded, state_of};
@@ -17,7 +18,8 @@ use crate::state::LinesSoFar;
 use cs_trace_lines::{Line, LineFault, OperationLine, Version, is_blank, read_line};
 use std::alloc::Global;
 
-/// What a line that isn't blank says by itself.
+/// The line that a text spells by itself, in a trace of this version. If it spells none, it is
+/// Syntax.
 fn read(alloc: Global, version: Version, text: &str) -> Result<Line, TraceFaultKind>
     ensures read { IfOk result (λ line. line_in version text.now ≡ Some (line_value line)) }
     ensures fault { IfErr result (λ kind. kind ≢ Memory → kind ≡ Syntax) }
@@ -30,7 +32,7 @@ fn read(alloc: Global, version: Version, text: &str) -> Result<Line, TraceFaultK
     }
 }
 
-/// Applies the line of an operation.
+/// Checks the line of an operation in the state, and applies it.
 fn take_operation(
     alloc: Global,
     state: &mut LinesSoFar,
@@ -46,7 +48,7 @@ fn take_operation(
     Ok(())
 }
 
-/// Applies the first line that isn't blank, which must be the header.
+/// Applies the first line that isn't blank. If it isn't the header, it is Syntax.
 fn take_first(alloc: Global, state: &mut LinesSoFar, line: Line) -> Result<(), TraceFaultKind>
     requires { IsBounded (state_of state.old) }
     ensures { Leaves
@@ -59,8 +61,8 @@ fn take_first(alloc: Global, state: &mut LinesSoFar, line: Line) -> Result<(), T
     }
 }
 
-/// Applies a line after the header that isn't blank. Once there is an operation, a start line is
-/// Syntax.
+/// Applies a line after the header that isn't blank. A second header is Syntax, and so is a start
+/// line after an operation.
 fn take_later(alloc: Global, state: &mut LinesSoFar, line: Line) -> Result<(), TraceFaultKind>
     requires { IsBounded (state_of state.old) }
     ensures { Leaves
@@ -81,7 +83,7 @@ fn take_later(alloc: Global, state: &mut LinesSoFar, line: Line) -> Result<(), T
     }
 }
 
-/// Applies the next line. A blank one changes nothing.
+/// Applies the next line, given as its text. A blank one changes nothing.
 fn take(alloc: Global, state: &mut LinesSoFar, text: &str) -> Result<(), TraceFaultKind>
     requires { IsBounded (state_of state.old) }
     ensures { Leaves
@@ -99,7 +101,8 @@ fn take(alloc: Global, state: &mut LinesSoFar, text: &str) -> Result<(), TraceFa
     }
 }
 
-/// The state after all lines of the text, or the first fault with the number of its line.
+/// The state after all lines of the text, or the first fault, with the number of its line from 1.
+/// Whether there was a header isn't checked: if there was none, `made` is 0.
 pub(crate) fn take_lines(alloc: Global, text: &str) -> Result<LinesSoFar, TraceFault>
     ensures done { IfOk result (λ state. state_in (lines_in text.now) ≡ Ok (state_of state)) }
     ensures fault { IfErr result (λ fault. fault.kind ≢ Memory

@@ -1,4 +1,4 @@
-//! The names of users and groups in a line: checked without taking memory, and copied.
+//! The names of users and groups in a line: checked without taking memory, and then copied.
 ghost use Rattle.std.specs.Prelude.{◌≡◌, IfOk};
 ghost use Rattle.cs_trace.specs.Names.{are_set_names, are_user_names, is_user_name};
 ghost use Rattle.cs_trace_lines.specs.Said.{change_value, claims_of};
@@ -31,8 +31,8 @@ pub(crate) fn are_set_names(change: &Change) -> bool
     }
 }
 
-/// A copy of the name of a user or a group, which the caller has checked. One that isn't legal is
-/// refused as out of memory.
+/// A copy of the name of a user or a group. The caller has checked that it is legal; one that isn't
+/// would be an AllocError, too.
 pub(crate) fn keep_user_name(alloc: Global, text: &str) -> Result<UserName, AllocError>
     ensures { IfOk result (λ name. name ≡ text.now) }
 {

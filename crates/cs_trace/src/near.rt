@@ -9,7 +9,7 @@ use cs_names::{Name, Path};
 use std::alloc::{AllocError, Global};
 use std::marker::Model;
 
-/// A directory. Contracts see its path.
+/// A directory, with the text that spells its path if it is known. Contracts see the path.
 #[derive(Drop)]
 pub(crate) struct Near {
     path: Path,
@@ -30,7 +30,8 @@ impl Model for Near {
     ghost invariant = { λ near. MaySpell near.count (string_bytes near.text) near.path };
 }
 
-/// The text of the directory of the path that this text spells; None for an entry of the root.
+/// The directory of the path that this text spells, as the part of the text before its last `/`.
+/// None if that is the root, or if the text spells no path.
 fn text_above<'a>(text: &'a str) -> Option<PathText<'a>>
     ensures above { IfSome result (λ above. (p : List (List ℕ))
         → path_of text.now ≡ Some p → above ≡ parent_path p) }
@@ -44,7 +45,8 @@ fn text_above<'a>(text: &'a str) -> Option<PathText<'a>>
 }
 
 impl Near {
-    /// The directory of the path. The text spells the path, not the directory.
+    /// The parent directory of the path, which `text` spells. The directory's own text is copied,
+    /// too, unless the directory is the root or its path is too long.
     pub(crate) fn above(alloc: Global, path: &Path, text: &PathText<'_>) -> Result<Near, AllocError>
         requires { text.now ≡ path.now }
         ensures { IfOk result (λ near. near ≡ parent_path path.now) }
@@ -71,8 +73,8 @@ impl Near {
         &self.path
     }
 
-    /// The path that the text spells, if it begins with the text of the directory. Then only its
-    /// last name is checked. None for any other text, which must be checked whole.
+    /// The path that the text spells, if it is the text of the directory, a `/` and a legal name;
+    /// only that name is checked. None for any other text, which may still spell a path.
     pub(crate) fn entry<'a>(&self, text: &'a str) -> Option<PathText<'a>>
         ensures { IfSome result (λ path. entry_path_of text.now ≡ Some path) }
     {

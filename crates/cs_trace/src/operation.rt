@@ -121,8 +121,8 @@ pub enum Operation {
 }
 
 impl Rights {
-    /// The rights that a line claims. The caller has checked its names.
-    pub(crate) fn keep(alloc: Global, claims: &Claims) -> Result<Rights, AllocError>
+    /// The rights that a line claims, copied. The caller has checked its names.
+    pub(crate) fn of_claims(alloc: Global, claims: &Claims) -> Result<Rights, AllocError>
         ensures { IfOk result (λ rights. rights ≡ rights_of (claims_of claims.now)) }
     {
         Ok(Rights {
@@ -132,7 +132,7 @@ impl Rights {
         })
     }
 
-    /// The same rights again.
+    /// A copy of the rights.
     pub fn try_clone(&self) -> Result<Rights, AllocError>
         ensures { IfOk result (λ copy. copy ≡ self.now) }
     {
@@ -143,8 +143,8 @@ impl Rights {
         })
     }
 
-    /// These rights with other permissions, or with another owner and group. The caller has checked
-    /// their names.
+    /// A copy of the rights with other permissions (of a chmod), or with another owner and group
+    /// (of a chown), whose names the caller has checked.
     pub(crate) fn with_change(&self, alloc: Global, change: &Change) -> Result<Rights, AllocError>
         ensures { IfOk result (λ rights. rights ≡ rights_after (change_value change.now) self.now) }
     {
@@ -161,7 +161,8 @@ impl Rights {
 }
 
 impl Target {
-    /// The target of a chmod or a chown of this node, which is at the path.
+    /// The target of a chmod or a chown: the file of the number in `node`, or the directory at the
+    /// path.
     pub(crate) fn of(node: Node, path: Path) -> Target
         ensures { result ≡ target_of node path }
     {

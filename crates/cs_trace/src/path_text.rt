@@ -1,4 +1,4 @@
-//! A path that a line spells: checked without taking memory, and copied.
+//! A path that a line spells: checked without taking memory, and then copied.
 ghost use Rattle.std.specs.Prelude.{◌≡◌, ◌≢◌, ◌<◌, ◌+◌, ◌↔◌, IfErr, IfOk, IsTrue, Some, length};
 ghost use Rattle.cs_names.specs.declared.limits.TheConstants.{TRACE_PATH_NAMES};
 ghost use Rattle.cs_trace.specs.Names.{entry_path_of, path_of, spelled_path};
@@ -10,7 +10,7 @@ use cs_names::limits::TRACE_PATH_NAMES;
 use std::alloc::{AllocError, Global};
 use std::marker::Model;
 
-/// A text that spells a path. Contracts see the path.
+/// A text that spells a path, and how many names the path has. Contracts see the path.
 #[derive(Drop)]
 pub(crate) struct PathText<'a> {
     text: &'a str,
@@ -40,7 +40,8 @@ impl<'a> PathText<'a> {
         }
     }
 
-    /// The path that the text spells, unless it is the root, which is no entry.
+    /// The path that the text spells; None if it spells none, or the root, which is no entry of a
+    /// directory.
     pub(crate) fn of_entry(text: &'a str) -> Option<PathText<'a>>
         ensures { result ≡ entry_path_of text.now }
     {
@@ -51,7 +52,8 @@ impl<'a> PathText<'a> {
         Some(path)
     }
 
-    /// The path of a text that is known to spell one, with so many names. It isn't checked again.
+    /// The path of a text that is known to spell one, of `count` names. The text isn't checked
+    /// again.
     pub(crate) fn of_checked(text: &'a str, count: usize) -> PathText<'a>
         requires legal { path_of text.now ≡ Some (spelled_path text.now) }
         requires count { count ≡ length (spelled_path text.now) }
@@ -74,22 +76,23 @@ impl<'a> PathText<'a> {
         self.count
     }
 
-    /// A path of its own, made from the text.
-    pub(crate) fn keep(&self, alloc: Global) -> Result<Path, AllocError>
+    /// The path that the text spells, as a Path of its own.
+    pub(crate) fn to_path(&self, alloc: Global) -> Result<Path, AllocError>
         ensures { IfOk result (λ path. path ≡ self.now) }
     {
-        Path::keep(alloc, self.text)
+        Path::from_text(alloc, self.text)
     }
 
-    /// Whether neither a path of a trace's tree, nor one in a directory of it, has so many names.
+    /// Whether the path has so many names that neither the path nor its directory can be in a
+    /// trace's tree: more than TRACE_PATH_NAMES + 1.
     pub(crate) fn is_long(&self) -> bool
         ensures { IsTrue result ↔ (TRACE_PATH_NAMES + 1 < length self.now) }
     {
         self.len() > TRACE_PATH_NAMES + 1
     }
 
-    /// A path of its own, made from the text, unless it is too long for a path or a directory of a
-    /// trace's tree. Such a path has this fault, and takes no memory.
+    /// The path that the text spells, as a Path of its own. If `is_long`, it is this fault instead,
+    /// and takes no memory.
     pub(crate) fn keep_or(
         &self,
         alloc: Global,
@@ -103,6 +106,6 @@ impl<'a> PathText<'a> {
         if self.is_long() {
             return Err(fault);
         }
-        Ok(self.keep(alloc)?)
+        Ok(self.to_path(alloc)?)
     }
 }

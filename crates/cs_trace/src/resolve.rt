@@ -1,5 +1,5 @@
 //! From the line of an operation to the operation: its paths are checked, then copied, and then
-//! looked up in the tree.
+//! looked up in the tree. The state is only read; `LinesSoFar::apply` changes it.
 ghost use Rattle.std.specs.Prelude.{◌≡◌, ◌<◌, ◌^◌, length};
 ghost use Rattle.cs_trace.specs.Judging.{AreShort, IsPastNames, creat, fsync, fsync_range};
 ghost use Rattle.cs_trace.specs.Judging.{or_bad_name, link, mkdir, rename, resolve, rmdir, say};
@@ -60,7 +60,8 @@ fn set_path<'a>(text: &'a str, change: &Change) -> Result<PathText<'a>, TraceFau
     Ok(path)
 }
 
-/// A creat of the file with the next number.
+/// The creat of a file at the path, with the next number. The directory and the path are checked as
+/// `check_free` does, and then the limits, past which it is TooLarge.
 #[tactic(auto, using(crate::proofs::Past::nothing_above, crate::proofs::Past::past_creat))]
 fn creat(
     alloc: Global,
@@ -82,11 +83,12 @@ fn creat(
         return Err(TraceFaultKind::TooLarge);
     }
     let file = state.sizes.len() as u32;
-    let rights = Rights::keep(alloc, claims)?;
+    let rights = Rights::of_claims(alloc, claims)?;
     Ok(Operation::Creat { path, file, rights })
 }
 
-/// A mkdir at the path, after `made` records.
+/// The mkdir of a directory at the path, after `made` records. The directory above and the path are
+/// checked as `check_free` does, and then the limits, past which it is TooLarge.
 #[tactic(auto, using(crate::proofs::Past::nothing_above, crate::proofs::Past::past_mkdir))]
 fn mkdir(
     alloc: Global,
@@ -104,11 +106,12 @@ fn mkdir(
     if is_too_much(made, path.names().len()) {
         return Err(TraceFaultKind::TooLarge);
     }
-    let rights = Rights::keep(alloc, claims)?;
+    let rights = Rights::of_claims(alloc, claims)?;
     Ok(Operation::Mkdir { path, rights })
 }
 
-/// A link of one more path, `to`, to the file at `from`, after `made` records.
+/// The link of one more path, `to`, to the file at `from`, after `made` records. Nothing at `from`
+/// is Missing, and a directory is NotFile; then `to` is checked as in a mkdir.
 #[tactic(auto, using(crate::proofs::Past::nothing_at, crate::proofs::Past::nothing_above, crate::proofs::Past::past_link))]
 fn link(
     alloc: Global,
@@ -131,7 +134,7 @@ fn link(
     Ok(Operation::Link { path, file })
 }
 
-/// An unlink of the path, if a file is there.
+/// The unlink of the path of a file. Nothing there is Missing, and a directory is NotFile.
 #[tactic(auto, using(crate::proofs::Past::nothing_at, crate::proofs::Past::past_unlink))]
 fn unlink(alloc: Global, tree: &Tree, path: &PathText<'_>) -> Result<Operation, TraceFaultKind>
     requires { AreShort tree.now.nodes }
@@ -142,7 +145,8 @@ fn unlink(alloc: Global, tree: &Tree, path: &PathText<'_>) -> Result<Operation, 
     Ok(Operation::Unlink { path })
 }
 
-/// An rmdir of the path, if an empty directory is there.
+/// The rmdir of an empty directory. Nothing at the path is Missing, a file is NotDir, and a
+/// directory with something in it is NotEmpty.
 #[tactic(auto, using(crate::proofs::Past::nothing_at, crate::proofs::Past::past_rmdir))]
 fn rmdir(alloc: Global, tree: &Tree, path: &PathText<'_>) -> Result<Operation, TraceFaultKind>
     requires { AreShort tree.now.nodes }
@@ -153,7 +157,9 @@ fn rmdir(alloc: Global, tree: &Tree, path: &PathText<'_>) -> Result<Operation, T
     Ok(Operation::Rmdir { path })
 }
 
-/// A rename of the file at `from`, which may replace a file at `to`.
+/// The rename of the file at `from`, which may replace a file at `to`. Nothing at `from` is
+/// Missing, and a directory is NotFile; `to` is checked as `check_target` does, and a `to` of too
+/// many names is TooLarge. If both are paths of one file, the rename is one of `to` to itself.
 #[tactic(auto, using(crate::proofs::Past::nothing_at, crate::proofs::Past::nothing_above, crate::proofs::Past::past_rename))]
 fn rename(
     alloc: Global,
@@ -172,7 +178,7 @@ fn rename(
     if are_too_many(to.names().len()) {
         return Err(TraceFaultKind::TooLarge);
     }
-    // If both are paths of one file, rename(2) does nothing: as if `to` were renamed to itself.
+    // As rename(2), which does nothing if both are paths of one file.
     let from = if is_path_of(file, tree.get(&to)) {
         to.try_clone(alloc)?
     } else {
@@ -181,7 +187,8 @@ fn rename(
     Ok(Operation::Rename { from, to })
 }
 
-/// A write to the file at the path. No byte may come after the greatest size of a file.
+/// The write of bytes at the offset to the file at the path. Nothing there is Missing, a directory
+/// is NotFile, and a write that ends above the greatest size of a file is TooLarge.
 #[tactic(auto, using(crate::proofs::Past::nothing_at, crate::proofs::Past::past_write))]
 fn write(
     alloc: Global,
@@ -208,7 +215,8 @@ fn write(
     })
 }
 
-/// A truncate of the file at the path to a new length, which may be greater than its size.
+/// The truncate of the file at the path to a new length, which may be greater than its size.
+/// Nothing there is Missing, a directory is NotFile, and a length above FILE_BYTES is TooLarge.
 #[tactic(auto, using(crate::proofs::Past::nothing_at, crate::proofs::Past::past_truncate))]
 fn truncate(
     alloc: Global,
@@ -230,7 +238,8 @@ fn truncate(
     Ok(Operation::Truncate { file, size, length })
 }
 
-/// A chmod or a chown of the file or directory at the path, with its rights before and after.
+/// The chmod or chown of the file or directory at the path, with its rights before and after.
+/// Nothing there is Missing.
 #[tactic(auto, using(crate::proofs::Past::nothing_at, crate::proofs::Past::past_set_attr))]
 fn set_attr(
     alloc: Global,
@@ -260,7 +269,8 @@ fn set_attr(
     })
 }
 
-/// An fsync of the file at the path, or of the entries of the directory there.
+/// The fsync of the file at the path, or of the entries of the directory there. Nothing there is
+/// Missing.
 #[tactic(auto, using(crate::proofs::Past::nothing_at, crate::proofs::Past::past_fsync))]
 fn fsync(alloc: Global, tree: &Tree, path: &PathText<'_>) -> Result<Operation, TraceFaultKind>
     requires { AreShort tree.now.nodes }
@@ -274,7 +284,8 @@ fn fsync(alloc: Global, tree: &Tree, path: &PathText<'_>) -> Result<Operation, T
     }
 }
 
-/// A sync of `length` bytes of the file at the path, from the offset on.
+/// The sync of `length` bytes of the file at the path, from the offset on. Nothing there is
+/// Missing, and a directory is NotFile. The range may end after the file.
 #[tactic(auto, using(crate::proofs::Past::nothing_at, crate::proofs::Past::past_fsync_range))]
 fn fsync_range(
     alloc: Global,
@@ -295,7 +306,7 @@ fn fsync_range(
     }))
 }
 
-/// A say of the text, which has a greatest length.
+/// The say of a text, which isn't kept. A text of more than SAY_BYTES bytes is TooLarge.
 fn say(text: &str) -> Result<Operation, TraceFaultKind>
     ensures { result ≡ say text.now }
 {
@@ -305,7 +316,7 @@ fn say(text: &str) -> Result<Operation, TraceFaultKind>
     Ok(Operation::Say)
 }
 
-/// The operation that the line is in this state, or its first fault.
+/// The operation that the line means in this state, or the fault of the first check that it fails.
 #[tactic(auto, using(crate::proofs::Past::past_say))]
 pub(crate) fn resolve(
     alloc: Global,

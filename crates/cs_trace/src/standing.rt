@@ -1,4 +1,5 @@
-//! What is at each path while a trace is read.
+//! What is at each path after the lines so far, while a trace is read. What was there at the start,
+//! with bytes and rights, is in `entries`.
 ghost use Rattle.std.specs.Prelude.{◌≡◌, IfOk, OnOk};
 ghost use Rattle.std.specs.FinMap as map;
 ghost use Rattle.std.specs.Option.{is_some};
@@ -31,7 +32,7 @@ impl Model for Standing {
 }
 
 impl Standing {
-    /// No file and no directory.
+    /// A map without files and directories.
     pub(crate) fn new(alloc: Global) -> Standing
         ensures { result ≡ map.empty }
     {
@@ -40,14 +41,15 @@ impl Standing {
         }
     }
 
-    /// What is at the path. It takes no memory.
+    /// What is at the path; None if nothing is. It takes no memory.
     pub(crate) fn get(&self, path: &Path) -> Option<Node>
         ensures { result ≡ map.get self.now path.now }
     {
         self.by_path.get(path).copied()
     }
 
-    /// Whether something is below the path: it would come right after it. It takes no memory.
+    /// Whether something is below the path. In the order of paths, it would come right after the
+    /// path. It takes no memory.
     pub(crate) fn has_below(&self, path: &Path) -> bool
         ensures { result ≡ has_below self.now path.now }
     {
@@ -61,7 +63,8 @@ impl Standing {
         }
     }
 
-    /// Puts the node at the path, and returns whether another was there before.
+    /// Puts the node at the path, and returns whether it replaced another. After an error, the
+    /// trace is given up.
     pub(crate) fn insert(&mut self, path: Path, node: Node) -> Result<bool, AllocError>
         ensures stood { IfOk result (λ stood. stood ≡ is_some (map.get self.old path)) }
         ensures state { OnOk result (self.new ≡ map.insert self.old path node) }

@@ -1,4 +1,5 @@
-//! What the header and the start lines add to the state.
+//! What the header and the start lines add to the state. After a fault, the trace is given up, so
+//! that no clause says what is left of the state.
 ghost use Rattle.std.specs.Prelude.{◌≡◌, ◌≢◌, ◌<◌, ◌^◌, IfErr, IfOk, IsOk, OnOk, None, Some, Ok};
 ghost use Rattle.std.specs.Prelude.{Err, length};
 ghost use Rattle.std.specs.FinMap as map;
@@ -33,7 +34,7 @@ use cs_trace_lines::{Claims, StartLine, Version};
 use cs_tree_model::{Content, Kind};
 use std::alloc::{AllocError, Global};
 
-/// How many bytes a file has; 0 for a directory, which has no content.
+/// How many bytes a file with this content has; 0 for a directory, whose content is None.
 fn size_of(content: &Option<Vec<u8>>) -> u64
     ensures { result ≡ size_of (option_map (λ bytes. bytes.items) content.now) }
 {
@@ -43,7 +44,8 @@ fn size_of(content: &Option<Vec<u8>>) -> u64
     }
 }
 
-/// The entry of a new file, with the next number, or of a directory if there is no content.
+/// The entry of a new file with this content and the next number, or of a directory if the content
+/// is None. The names in the claims are copied.
 fn keep_entry(
     alloc: Global,
     state: &LinesSoFar,
@@ -54,7 +56,7 @@ fn keep_entry(
     ensures { IfOk result (λ entry. entry ≡ entry_for (state_of state.now)
         (claims_of claims.now) (option_map (λ bytes. bytes.items) content)) }
 {
-    let rights = Rights::keep(alloc, claims)?;
+    let rights = Rights::of_claims(alloc, claims)?;
     Ok(match content {
         None => StartFile {
             number: 0,
@@ -69,7 +71,9 @@ fn keep_entry(
     })
 }
 
-/// Puts an entry at the path, and returns whether another was there before.
+/// Adds the entry of a new file or directory at the path: to the tree, to the files and their sizes
+/// if it is a file, and to the attributes. Counts one more record. Returns whether the path had an
+/// entry, which is a fault of the line.
 fn put_entry(
     alloc: Global,
     state: &mut LinesSoFar,
@@ -88,6 +92,7 @@ fn put_entry(
         state.sizes.push(length)?;
     }
     match state.version {
+        // Version 1 has no operation that changes attributes.
         Version::First => {}
         Version::Second(_) | Version::Third(..) => {
             let node = entry.node();
@@ -99,7 +104,9 @@ fn put_entry(
     Ok(stood)
 }
 
-/// The directory of a new entry at the path that the text spells. It must be there.
+/// The directory of a new entry at the path, which `text` spells. Nothing at the parent path is
+/// NoParent, and a file there is NotDir. The directory of the last start line isn't looked up
+/// again.
 fn find_above(
     alloc: Global,
     tree: &mut Tree,
@@ -124,7 +131,8 @@ fn find_above(
     }
 }
 
-/// Adds an entry at the path, which has so many names, in the directory above.
+/// Adds a new entry at the path, which has `names` names, in the directory `above`. Anything at the
+/// path is Exists, and an entry over a limit is TooLarge.
 #[tactic(auto, using(crate::proofs::Past::past_start_at))]
 fn start_in(
     alloc: Global,
@@ -159,7 +167,9 @@ fn start_in(
     Ok(())
 }
 
-/// The path of a new entry. If the path, the owner or the group isn't legal, it is BadName.
+/// The path of a start line. If the path, the owner or the group isn't legal, it is BadName. It
+/// does what `new_path` does, but checks only the last name of a path in the directory of the last
+/// start line.
 fn start_path<'a>(
     tree: &Tree,
     path: &'a str,
@@ -176,7 +186,8 @@ fn start_path<'a>(
     Ok(entry)
 }
 
-/// Adds a file or a directory at the path that the text spells.
+/// Adds a file with this content at the path that the text spells, or a directory if the content is
+/// None.
 #[tactic(auto, using(crate::proofs::Past::nothing_above, crate::proofs::Past::past_start_at))]
 fn add_entry(
     alloc: Global,
@@ -196,7 +207,7 @@ fn add_entry(
     start_in(alloc, state, path, text.len(), above, claims, content)
 }
 
-/// Applies the start line of a file or a directory.
+/// Applies the start line of a file or a directory, after a check of its names.
 pub(crate) fn take_start(
     alloc: Global,
     state: &mut LinesSoFar,
@@ -216,7 +227,8 @@ pub(crate) fn take_start(
     add_entry(alloc, state, &text, &claims, content)
 }
 
-/// The file that was at the path at the start. Nothing is Missing, and a directory is NotFile.
+/// The file that was at the path at the start. Nothing there is Missing, and a directory is
+/// NotFile.
 fn start_file<'a>(tree: &'a Tree, path: &Path) -> Result<&'a StartFile, TraceFaultKind>
     ensures file { IfOk result (λ entry.
         start_file_at (map.get tree.now.start path.now) ≡ Ok entry.now) }
@@ -232,7 +244,8 @@ fn start_file<'a>(tree: &'a Tree, path: &Path) -> Result<&'a StartFile, TraceFau
     }
 }
 
-/// Puts one path more for the file of the start that has this entry.
+/// Adds the path to the further paths of the file of the start that has this entry. Counts one more
+/// record.
 fn put_link(
     alloc: Global,
     state: &mut LinesSoFar,
@@ -248,7 +261,8 @@ fn put_link(
     Ok(())
 }
 
-/// Adds one path more, `to`, for the file of the start at `from`.
+/// Adds one more path, `to`, to the file that was at `from` at the start. Nothing at `from` is
+/// Missing, and a directory is NotFile; `to` is checked as a new entry.
 #[tactic(auto, using(crate::proofs::Past::nothing_above, crate::proofs::Past::no_start_at, crate::proofs::Past::past_start_link_at))]
 fn add_link(
     alloc: Global,
@@ -274,7 +288,8 @@ fn add_link(
     Ok(())
 }
 
-/// Applies the start line of a link, with the texts of its two paths.
+/// Applies the start line of a link: `path` spells one more path of the file at the path that
+/// `from` spells. If either spells no entry, it is BadName.
 pub(crate) fn take_link(
     alloc: Global,
     state: &mut LinesSoFar,
@@ -291,7 +306,8 @@ pub(crate) fn take_link(
     add_link(alloc, state, &from, &path)
 }
 
-/// Applies the header: it sets the version and adds the root.
+/// Applies the header: it sets the version and adds the root. An owner or a group that isn't legal
+/// is BadName.
 pub(crate) fn take_header(
     alloc: Global,
     state: &mut LinesSoFar,

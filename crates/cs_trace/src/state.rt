@@ -1,4 +1,6 @@
-//! The state that the lines of a trace lead to.
+//! The state after the lines so far of a trace, and what an operation changes in it. An error is
+//! that memory ran out; then the whole trace is given up, so no clause says what is left. What
+//! the header and the start lines change is in `start`.
 ghost use Rattle.std.specs.Prelude.{◌≡◌, ◌<◌, ◌≤◌, ◌+◌, ◌^◌, IfOk, OnOk, List, ℕ, length};
 ghost use Rattle.std.specs.Prelude.{slice_set};
 ghost use Rattle.cs_names.specs.declared.limits.TheConstants.{TREE_RECORDS};
@@ -33,7 +35,7 @@ pub(crate) struct LinesSoFar {
     pub(crate) operations: Vec<Operation>,
 }
 
-/// Moves what is at `from` to `to`.
+/// Moves what is at `from` to `to`, over what is there. If nothing is at `from`, nothing changes.
 fn rename(alloc: Global, tree: &mut Tree, from: &Path, to: &Path) -> Result<(), AllocError>
     ensures start { OnOk result (tree.new.start ≡ tree.old.start) }
     ensures nodes { OnOk result (tree.new.nodes
@@ -46,7 +48,7 @@ fn rename(alloc: Global, tree: &mut Tree, from: &Path, to: &Path) -> Result<(), 
     tree.insert(alloc, to.try_clone(alloc)?, node)
 }
 
-/// Applies the operation to the tree.
+/// Applies the operation to what is at each path; the start stays as it is.
 fn move_paths(alloc: Global, tree: &mut Tree, operation: &Operation) -> Result<(), AllocError>
     ensures start { OnOk result (tree.new.start ≡ tree.old.start) }
     ensures nodes { OnOk result (tree.new.nodes ≡ paths_after tree.old.nodes operation.now) }
@@ -71,7 +73,8 @@ fn move_paths(alloc: Global, tree: &mut Tree, operation: &Operation) -> Result<(
     }
 }
 
-/// The size of a file that had `size` bytes, after a write. A write of no byte leaves it.
+/// The size of a file that had `size` bytes, after a write of these bytes at the offset. A write of
+/// no byte leaves it.
 fn written_size(size: u64, offset: u64, bytes: &Bytes) -> u64
     requires { 0 < length bytes.now → offset + length bytes.now < 2 ^ 64 }
     ensures { result ≡ written_size size offset bytes.now }
@@ -93,7 +96,8 @@ fn set_size(sizes: &mut [u64], file: u32, size: u64)
     }
 }
 
-/// Applies the operation to the sizes of the files.
+/// Applies the operation to the sizes of the files: a creat adds one of 0, and a write and a
+/// truncate set one.
 fn change_sizes(sizes: &mut Vec<u64>, operation: &Operation) -> Result<(), AllocError>
     requires { IsWithin operation.now }
     ensures { OnOk result (sizes.new.items ≡ sizes_after sizes.old.items operation.now) }
@@ -119,7 +123,7 @@ fn change_sizes(sizes: &mut Vec<u64>, operation: &Operation) -> Result<(), Alloc
     Ok(())
 }
 
-/// How many records the operation makes.
+/// How many records the operation makes: 1 for a creat, a mkdir and a link, and 0 for the others.
 fn made_by(operation: &Operation) -> usize
     ensures value { result ≡ made_by operation.now }
     ensures one { result ≤ 1 }
@@ -138,7 +142,7 @@ fn made_by(operation: &Operation) -> usize
 }
 
 impl LinesSoFar {
-    /// The state before the first line.
+    /// The state before the first line: nothing is there, not even the root.
     pub(crate) fn new(alloc: Global) -> LinesSoFar
         ensures { state_of result ≡ empty_state }
     {
@@ -154,7 +158,8 @@ impl LinesSoFar {
         }
     }
 
-    /// Applies the operation to all parts of the state, and keeps it as the last one.
+    /// Applies the operation, which was checked in this state, to each part of the state, and
+    /// appends it to the operations.
     pub(crate) fn apply(&mut self, alloc: Global, operation: Operation) -> Result<(), AllocError>
         requires within { IsWithin operation }
         requires few { self.old.made ≤ TREE_RECORDS }
@@ -164,6 +169,7 @@ impl LinesSoFar {
         change_sizes(&mut self.sizes, &operation)?;
         self.made += made_by(&operation);
         match self.version {
+            // Version 1 has no operation that changes attributes.
             Version::First => {}
             Version::Second(_) | Version::Third(..) => self.attributes.change(alloc, &operation)?,
         }

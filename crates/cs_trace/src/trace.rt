@@ -75,7 +75,7 @@ impl Trace {
         &self.records
     }
 
-    /// The file or directory of each record, in the order of the records.
+    /// The node of each record, in the order of the records: a directory, or a file by its number.
     pub fn nodes(&self) -> &[Node]
         ensures value { result.now ≡ self.now.nodes }
         ensures each { length self.now.nodes ≡ length self.now.records }
@@ -125,7 +125,7 @@ impl Trace {
         self.version
     }
 
-    /// The start tree alone, for a store.
+    /// The records of the start tree, moved out, for a store. All else is dropped.
     pub fn into_records(self) -> Vec<(Path, Record)>
         ensures value { result.items ≡ self.records }
         ensures listing { IsListing result.items }
@@ -134,7 +134,7 @@ impl Trace {
     }
 }
 
-/// The trace that the state after the last line is.
+/// Makes the trace of the state after the last line.
 fn finish(alloc: Global, state: LinesSoFar) -> Result<Trace, AllocError>
     requires { IsTrace (trace_of_state (state_of state)) }
     ensures { IfOk result (λ trace. trace ≡ trace_of_state (state_of state)) }
@@ -183,7 +183,7 @@ fn finish(alloc: Global, state: LinesSoFar) -> Result<Trace, AllocError>
 ///
 /// Version 3 has the lines of version 2, and three more. B is 512, 1024, 2048 or 4096; a start line
 /// of a file and a write may have `"text":T` in place of `bytes`, whose bytes are those of T in
-/// UTF-8; and any line may have a `"note":T`, which says nothing:
+/// UTF-8; and any line may have a `"note":T`, which is ignored:
 ///
 /// ```text
 /// {"trace":3,"profile":F,"block":B,"owner":O,"group":G,"mode":M}
@@ -201,9 +201,9 @@ fn finish(alloc: Global, state: LinesSoFar) -> Result<Trace, AllocError>
 /// digits, H is hexadecimal, N a whole number below 2^64, and T any text. A text without a header
 /// is Syntax at line 1. Each line is checked in the state after the lines before it.
 ///
-/// A fault is that of the first check that its line fails, and the lines before it have none. If
-/// memory runs out, the fault is of kind Memory, at a line before which there is no fault: the one
-/// that was being read, or the last one if only the records had still to be made.
+/// The fault is that of the first bad line, by the first check that the line fails. If memory runs
+/// out, the fault is of kind Memory, and no line before it is bad. Its line is the one that was
+/// being read, or the last one if all were read and the start's records were being made.
 pub fn read_trace(alloc: Global, text: &str) -> Result<Trace, TraceFault>
     ensures done { IfOk result (λ trace. trace_in text.now ≡ Ok trace) }
     ensures fault { IfErr result (λ fault. fault.kind ≢ Memory

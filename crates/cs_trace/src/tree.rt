@@ -53,7 +53,7 @@ impl Model for Tree {
 }
 
 impl Tree {
-    /// The tree without files and directories.
+    /// A tree without files and directories, not even the root.
     pub(crate) fn new(alloc: Global) -> Tree
         ensures { result ≡ empty_tree }
     {
@@ -64,7 +64,7 @@ impl Tree {
         }
     }
 
-    /// What is at the path now. It takes no memory.
+    /// What is at the path now; None if nothing is. It takes no memory.
     pub(crate) fn get(&self, path: &Path) -> Option<Node>
         ensures { result ≡ map.get self.now.nodes path.now }
     {
@@ -74,7 +74,7 @@ impl Tree {
         }
     }
 
-    /// The entry that was at the path at the start. It takes no memory.
+    /// The entry that was at the path at the start; None if nothing was. It takes no memory.
     pub(crate) fn start_entry(&self, path: &Path) -> Option<&StartFile>
         ensures { option_map (λ entry. entry.now) result ≡ map.get self.now.start path.now }
     {
@@ -91,8 +91,8 @@ impl Tree {
         }
     }
 
-    /// The path of an entry that the text spells, if its directory is that of the last start line,
-    /// which isn't checked again. None for any other text, which must be checked whole.
+    /// The path of an entry that the text spells, if its directory is that of the last start line;
+    /// only its last name is checked. None for any other text, which may still spell a path.
     pub(crate) fn near_entry<'a>(&self, text: &'a str) -> Option<PathText<'a>>
         ensures { IfSome result (λ path. entry_path_of text.now ≡ Some path) }
     {
@@ -102,7 +102,9 @@ impl Tree {
         }
     }
 
-    /// The directory of the path, if it is that of the last start line. It is there.
+    /// Takes out the directory of the last start line, if the path is in it; that directory is
+    /// there. None if the path is in another one, or if none is remembered. None is remembered
+    /// afterwards.
     #[tactic(auto, using(crate::proofs::Trees::same_path))]
     pub(crate) fn take_near(&mut self, path: &Path) -> Option<Near>
         ensures same { self.new ≡ self.old }
@@ -116,7 +118,7 @@ impl Tree {
         None
     }
 
-    /// Remembers the directory of a start line, for the next line.
+    /// Remembers the directory of a start line, for `near_entry` and `take_near` of the next line.
     pub(crate) fn stay_near(&mut self, directory: Near)
         requires { map.get self.old.nodes directory ≡ Some Directory }
         ensures { self.new ≡ self.old }
@@ -124,7 +126,8 @@ impl Tree {
         self.near = Some(directory);
     }
 
-    /// Puts an entry at a path of the start, and returns whether another was there before.
+    /// Puts the entry at the path, both at the start and now, and returns whether it replaced
+    /// another now. After an error, the trace is given up.
     pub(crate) fn insert_start(
         &mut self,
         alloc: Global,
@@ -145,7 +148,8 @@ impl Tree {
         }
     }
 
-    /// Puts the node at the path; the start stays as it is.
+    /// Puts the node at the path now; the start stays as it is. After an error, the trace is given
+    /// up.
     pub(crate) fn insert(&mut self, alloc: Global, path: Path, node: Node) -> Result<(), AllocError>
         ensures start { OnOk result (self.new.start ≡ self.old.start) }
         ensures nodes { OnOk result (self.new.nodes ≡ map.insert self.old.nodes path node) }
@@ -164,7 +168,8 @@ impl Tree {
         Ok(())
     }
 
-    /// Removes what is at the path, if anything is; the start stays as it is.
+    /// Removes what is at the path now, if anything is; the start stays as it is. After an error,
+    /// the trace is given up.
     pub(crate) fn remove(&mut self, alloc: Global, path: &Path) -> Result<(), AllocError>
         ensures start { OnOk result (self.new.start ≡ self.old.start) }
         ensures nodes { OnOk result (self.new.nodes ≡ map.remove self.old.nodes path.now) }
@@ -181,8 +186,8 @@ impl Tree {
         Ok(())
     }
 
-    /// The start's records in the order of their paths, numbered from 0, and the file or directory
-    /// of each.
+    /// A record of each entry of the start, in the order of their paths and numbered from 0; and,
+    /// in the same order, the node of each: a directory, or a file by its number.
     pub(crate) fn into_start(
         self,
         alloc: Global,

@@ -1,4 +1,5 @@
-//! What a line's object has under each key of the format.
+//! The object of a line: the value of each key of the format, not yet read further. What the values
+//! mean is in `values`.
 ghost use Rattle.std.specs.Prelude.{◌≡◌, option_map};
 ghost use Rattle.serde_json.specs.Data.{no_members};
 ghost use Rattle.serde_json.specs.View.{members_view, view};
@@ -7,7 +8,7 @@ ghost use Rattle.cs_trace_lines.specs.Reading.{field_value, field_values, with_f
 
 use serde_json::{Map, Number, Value};
 
-/// The value of a key.
+/// The value of one key.
 #[derive(Drop)]
 pub(crate) enum Field {
     Text(String),
@@ -16,7 +17,7 @@ pub(crate) enum Field {
     Other,
 }
 
-/// The value of each key of the format.
+/// The value of each key of the format; None for a key that the line doesn't have.
 #[derive(Drop)]
 pub(crate) struct Fields {
     pub(crate) trace: Option<Field>,
@@ -35,12 +36,12 @@ pub(crate) struct Fields {
     pub(crate) length: Option<Field>,
     pub(crate) text: Option<Field>,
     pub(crate) note: Option<Field>,
-    /// Whether there is a key that the format doesn't have.
+    /// Whether the line has a key that the format doesn't have.
     pub(crate) has_others: bool,
 }
 
 impl Field {
-    /// What the format looks at in a value: a text, a number, or that it is neither.
+    /// The field of a JSON value: its text, its number, or Other for any other value.
     fn of(value: Value) -> Field
         ensures { field_value result ≡ field_of (view value) }
     {
@@ -78,8 +79,8 @@ impl Fields {
         }
     }
 
-    /// Sets the field of a key, in place of one that was set before. Of a key that the format
-    /// doesn't have, only that it is there is kept.
+    /// Sets the field of a key, and drops what it had before. A key that the format doesn't have
+    /// only sets `has_others`.
     fn put(&mut self, key: &str, field: Field)
         ensures { field_values self.new
             ≡ with_field key.now (field_value field) (field_values self.old) }
@@ -105,7 +106,7 @@ impl Fields {
         }
     }
 
-    /// The fields of an object with these members.
+    /// The fields of a JSON object with these members.
     fn of(members: Map<String, Value>) -> Fields
         ensures { field_values result ≡ fields_of (members_view members.entries) }
     {
@@ -116,7 +117,7 @@ impl Fields {
         fields
     }
 
-    /// The fields of an object; None of any other value.
+    /// The fields of a JSON object. None if the value isn't an object.
     pub(crate) fn of_value(value: Value) -> Option<Fields>
         ensures { option_map field_values result ≡ fields_in (view value) }
     {
@@ -126,8 +127,8 @@ impl Fields {
         }
     }
 
-    /// Whether the object has exactly so many keys, a note not counted, and each is a key of the
-    /// format.
+    /// Whether the object has exactly `count` keys of the format, `note` not counted, and no other
+    /// keys.
     pub(crate) fn has_keys(&self, count: usize) -> bool
         ensures { result ≡ has_keys count (field_values self.now) }
     {

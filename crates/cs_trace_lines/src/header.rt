@@ -1,4 +1,4 @@
-//! The header of a trace.
+//! Reads the header of a trace from its fields.
 ghost use Rattle.std.specs.Prelude.{◌≡◌, option_map};
 ghost use Rattle.cs_trace_lines.specs.Faults.{IsRead};
 ghost use Rattle.cs_trace_lines.specs.Lines.{block_size_in, header_in, header_key_count};
@@ -13,7 +13,7 @@ use crate::profile::Profile;
 use crate::values::{has_only, take_claims, text_of, whole_in};
 use crate::version::{BlockSize, Version};
 
-/// The profile of this name in a header.
+/// The profile of this name: `blocks` or `ordered`. None of any other name.
 fn profile_named(name: &str) -> Option<Profile>
     ensures { result ≡ profile_named name.now }
 {
@@ -24,22 +24,24 @@ fn profile_named(name: &str) -> Option<Profile>
     }
 }
 
-/// The profile that a header names. Another text, another value or no value is Syntax.
+/// The profile that the field of `profile` names. Another text, another value or no value is
+/// Syntax.
 fn profile_in(profile: &Option<Field>) -> Result<Profile, LineFault>
     ensures { IsRead (λ profile. profile) (profile_in (option_map field_value profile.now)) result }
 {
     profile_named(text_of(profile)?).ok_or(LineFault::Syntax)
 }
 
-/// The block size of a header. A number that is no block size, another value or no value is
-/// Syntax.
+/// The block size in the field of `block`, which has its bytes. Another number, another value or
+/// no value is Syntax.
 fn block_size_in(block: &Option<Field>) -> Result<BlockSize, LineFault>
     ensures { IsRead (λ block. block) (block_size_in (option_map field_value block.now)) result }
 {
     BlockSize::of_bytes(whole_in(block)?).ok_or(LineFault::Syntax)
 }
 
-/// The version that a header declares, with its profile and its block size if it has them.
+/// The version that a header declares: 1, 2 with a profile, or 3 with a profile and a block size.
+/// Another number, or a field that is missing or has another value, is Syntax.
 fn version_in(fields: &Fields) -> Result<Version, LineFault>
     ensures { IsRead (λ version. version) (version_in (field_values fields.now)) result }
 {
@@ -51,7 +53,7 @@ fn version_in(fields: &Fields) -> Result<Version, LineFault>
     }
 }
 
-/// How many keys a header of this version has, a note not counted.
+/// How many keys a header of this version has, `note` not counted.
 fn header_key_count(version: Version) -> usize
     ensures { result ≡ header_key_count version }
 {
@@ -62,7 +64,8 @@ fn header_key_count(version: Version) -> usize
     }
 }
 
-/// The header that these fields make. It takes the texts out of the fields.
+/// The header that these fields make; its texts are moved out of them. A key too many or too few,
+/// or another value, is Syntax.
 pub(crate) fn header_in(fields: &mut Fields) -> Result<Line, LineFault>
     ensures { IsRead line_value (header_in (field_values fields.old)) result }
 {

@@ -1,4 +1,5 @@
-//! What a line of a trace says by itself.
+//! Reads one line of a trace by itself. Whether its names are legal, and whether it fits the lines
+//! before it, is checked in cs_trace.
 #![tactic(auto)]
 
 pub mod fault;

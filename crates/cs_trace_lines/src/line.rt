@@ -1,4 +1,4 @@
-//! What a line of a trace says by itself.
+//! The kinds of lines, and how the text of a line is read as one of them.
 ghost use Rattle.std.specs.Prelude.{◌≡◌, IfErr, IfOk, None, Some, option_and_then};
 ghost use Rattle.serde_json.specs.Read.{read};
 ghost use Rattle.cs_trace_lines.specs.Faults.{IsRead};
@@ -24,7 +24,7 @@ pub enum Line {
     Header(Version, Claims),
     /// A file or a directory at the start.
     Start(StartLine),
-    /// One more path of a file at the start, and a path that it has.
+    /// One more path, `path`, of the file at the start that `from` names.
     StartLink { path: String, from: String },
     Operation(OperationLine),
     /// A start line of no known kind.
@@ -100,7 +100,7 @@ pub enum OperationLine {
     Fsync {
         path: String,
     },
-    /// A sync of so many bytes from the offset on.
+    /// A sync of `length` bytes from `offset` on.
     FsyncRange {
         path: String,
         offset: u64,
@@ -112,17 +112,18 @@ pub enum OperationLine {
     },
 }
 
-/// Whether the line has only blanks of JSON, or nothing. Such a line is skipped, but counted.
+/// Whether the line is empty or has only JSON's blanks: spaces, tabs and carriage returns. The
+/// reader of a trace skips such a line, but counts it.
 pub fn is_blank(line: &str) -> bool
     ensures { result ≡ is_blank line.now }
 {
     line.as_bytes()
         .iter()
-        .all(|c| *c == b' ' || *c == b'\t' || *c == b'\r')
+        .all(|byte| *byte == b' ' || *byte == b'\t' || *byte == b'\r')
 }
 
-/// The fields of the object that a line spells. A text that isn't JSON, or another value, is
-/// Syntax.
+/// The fields of the JSON object that a line spells. A text that isn't JSON, or that spells another
+/// value, is Syntax.
 fn fields_in(alloc: Global, text: &str) -> Result<Fields, LineFault>
     ensures { IsRead field_values (option_and_then fields_in (read text.now)) result }
 {
@@ -137,8 +138,8 @@ fn fields_in(alloc: Global, text: &str) -> Result<Fields, LineFault>
     }
 }
 
-/// What the line with these fields says. Unless exactly one of `trace`, `start` and `op` is among
-/// them, it is Syntax.
+/// The line that these fields make: a header if they have `trace`, a start line if `start`, an
+/// operation if `op`. None of the three keys, or more than one, is Syntax.
 fn line_of(alloc: Global, version: Version, fields: &mut Fields) -> Result<Line, LineFault>
     ensures { IsRead line_value (line_of version (field_values fields.old)) result }
 {
@@ -150,7 +151,8 @@ fn line_of(alloc: Global, version: Version, fields: &mut Fields) -> Result<Line,
     }
 }
 
-/// What the text of a line says in a trace of this version. A header says the same in each.
+/// The line that a text spells in a trace of this version, or Syntax if it spells none. Its names
+/// and paths aren't checked. A header is read in the same way in each version.
 #[tactic(auto, unfolding(crate::specs::Lines::line_in))]
 pub fn read_line(alloc: Global, version: Version, text: &str) -> Result<Line, LineFault>
     ensures read { IfOk result (λ line. line_in version text.now ≡ Some (line_value line)) }

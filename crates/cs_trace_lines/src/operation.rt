@@ -1,5 +1,6 @@
-//! The lines of operations. Once the verb is known, only a write still depends on the version, so
-//! that the other contracts name the first.
+//! Reads the operations from the fields of their lines. Each function moves the texts that it needs
+//! out of the fields. A field that is missing or has another value is Syntax. Only a write depends
+//! on the version once the verb is known, so the other contracts name the first version.
 ghost use Rattle.std.specs.Prelude.{◌≡◌};
 ghost use Rattle.cs_trace_lines.specs.Faults.{IsRead};
 ghost use Rattle.cs_trace_lines.specs.Lines.{operation_in, operation_of};
@@ -16,8 +17,8 @@ use crate::verb::Verb;
 use crate::version::Version;
 use std::alloc::Global;
 
-/// The creation of a file, from the fields of its line.
-fn creat(fields: &mut Fields) -> Result<OperationLine, LineFault>
+/// Reads a creat: the path, the owner, the group and the mode of a new file.
+fn read_creat(fields: &mut Fields) -> Result<OperationLine, LineFault>
     ensures { IsRead operation_value
         (operation_of First verb.Creat (field_values fields.old)) result }
 {
@@ -27,8 +28,8 @@ fn creat(fields: &mut Fields) -> Result<OperationLine, LineFault>
     })
 }
 
-/// The creation of a directory, from the fields of its line.
-fn mkdir(fields: &mut Fields) -> Result<OperationLine, LineFault>
+/// Reads a mkdir: the path, the owner, the group and the mode of a new directory.
+fn read_mkdir(fields: &mut Fields) -> Result<OperationLine, LineFault>
     ensures { IsRead operation_value
         (operation_of First verb.Mkdir (field_values fields.old)) result }
 {
@@ -38,8 +39,8 @@ fn mkdir(fields: &mut Fields) -> Result<OperationLine, LineFault>
     })
 }
 
-/// The removal of a path of a file, from the fields of its line.
-fn unlink(fields: &mut Fields) -> Result<OperationLine, LineFault>
+/// Reads an unlink: a path of a file.
+fn read_unlink(fields: &mut Fields) -> Result<OperationLine, LineFault>
     ensures { IsRead operation_value
         (operation_of First verb.Unlink (field_values fields.old)) result }
 {
@@ -48,8 +49,8 @@ fn unlink(fields: &mut Fields) -> Result<OperationLine, LineFault>
     })
 }
 
-/// The removal of a directory, from the fields of its line.
-fn rmdir(fields: &mut Fields) -> Result<OperationLine, LineFault>
+/// Reads an rmdir: the path of a directory.
+fn read_rmdir(fields: &mut Fields) -> Result<OperationLine, LineFault>
     ensures { IsRead operation_value
         (operation_of First verb.Rmdir (field_values fields.old)) result }
 {
@@ -58,8 +59,8 @@ fn rmdir(fields: &mut Fields) -> Result<OperationLine, LineFault>
     })
 }
 
-/// The rename of a path, from the fields of its line.
-fn rename(fields: &mut Fields) -> Result<OperationLine, LineFault>
+/// Reads a rename: the paths before and after it.
+fn read_rename(fields: &mut Fields) -> Result<OperationLine, LineFault>
     ensures { IsRead operation_value
         (operation_of First verb.Rename (field_values fields.old)) result }
 {
@@ -69,8 +70,8 @@ fn rename(fields: &mut Fields) -> Result<OperationLine, LineFault>
     })
 }
 
-/// The link of one more path, `to`, to the file at `from`.
-fn link(fields: &mut Fields) -> Result<OperationLine, LineFault>
+/// Reads a link: a path `from` of a file, and one more path `to` for it.
+fn read_link(fields: &mut Fields) -> Result<OperationLine, LineFault>
     ensures { IsRead operation_value
         (operation_of First verb.Link (field_values fields.old)) result }
 {
@@ -80,8 +81,13 @@ fn link(fields: &mut Fields) -> Result<OperationLine, LineFault>
     })
 }
 
-/// The write of bytes at an offset, from the fields of its line.
-fn write(alloc: Global, version: Version, fields: &mut Fields) -> Result<OperationLine, LineFault>
+/// Reads a write: the path, the offset and the bytes, which `bytes` has or, in the third version,
+/// `text`.
+fn read_write(
+    alloc: Global,
+    version: Version,
+    fields: &mut Fields,
+) -> Result<OperationLine, LineFault>
     ensures { IsRead operation_value
         (operation_of version verb.Write (field_values fields.old)) result }
 {
@@ -92,8 +98,8 @@ fn write(alloc: Global, version: Version, fields: &mut Fields) -> Result<Operati
     })
 }
 
-/// The change of a file's length: the key is `length`, the field `size`.
-fn truncate(fields: &mut Fields) -> Result<OperationLine, LineFault>
+/// Reads a truncate: the path and the file's new size, whose key is `length`.
+fn read_truncate(fields: &mut Fields) -> Result<OperationLine, LineFault>
     ensures { IsRead operation_value
         (operation_of First verb.Truncate (field_values fields.old)) result }
 {
@@ -103,8 +109,8 @@ fn truncate(fields: &mut Fields) -> Result<OperationLine, LineFault>
     })
 }
 
-/// The change of the permissions, from the fields of its line.
-fn chmod(fields: &mut Fields) -> Result<OperationLine, LineFault>
+/// Reads a chmod: the path and the new permissions.
+fn read_chmod(fields: &mut Fields) -> Result<OperationLine, LineFault>
     ensures { IsRead operation_value
         (operation_of First verb.Chmod (field_values fields.old)) result }
 {
@@ -114,8 +120,8 @@ fn chmod(fields: &mut Fields) -> Result<OperationLine, LineFault>
     })
 }
 
-/// The change of owner and group, from the fields of its line.
-fn chown(fields: &mut Fields) -> Result<OperationLine, LineFault>
+/// Reads a chown: the path, the new owner and the new group.
+fn read_chown(fields: &mut Fields) -> Result<OperationLine, LineFault>
     ensures { IsRead operation_value
         (operation_of First verb.Chown (field_values fields.old)) result }
 {
@@ -128,8 +134,8 @@ fn chown(fields: &mut Fields) -> Result<OperationLine, LineFault>
     })
 }
 
-/// The sync of a path, from the fields of its line.
-fn fsync(fields: &mut Fields) -> Result<OperationLine, LineFault>
+/// Reads an fsync: the path of a file or a directory.
+fn read_fsync(fields: &mut Fields) -> Result<OperationLine, LineFault>
     ensures { IsRead operation_value
         (operation_of First verb.Fsync (field_values fields.old)) result }
 {
@@ -138,8 +144,8 @@ fn fsync(fields: &mut Fields) -> Result<OperationLine, LineFault>
     })
 }
 
-/// The sync of `length` bytes from `offset` on, from the fields of its line.
-fn fsync_range(fields: &mut Fields) -> Result<OperationLine, LineFault>
+/// Reads an fsync_range: the path, the offset and the length, in bytes.
+fn read_fsync_range(fields: &mut Fields) -> Result<OperationLine, LineFault>
     ensures { IsRead operation_value
         (operation_of First verb.FsyncRange (field_values fields.old)) result }
 {
@@ -150,8 +156,8 @@ fn fsync_range(fields: &mut Fields) -> Result<OperationLine, LineFault>
     })
 }
 
-/// The acknowledgement of a text, from the fields of its line.
-fn say(fields: &mut Fields) -> Result<OperationLine, LineFault>
+/// Reads a say: the text that the application acknowledges.
+fn read_say(fields: &mut Fields) -> Result<OperationLine, LineFault>
     ensures { IsRead operation_value
         (operation_of First verb.Say (field_values fields.old)) result }
 {
@@ -160,7 +166,8 @@ fn say(fields: &mut Fields) -> Result<OperationLine, LineFault>
     })
 }
 
-/// The operation of this verb, once its keys are known to be the right ones.
+/// The operation of this verb. A field that is missing or has another value is Syntax. The caller
+/// has checked that there are no other keys.
 fn operation_of(
     alloc: Global,
     version: Version,
@@ -170,24 +177,26 @@ fn operation_of(
     ensures { IsRead operation_value (operation_of version verb (field_values fields.old)) result }
 {
     match verb {
-        Verb::Creat => creat(fields),
-        Verb::Mkdir => mkdir(fields),
-        Verb::Unlink => unlink(fields),
-        Verb::Rmdir => rmdir(fields),
-        Verb::Rename => rename(fields),
-        Verb::Link => link(fields),
-        Verb::Write => write(alloc, version, fields),
-        Verb::Truncate => truncate(fields),
-        Verb::Chmod => chmod(fields),
-        Verb::Chown => chown(fields),
-        Verb::Fsync => fsync(fields),
-        Verb::FsyncRange => fsync_range(fields),
+        Verb::Creat => read_creat(fields),
+        Verb::Mkdir => read_mkdir(fields),
+        Verb::Unlink => read_unlink(fields),
+        Verb::Rmdir => read_rmdir(fields),
+        Verb::Rename => read_rename(fields),
+        Verb::Link => read_link(fields),
+        Verb::Write => read_write(alloc, version, fields),
+        Verb::Truncate => read_truncate(fields),
+        Verb::Chmod => read_chmod(fields),
+        Verb::Chown => read_chown(fields),
+        Verb::Fsync => read_fsync(fields),
+        Verb::FsyncRange => read_fsync_range(fields),
         Verb::Sync => Ok(OperationLine::Sync),
-        Verb::Say => say(fields),
+        Verb::Say => read_say(fields),
     }
 }
 
-/// The operation that these fields make. A name that its version doesn't have is no fault here.
+/// The operation that these fields make. If the version has none of that name, it is
+/// UnknownOperation, whatever the other keys are. A key too many or too few, or another value, is
+/// Syntax.
 pub(crate) fn operation_in(
     alloc: Global,
     version: Version,

@@ -1,4 +1,5 @@
-//! The lines of what is there at the start.
+//! Reads the start lines from their fields: what is there before the first operation. Each function
+//! moves the texts that it needs out of the fields.
 ghost use Rattle.std.specs.Prelude.{◌≡◌, option_map};
 ghost use Rattle.cs_trace_lines.specs.Faults.{IsRead};
 ghost use Rattle.cs_trace_lines.specs.Lines.{kind_in, start_key_count, start_line_in, start_under};
@@ -15,7 +16,7 @@ use crate::values::{has_only, take_claims, take_content, take_text, text_of};
 use crate::version::Version;
 use std::alloc::Global;
 
-/// What a line with `start` adds.
+/// What a start line adds, by the name under `start`.
 #[derive(Clone, Copy, Debug, PartialEq, Eq)]
 pub(crate) enum StartKind {
     Directory,
@@ -24,7 +25,8 @@ pub(crate) enum StartKind {
 }
 
 impl StartKind {
-    /// The kind of this name in a trace of this version; a link is known in the third only.
+    /// The kind of this name: `dir`, `file` or, in the third version, `link`. None of any other
+    /// name.
     fn of(version: Version, name: &str) -> Option<StartKind>
         ensures { result ≡ kind_in version name.now }
     {
@@ -36,7 +38,7 @@ impl StartKind {
         }
     }
 
-    /// How many keys its line has, with `start`, but without a note.
+    /// How many keys a start line of this kind has, with `start`, `note` not counted.
     fn key_count(self) -> usize
         ensures { result ≡ start_key_count self }
     {
@@ -48,7 +50,8 @@ impl StartKind {
     }
 }
 
-/// The start line of a file with these bytes, or of a directory if there are none.
+/// The start line of a file with this content, or of a directory if it is None. A path, an owner, a
+/// group or a mode that is missing or has another value is Syntax.
 fn start_with(fields: &mut Fields, content: Option<Vec<u8>>) -> Result<Line, LineFault>
     ensures { IsRead line_value
         (start_with (field_values fields.old) (option_map (λ bytes. bytes.items) content)) result }
@@ -60,17 +63,19 @@ fn start_with(fields: &mut Fields, content: Option<Vec<u8>>) -> Result<Line, Lin
     }))
 }
 
-/// The start line of a file. It takes the texts out of the fields.
-fn file(alloc: Global, version: Version, fields: &mut Fields) -> Result<Line, LineFault>
+/// The start line of a file, whose content is in `bytes` or, in the third version, in `text`. A
+/// field that is missing or has another value is Syntax.
+fn read_start_file(alloc: Global, version: Version, fields: &mut Fields) -> Result<Line, LineFault>
     ensures { IsRead line_value (start_under version (field_values fields.old) File) result }
 {
     let bytes = take_content(alloc, version, &fields.bytes, &mut fields.text)?;
     start_with(fields, Some(bytes))
 }
 
-/// The start line of one more path of a file. The contract names the first version, since a link's
-/// fields are read in the same way in all.
-fn link(fields: &mut Fields) -> Result<Line, LineFault>
+/// The start line of a link, which is one more path of the file at `from`. A field that is missing
+/// or isn't a text is Syntax. The contract names the first version, since a link's fields are read
+/// in the same way in all.
+fn read_start_link(fields: &mut Fields) -> Result<Line, LineFault>
     ensures { IsRead line_value (start_under First (field_values fields.old) Link) result }
 {
     Ok(Line::StartLink {
@@ -79,7 +84,8 @@ fn link(fields: &mut Fields) -> Result<Line, LineFault>
     })
 }
 
-/// The start line of this kind, once its keys are known to be the right ones.
+/// The start line of this kind. A field that is missing or has another value is Syntax. The caller
+/// has checked that there are no other keys.
 fn start_of(
     alloc: Global,
     version: Version,
@@ -90,12 +96,14 @@ fn start_of(
 {
     match kind {
         StartKind::Directory => start_with(fields, None),
-        StartKind::File => file(alloc, version, fields),
-        StartKind::Link => link(fields),
+        StartKind::File => read_start_file(alloc, version, fields),
+        StartKind::Link => read_start_link(fields),
     }
 }
 
-/// The start line that these fields make. A kind that its version doesn't have is no fault here.
+/// The start line that these fields make. If the version has no kind of that name, it is
+/// UnknownStart, whatever the other keys are. A key too many or too few, or another value, is
+/// Syntax.
 pub(crate) fn start_line_in(
     alloc: Global,
     version: Version,

@@ -1,4 +1,4 @@
-//! What the values of a line's keys say.
+//! Reads the values of a line's keys: texts, numbers, permissions and bytes.
 ghost use Rattle.std.specs.Prelude.{◌≡◌, None, option_map};
 ghost use Rattle.std.specs.String.{string_bytes};
 ghost use Rattle.cs_trace_lines.specs.Faults.{IsRead};
@@ -14,7 +14,7 @@ use crate::version::Version;
 use hex::FromHexError;
 use std::alloc::Global;
 
-/// The text of a field, borrowed. Another value or no value is Syntax.
+/// The text in a field, borrowed. Another value or no value is Syntax.
 pub(crate) fn text_of(field: &Option<Field>) -> Result<&str, LineFault>
     ensures { IsRead (λ text. text.now) (text_in (option_map field_value field.now)) result }
 {
@@ -24,7 +24,7 @@ pub(crate) fn text_of(field: &Option<Field>) -> Result<&str, LineFault>
     }
 }
 
-/// Takes the text out of a field. Another value or no value is Syntax.
+/// Moves the text out of a field, which is None afterwards. Another value or no value is Syntax.
 pub(crate) fn take_text(field: &mut Option<Field>) -> Result<String, LineFault>
     ensures { IsRead string_bytes (text_in (option_map field_value field.old)) result }
 {
@@ -34,7 +34,8 @@ pub(crate) fn take_text(field: &mut Option<Field>) -> Result<String, LineFault>
     }
 }
 
-/// The whole number below 2^64 of a field. Another value or no value is Syntax.
+/// The number of a field, if it is a whole number from 0 to 2^64 - 1. Another number, another value
+/// or no value is Syntax.
 pub(crate) fn whole_in(field: &Option<Field>) -> Result<u64, LineFault>
     ensures { IsRead (λ n. n) (whole_in (option_map field_value field.now)) result }
 {
@@ -55,23 +56,24 @@ fn is_octal(digit: u8) -> bool
 fn permissions_in(text: &str) -> Option<u16>
     ensures { result ≡ permissions_in text.now }
 {
-    let [a, b, c] = text.as_bytes() else {
+    let [owner, group, others] = text.as_bytes() else {
         return None;
     };
-    if !(is_octal(*a) && is_octal(*b) && is_octal(*c)) {
+    if !(is_octal(*owner) && is_octal(*group) && is_octal(*others)) {
         return None;
     }
-    Some(u16::from(*a - b'0') * 64 + u16::from(*b - b'0') * 8 + u16::from(*c - b'0'))
+    Some(u16::from(*owner - b'0') * 64 + u16::from(*group - b'0') * 8 + u16::from(*others - b'0'))
 }
 
-/// The permissions that a mode field spells. Anything but three octal digits is Syntax.
+/// The permissions in the field of `mode`. Anything but three octal digits, or no value, is Syntax.
 pub(crate) fn mode_in(mode: &Option<Field>) -> Result<u16, LineFault>
     ensures { IsRead (λ n. n) (mode_in (option_map field_value mode.now)) result }
 {
     permissions_in(text_of(mode)?).ok_or(LineFault::Syntax)
 }
 
-/// Takes owner, group and mode out of the fields.
+/// The owner, the group and the permissions in the fields; the two names are moved out. A field
+/// that is missing or has another value is Syntax.
 pub(crate) fn take_claims(fields: &mut Fields) -> Result<Claims, LineFault>
     ensures { IsRead claims_of (claims_in (field_values fields.old)) result }
 {
@@ -82,7 +84,8 @@ pub(crate) fn take_claims(fields: &mut Fields) -> Result<Claims, LineFault>
     })
 }
 
-/// The bytes that hexadecimal digits of either case spell.
+/// The bytes that the hexadecimal digits of a field spell, in either case. Another text, another
+/// value or no value is Syntax.
 fn bytes_in(alloc: Global, field: &Option<Field>) -> Result<Vec<u8>, LineFault>
     ensures { IsRead (λ bytes. bytes.items) (bytes_in (option_map field_value field.now)) result }
 {
@@ -94,8 +97,9 @@ fn bytes_in(alloc: Global, field: &Option<Field>) -> Result<Vec<u8>, LineFault>
     }
 }
 
-/// The bytes of a file or a write: spelled by `digits` if that key is there, else, in the third
-/// version, those of `text`, which is taken.
+/// The bytes of a file or a write. They are spelled in hexadecimal by `digits`, if that key is
+/// there. If not, they are those of `text`, which only the third version has, and which is moved
+/// out. If neither gives bytes, it is Syntax.
 pub(crate) fn take_content(
     alloc: Global,
     version: Version,
@@ -115,7 +119,8 @@ pub(crate) fn take_content(
     Ok(take_text(text)?.into_bytes())
 }
 
-/// Whether the line may have this note: none, or a text in the third version.
+/// Whether a line of this version may have this note. It may always have none, and a text in the
+/// third version only.
 fn may_note(version: Version, note: &Option<Field>) -> bool
     ensures { result ≡ may_note version (option_map field_value note.now) }
 {
@@ -126,7 +131,8 @@ fn may_note(version: Version, note: &Option<Field>) -> bool
     }
 }
 
-/// Whether the line has exactly so many keys, each of the format, and at most a note more.
+/// Whether the line has exactly `count` keys of the format and no other keys, but for a note that
+/// the version allows.
 pub(crate) fn has_only(version: Version, count: usize, fields: &Fields) -> bool
     ensures { result ≡ has_only version count (field_values fields.now) }
 {

@@ -1,10 +1,10 @@
-//! The names of the operations.
+//! The operations by the names that lines have under `op`.
 ghost use Rattle.std.specs.Prelude.{◌≡◌};
 ghost use Rattle.cs_trace_lines.specs.Lines.{belongs_to, key_count, verb_in, verb_named};
 
 use crate::version::Version;
 
-/// What a line with `op` does.
+/// What an operation does, by the name under `op`.
 #[derive(Clone, Copy, Debug, PartialEq, Eq)]
 pub(crate) enum Verb {
     Creat,
@@ -24,8 +24,8 @@ pub(crate) enum Verb {
 }
 
 impl Verb {
-    /// The operation of this name, in any version.
-    fn named(name: &str) -> Option<Verb>
+    /// The verb of this name, in whichever version it is. None if no version has the name.
+    fn of_name(name: &str) -> Option<Verb>
         ensures { result ≡ verb_named name.now }
     {
         Some(match name {
@@ -47,8 +47,8 @@ impl Verb {
         })
     }
 
-    /// Whether a trace of this version may have it: chmod and chown come with the second version,
-    /// links and syncs of a range with the third.
+    /// Whether a trace of this version may have this verb: chmod and chown come with the second
+    /// version, link and fsync_range with the third, and all others with the first.
     fn belongs_to(self, version: Version) -> bool
         ensures { result ≡ belongs_to version self }
     {
@@ -59,11 +59,11 @@ impl Verb {
         }
     }
 
-    /// The operation of this name in a trace of this version.
+    /// The verb of this name in a trace of this version. None if the version doesn't have the name.
     pub(crate) fn of(version: Version, name: &str) -> Option<Verb>
         ensures { result ≡ verb_in version name.now }
     {
-        let verb = Verb::named(name)?;
+        let verb = Verb::of_name(name)?;
         if verb.belongs_to(version) {
             Some(verb)
         } else {
@@ -71,7 +71,7 @@ impl Verb {
         }
     }
 
-    /// How many keys its line has, with `op`, but without a note.
+    /// How many keys a line with this verb has, with `op`, `note` not counted.
     pub(crate) fn key_count(self) -> usize
         ensures { result ≡ key_count self }
     {

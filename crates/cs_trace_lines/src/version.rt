@@ -1,4 +1,4 @@
-//! The version of a trace, which its header says.
+//! The version of a trace, which its header declares, and the sizes of its blocks.
 ghost use Rattle.std.specs.Prelude.{◌≡◌};
 ghost use Rattle.cs_trace_lines.specs.Versions.{block_bytes, block_size_of, block_size_of_bytes};
 ghost use Rattle.cs_trace_lines.specs.Versions.{is_third, profile_of, says_first};
@@ -27,7 +27,7 @@ impl BlockSize {
         }
     }
 
-    /// The size of so many bytes, if blocks may have it.
+    /// The block size of this many bytes. None if it isn't 512, 1,024, 2,048 or 4,096.
     pub(crate) fn of_bytes(bytes: u64) -> Option<BlockSize>
         ensures { result ≡ block_size_of_bytes bytes }
     {
@@ -53,7 +53,7 @@ pub enum Version {
 }
 
 impl Version {
-    /// The profile of the file system: the first version has `blocks` only.
+    /// The profile of the file system; Blocks in the first version, whose header names none.
     pub fn profile(self) -> Profile
         ensures { result ≡ profile_of self }
     {

@@ -1,4 +1,4 @@
-//! The bytes of a file.
+//! The bytes of a file, which a write may lengthen.
 ghost use Rattle.std.specs.Prelude.{◌≡◌, ◌+◌, ◌++◌, ◌<◌, ◌≤◌, ◌^◌, IfOk, OnOk, OnErr, take, drop};
 ghost use Rattle.std.specs.Prelude.{length, replicate};
 ghost use Rattle.cs_tree_model.specs.Effects.{bytes_after_write};
@@ -21,14 +21,14 @@ impl Model for Bytes {
 }
 
 impl Bytes {
-    /// The content of a file with these bytes.
+    /// Wraps a file's bytes.
     pub fn of(bytes: Vec<u8>) -> Bytes
         ensures { result ≡ bytes.items }
     {
         Bytes { bytes }
     }
 
-    /// How many bytes there are.
+    /// The number of bytes.
     pub fn len(&self) -> u64
         ensures { result ≡ length self.now }
     {
@@ -39,33 +39,33 @@ impl Bytes {
     pub fn part(&self, offset: u64, count: usize) -> &[u8]
         ensures { result.now ≡ take count (drop offset self.now) }
     {
-        part(&self.bytes, offset as usize, count)
+        part_of(&self.bytes, offset as usize, count)
     }
 
     /// Writes bytes at an offset. If that is past the end, the bytes between are zeros. It
     /// allocates only if the file grows; after an error the file is unchanged.
-    pub fn place(&mut self, offset: u64, bytes: &[u8]) -> Result<(), AllocError>
+    pub fn write(&mut self, offset: u64, bytes: &[u8]) -> Result<(), AllocError>
         requires some { 0 < length bytes.now }
         requires room { offset + length bytes.now < 2 ^ 63 }
         ensures ok { OnOk result (self.new ≡ bytes_after_write offset bytes.now self.old) }
         ensures err { OnErr result (self.new ≡ self.old) }
     {
-        place(&mut self.bytes, offset as usize, bytes)?;
+        write_over(&mut self.bytes, offset as usize, bytes)?;
         Ok(())
     }
 
-    /// A copy that has `length` bytes: the first ones, with zeros after them if there are fewer.
-    pub fn resized(&self, alloc: Global, length: u64) -> Result<Bytes, AllocError>
+    /// A copy that has `length` bytes: the first ones, and zeros after them if there are fewer.
+    pub fn with_length(&self, alloc: Global, length: u64) -> Result<Bytes, AllocError>
         requires { length < 2 ^ 63 }
         ensures { IfOk result (λ file. file ≡ take length (self.now ++ replicate length 0)) }
     {
-        let bytes = resized(alloc, &self.bytes, length as usize)?;
+        let bytes = copy_with_length(alloc, &self.bytes, length as usize)?;
         Ok(Bytes { bytes })
     }
 }
 
-/// At most `count` bytes from `offset` on.
-fn part(bytes: &[u8], offset: usize, count: usize) -> &[u8]
+/// Does what `Bytes::part` does, on a slice.
+fn part_of(bytes: &[u8], offset: usize, count: usize) -> &[u8]
     ensures { result.now ≡ take count (drop offset bytes.now) }
 {
     let start = bytes.len().min(offset);
@@ -74,8 +74,8 @@ fn part(bytes: &[u8], offset: usize, count: usize) -> &[u8]
     &rest[..end]
 }
 
-/// Writes bytes at an offset, with zeros between the old end and the offset.
-fn place(content: &mut Vec<u8>, offset: usize, bytes: &[u8]) -> Result<(), AllocError>
+/// Does what `Bytes::write` does, on a vector.
+fn write_over(content: &mut Vec<u8>, offset: usize, bytes: &[u8]) -> Result<(), AllocError>
     requires some { 0 < length bytes.now }
     requires room { offset + length bytes.now < 2 ^ 63 }
     ensures ok { OnOk result
@@ -89,7 +89,7 @@ fn place(content: &mut Vec<u8>, offset: usize, bytes: &[u8]) -> Result<(), Alloc
     Ok(())
 }
 
-/// Replaces the bytes at an offset; they don't reach past the end.
+/// Replaces the bytes from `offset` on by the new ones, which don't reach past the end.
 fn overwrite(content: &mut [u8], offset: usize, bytes: &[u8])
     requires { offset + length bytes.now ≤ length content.old }
     ensures bytes { content.new ≡ take offset content.old ++ bytes.now
@@ -99,13 +99,13 @@ fn overwrite(content: &mut [u8], offset: usize, bytes: &[u8])
     content[offset..offset + bytes.len()].copy_from_slice(bytes);
 }
 
-/// A copy that has `length` bytes: the first ones, with zeros after them if there are fewer.
-fn resized(alloc: Global, bytes: &[u8], length: usize) -> Result<Vec<u8>, AllocError>
+/// Does what `Bytes::with_length` does, on a slice.
+fn copy_with_length(alloc: Global, bytes: &[u8], length: usize) -> Result<Vec<u8>, AllocError>
     ensures { IfOk result (λ v. v.items ≡ take length (bytes.now ++ replicate length 0)) }
 {
     let kept = bytes.len().min(length);
-    let mut resized = Vec::with_capacity(alloc, length)?;
-    resized.extend_from_slice(&bytes[..kept])?;
-    resized.resize(length, 0)?;
-    Ok(resized)
+    let mut copy = Vec::with_capacity(alloc, length)?;
+    copy.extend_from_slice(&bytes[..kept])?;
+    copy.resize(length, 0)?;
+    Ok(copy)
 }

@@ -1,4 +1,4 @@
-//! What a store allocates before it changes anything.
+//! Copies and new records, which a store makes before it changes anything.
 ghost use Rattle.std.specs.Prelude.{◌≡◌, ◌≢◌, [], IfOk, IsErr};
 ghost use Rattle.cs_tree_model.specs.Effects.{new_content, new_record};
 ghost use Rattle.cs_tree_model.specs.Record.{is_marked};
@@ -7,7 +7,7 @@ use cs_names::UserName;
 use cs_tree_model::{Content, Kind, New, Record, Stamp, is_directory_mode};
 use std::alloc::{AllocError, Global};
 
-/// A copy of the bytes; it takes no memory if there are none.
+/// Copies the bytes. It takes no memory if there are none.
 pub fn try_clone_bytes(alloc: Global, bytes: &[u8]) -> Result<Vec<u8>, AllocError>
     ensures value { IfOk result (λ v. v.items ≡ bytes.now) }
     ensures memory { IsErr result → bytes.now ≢ [] }
@@ -18,8 +18,8 @@ pub fn try_clone_bytes(alloc: Global, bytes: &[u8]) -> Result<Vec<u8>, AllocErro
     Vec::from_slice(alloc, bytes)
 }
 
-/// A copy of the name, if there is one.
-pub fn try_clone_name(name: &Option<UserName>) -> Result<Option<UserName>, AllocError>
+/// Copies the name of a user or group; None if there is none.
+pub fn try_clone_user(name: &Option<UserName>) -> Result<Option<UserName>, AllocError>
     ensures { IfOk result (λ again. again ≡ name.now) }
 {
     match name {
@@ -28,7 +28,8 @@ pub fn try_clone_name(name: &Option<UserName>) -> Result<Option<UserName>, Alloc
     }
 }
 
-/// The record of a new file or directory, which the stamp's user made at the stamp's moment.
+/// The record of a new file or directory, which the stamp's user made at the stamp's moment. It has
+/// no bytes, and version 0.
 pub fn new_record(
     alloc: Global,
     number: u64,
@@ -64,7 +65,8 @@ fn new_content(alloc: Global, mode: u32) -> Content
     }
 }
 
-/// Whether the mode has a directory's bit exactly if the record is a directory's.
+/// Whether the record's mode is right about its kind: it has a directory's bit exactly if the
+/// record is a directory's.
 pub fn is_marked(file: &Record) -> bool
     ensures { result ≡ is_marked file.now }
 {

@@ -1,4 +1,4 @@
-//! The nodes of a tree by their numbers.
+//! The table of a tree's nodes by their numbers: how each call changes it.
 ghost use Rattle.std.specs.Prelude.{◌≡◌, ◌≢◌, ◌+◌, ◌<◌, ◌^◌, ℕ, nat_eq, List, None, Some, OnOk};
 ghost use Rattle.std.specs.Prelude.{OnErr, IfOk, IfSome, IsSome, length, option_and_then};
 ghost use Rattle.std.specs.Prelude.{string_bytes, unwrap_or};
@@ -17,7 +17,7 @@ use std::alloc::{AllocError, Global};
 use std::collections::HashMap;
 use std::mem;
 
-/// The table that has only the root.
+/// A table that has only the root, made from its record.
 pub fn root_table(alloc: Global, root: Record) -> Result<HashMap<u64, Node>, AllocError>
     ensures { IfOk result (λ nodes. IsRootTable (get nat_eq nodes) root) }
 {
@@ -26,7 +26,7 @@ pub fn root_table(alloc: Global, root: Record) -> Result<HashMap<u64, Node>, All
     Ok(nodes)
 }
 
-/// Adds an entry to a directory. After an error the table is unchanged.
+/// Adds an entry to a directory that is in the table. After an error the table is unchanged.
 fn link(
     nodes: &mut HashMap<u64, Node>,
     directory: u64,
@@ -46,8 +46,8 @@ fn link(
     }
 }
 
-/// Adds a node to the table, which has room for it.
-fn put(nodes: &mut HashMap<u64, Node>, number: u64, node: Node)
+/// Puts a node into the table, which has room for it.
+fn insert_node(nodes: &mut HashMap<u64, Node>, number: u64, node: Node)
     requires { 0 < spare nodes.old }
     ensures { Alike (with_at (get nat_eq nodes.old) number (Some node)) (get nat_eq nodes.new) }
 {
@@ -57,8 +57,9 @@ fn put(nodes: &mut HashMap<u64, Node>, number: u64, node: Node)
     }
 }
 
-/// Adds a new node to the table, and an entry to its directory. After an error neither is there.
-pub fn grow(
+/// Adds a new node to the table, and an entry to its directory. After an error the table is
+/// unchanged.
+pub fn add_node(
     nodes: &mut HashMap<u64, Node>,
     directory: u64,
     name: String,
@@ -74,11 +75,11 @@ pub fn grow(
 {
     nodes.reserve(1)?;
     link(nodes, directory, name, number)?;
-    put(nodes, number, node);
+    insert_node(nodes, number, node);
     Ok(())
 }
 
-/// Stamps a directory after a change of its entries.
+/// Stamps a directory after a change of its entries; does nothing if no node has the number.
 pub fn stamp_node(nodes: &mut HashMap<u64, Node>, number: u64, stamp: Stamp)
     requires { CanStampNode (get nat_eq nodes.old) number }
     ensures { Alike (step_at (get nat_eq nodes.old) number (λ d. with_stamp d stamp))
@@ -89,7 +90,8 @@ pub fn stamp_node(nodes: &mut HashMap<u64, Node>, number: u64, stamp: Stamp)
     }
 }
 
-/// Removes an entry of a directory, and stamps the directory.
+/// Removes an entry of a directory, and stamps the directory; does nothing if no node has the
+/// number.
 fn unlink(nodes: &mut HashMap<u64, Node>, directory: u64, name: &str, stamp: Stamp)
     requires { CanStampNode (get nat_eq nodes.old) directory }
     ensures { Alike
@@ -103,7 +105,7 @@ fn unlink(nodes: &mut HashMap<u64, Node>, directory: u64, name: &str, stamp: Sta
 }
 
 /// Removes a file from the table and from its directory, which is stamped.
-pub fn take_out(nodes: &mut HashMap<u64, Node>, number: u64, stamp: Stamp)
+pub fn remove_node(nodes: &mut HashMap<u64, Node>, number: u64, stamp: Stamp)
     requires there { IsSome (get nat_eq nodes.old number) }
     requires named { IfSome (get nat_eq nodes.old number) (λ d. IsSome d.name) }
     requires vers { IfSome (get nat_eq nodes.old number)
@@ -119,7 +121,7 @@ pub fn take_out(nodes: &mut HashMap<u64, Node>, number: u64, stamp: Stamp)
     }
 }
 
-/// Writes bytes into a file at an offset, and stamps it. After an error it is unchanged.
+/// Writes bytes into a file at an offset, and stamps it. After an error the table is unchanged.
 pub fn write(
     nodes: &mut HashMap<u64, Node>,
     number: u64,
@@ -142,7 +144,8 @@ pub fn write(
     }
 }
 
-/// Sets the name of a file's node, and returns the old one.
+/// Sets the name of a file's node, and returns the old one; None if it had none, or no node has the
+/// number.
 fn set_name(nodes: &mut HashMap<u64, Node>, number: u64, name: Name) -> Option<Name>
     ensures old { result ≡ option_and_then (λ d. d.name) (get nat_eq nodes.old number) }
     ensures set { Alike (step_at (get nat_eq nodes.old) number (λ d. with_name d name))
@@ -154,7 +157,7 @@ fn set_name(nodes: &mut HashMap<u64, Node>, number: u64, name: Name) -> Option<N
     }
 }
 
-/// Renames a file in its directory, which is stamped. After an error nothing has changed.
+/// Renames a file in its directory, which is stamped. After an error the table is unchanged.
 pub fn rename(
     nodes: &mut HashMap<u64, Node>,
     number: u64,
@@ -186,9 +189,9 @@ pub fn rename(
     Ok(())
 }
 
-/// A copy of a file's bytes with that length, past the old end zeros. None if no length is given,
-/// or if the number isn't a file's.
-pub fn resized(
+/// A copy of a file's bytes with that length, and zeros past the old end. None if no length is
+/// given, or the number isn't a file's.
+pub fn bytes_with_length(
     alloc: Global,
     nodes: &HashMap<u64, Node>,
     number: u64,
@@ -205,12 +208,13 @@ pub fn resized(
     };
     match &node.body {
         Body::Directory(_) => Ok(None),
-        Body::File(bytes) => Ok(Some(bytes.resized(alloc, length)?)),
+        Body::File(bytes) => Ok(Some(bytes.with_length(alloc, length)?)),
     }
 }
 
-/// Sets the fields that a change names, except the name: `group` is the change's group, and `bytes`
-/// are the file's bytes with the change's length.
+/// Sets the fields that a change names, except the name; does nothing if no node has the number.
+/// `group` is a copy of the change's group, and `bytes` are the file's bytes with the change's
+/// length: the caller makes both before it changes anything, so nothing here can fail.
 pub fn change(
     nodes: &mut HashMap<u64, Node>,
     number: u64,

@@ -1,4 +1,5 @@
-//! The entries of a directory, in the byte order of their names.
+//! The entries of a directory, in the byte order of their names: the search in a map of them, which
+//! stores use, and the test for an empty directory.
 ghost use Rattle.std.specs.Prelude.{◌≡◌, None, Some, IfNone, IfSome, IsFalse, IsSome, IsTrue};
 ghost use Rattle.std.specs.Prelude.{string_bytes};
 ghost use Rattle.std.specs.BTreeMap.{get_by_text};
@@ -18,9 +19,11 @@ pub struct ListedEntry<'a> {
     pub number: u64,
 }
 
-/// The first entry of a map whose key comes after `last`, or of the whole map if that is None. None
-/// if there is no such entry.
-fn after<'a, X>(map: &'a BTreeMap<String, X>, last: Option<&Name>) -> Option<(&'a String, &'a X)>
+/// Does what `first_after` does, without a bound.
+fn first_key_after<'a, X>(
+    map: &'a BTreeMap<String, X>,
+    last: Option<&Name>,
+) -> Option<(&'a String, &'a X)>
     ensures some { IfSome result
         (λ e. IsEntry (λ y. IsSome (get_by_text map.now y)) (option_copied last.entry)
         (Some (string_bytes e.0.now))) }
@@ -51,8 +54,9 @@ fn is_before(bound: Option<&Name>, name: &str) -> bool
     }
 }
 
-/// The first entry of a map after `last`, or of the whole map if that is None, and None if it
-/// doesn't come before the bound. It takes no memory, and time logarithmic in the size of the map.
+/// The first entry of a map whose key comes after `last`, or of the whole map if that is None. None
+/// if the map has no such entry, or the entry doesn't come before the bound. It takes no memory,
+/// and time logarithmic in the size of the map.
 pub fn first_after<'a, X>(
     map: &'a BTreeMap<String, X>,
     last: Option<&Name>,
@@ -66,14 +70,14 @@ pub fn first_after<'a, X>(
         (IsEntryBelow (λ y. IsSome (get_by_text map.now y)) (option_copied last.entry)
         (option_copied bound.entry) None) }
 {
-    let (name, value) = after(map, last)?;
+    let (name, value) = first_key_after(map, last)?;
     if !is_before(bound, name.as_str()) {
         return None;
     }
     Some((name, value))
 }
 
-/// Whether the directory has no entries. Also true of a file, and of a number that has no record.
+/// Whether the directory has no entries. Also true of a file, and of a number that no record has.
 pub fn is_empty<T: TreeRead>(tree: &T, directory: u64) -> bool
     ensures empty { IsTrue result → (x : NameBytes)
         → number_in (T.tree tree.now) directory x ≡ None }

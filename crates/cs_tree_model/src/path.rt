@@ -6,8 +6,8 @@ use crate::read::TreeRead;
 use cs_names::Path;
 use std::alloc::{AllocError, Global};
 
-/// The names from the root down to the file with that number: no names for the root, and None if no
-/// record has the number. Only the names that are returned take memory.
+/// The path of the file with that number: the names from the root down to it, no names for the
+/// root. None if no record has the number. If no name is returned, it takes no memory.
 pub fn path_of<T: TreeRead>(
     alloc: Global,
     tree: &T,

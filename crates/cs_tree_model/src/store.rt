@@ -1,4 +1,4 @@
-//! A tree that changes.
+//! The trait of a store whose tree can change.
 ghost use Rattle.std.specs.Prelude.{◌≡◌, ◌≢◌, ◌+◌, ◌<◌, ◌^◌, ℕ, List, None, Some, length, OnOk};
 ghost use Rattle.std.specs.Prelude.{OnErr, IfOk, IfSome, IsSome};
 ghost use Rattle.cs_tree_model.specs.Tree.{record_numbered, parent_numbered, number_in};
@@ -16,7 +16,7 @@ use std::alloc::{AllocError, Global};
 /// an error the tree is as it was.
 pub trait TreeStore: TreeRead {
     /// Makes a new file in a directory, whose group it gets, and stamps the directory. Returns the
-    /// file's number, which is the tree's next one.
+    /// file's number, which is the tree's next one. After an error the tree is unchanged.
     fn add(
         &mut self,
         alloc: Global,
@@ -35,7 +35,7 @@ pub trait TreeStore: TreeRead {
         ensures err { OnErr result (Self.tree self.new ≡ Self.tree self.old) };
 
     /// Removes a file, or a directory without entries, but not the root. The directory that had it
-    /// is stamped.
+    /// is stamped. After an error the tree is unchanged.
     fn remove(&mut self, alloc: Global, number: u64, stamp: Stamp) -> Result<(), AllocError>
         requires not_root { number ≢ 0 }
         requires there { IsSome (record_numbered (Self.tree self.old) number) }
@@ -46,7 +46,7 @@ pub trait TreeStore: TreeRead {
         ensures err { OnErr result (Self.tree self.new ≡ Self.tree self.old) };
 
     /// Writes at least one byte into a file, at an offset, and stamps the file. If the offset is
-    /// past the end, the bytes between are zeros.
+    /// past the end, the bytes between are zeros. After an error the tree is unchanged.
     fn write_at(
         &mut self,
         alloc: Global,

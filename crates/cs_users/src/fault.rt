@@ -1,4 +1,4 @@
-//! Why bytes are no users file.
+//! Why bytes aren't a users file.
 ghost use Rattle.std.specs.Prelude.{◌≡◌, Some};
 ghost use Rattle.cs_users.specs.Faults.{fault_text};
 ghost use Rattle.cs_users.specs.declared.fault.UsersFault.TheVariants.{Memory};
@@ -6,8 +6,8 @@ ghost use Rattle.cs_users.specs.declared.fault.UsersFault.TheVariants.{Memory};
 use std::alloc::{AllocError, AllocFailed};
 use std::fmt;
 
-/// The first fault of bytes that were read as a users file, or Memory if there is no memory to keep
-/// it. Lines count from 1, and skipped lines count too.
+/// The first fault of bytes that were read as a users file, or Memory if there is no memory for the
+/// users. A number is that of the line: lines count from 1, and skipped lines count too.
 #[derive(Clone, Copy, Debug, PartialEq, Eq)]
 pub enum UsersFault {
     /// The bytes are not UTF-8, or have a NUL.
@@ -20,13 +20,15 @@ pub enum UsersFault {
     LongName(usize),
     /// An earlier line has the same name.
     Twice(usize),
-    /// No memory to keep it; the file itself has no fault.
+    /// Out of memory; the file itself has no fault.
     Memory,
 }
 
 impl fmt::Display for UsersFault {
     ghost output = { λ fault. Some (fault_text fault) };
 
+    /// Writes `users line 3: Twice` or the like; NotText has no line, and Memory is `out of
+    /// memory`.
     fn fmt<W: fmt::Write>(&self, f: &mut fmt::Formatter<W>) -> fmt::Result {
         match self {
             UsersFault::NotText => f.write_str("users: NotText"),
@@ -44,6 +46,7 @@ impl std::error::Error for UsersFault {}
 impl From<AllocError> for UsersFault {
     ghost from_gives = { λ _ fault. fault ≡ Memory };
 
+    /// Memory, since a failed allocation says nothing about the file.
     fn from(_refused: AllocError) -> UsersFault {
         UsersFault::Memory
     }
@@ -52,6 +55,7 @@ impl From<AllocError> for UsersFault {
 impl<T: Drop> From<AllocFailed<T>> for UsersFault {
     ghost from_gives = { λ _ fault. fault ≡ Memory };
 
+    /// Memory. The value that the failed call gave back is dropped.
     fn from(_refused: AllocFailed<T>) -> UsersFault {
         UsersFault::Memory
     }

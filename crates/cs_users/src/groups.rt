@@ -13,13 +13,15 @@ use crate::row::Row;
 use crate::rows::Rows;
 use std::alloc::{AllocError, Global};
 
-/// The places of a line's leader and members. A name that no row has is left out, and so is `none`.
+/// The places of a line's leader and members: the places of their rows. A name that no row has is
+/// left out, and so is `none`.
 #[derive(Debug, Drop)]
 pub(crate) struct Group {
+    // None if no row has the leader's name
     leader: Option<usize>,
-    // they ascend
+    // in ascending order, each once
     members: Vec<usize>,
-    // the same as bits, if they are many
+    // the members again, as bits; None if they are few
     marks: Option<Marks>,
 }
 
@@ -27,8 +29,9 @@ pub(crate) struct Group {
 /// binary search: marks would take more than sixteen times the memory of the members.
 const FEW_AMONG: usize = 1024;
 
-/// The places of the members that the line lists, in its order, without those that no row has.
-fn listed(alloc: Global, rows: &Rows, row: &Row) -> Result<Vec<usize>, AllocError>
+/// The places of the members that the line lists, in its order and as often as it lists them. Names
+/// that no row has, and `none`, are left out.
+fn listed_members(alloc: Global, rows: &Rows, row: &Row) -> Result<Vec<usize>, AllocError>
     ensures { IfOk result
         (λ places. places.items ≡ filter_map (somebody_at rows.now) row.now.members) }
 {
@@ -37,21 +40,21 @@ fn listed(alloc: Global, rows: &Rows, row: &Row) -> Result<Vec<usize>, AllocErro
         .collect(alloc)
 }
 
-/// The places of the members that the line lists, and the place of the line's own user: a user is
-/// a member of the group of the same name.
-fn belonging(alloc: Global, rows: &Rows, row: &Row) -> Result<Vec<usize>, AllocError>
+/// The places of the members that the line lists, and after them that of the line's own user, who
+/// is a member of the group of the same name. A place may come twice.
+fn all_members(alloc: Global, rows: &Rows, row: &Row) -> Result<Vec<usize>, AllocError>
     ensures { IfOk result
         (λ places. places.items
         ≡ filter_map (somebody_at rows.now) (row.now.members ++ row.now.name ∷ [])) }
 {
-    let mut places = listed(alloc, rows, row)?;
+    let mut places = listed_members(alloc, rows, row)?;
     if let Some(own) = rows.somebody_at(row.name()) {
         places.push(own)?;
     }
     Ok(places)
 }
 
-/// Marks at these places among `count` rows; None if the members are too few to need them.
+/// The members' marks among `count` rows; None if the members are so few that a search is enough.
 fn marks_if_many(
     alloc: Global,
     count: usize,
@@ -67,13 +70,13 @@ fn marks_if_many(
 }
 
 impl Group {
-    /// The leader and the members that the line at that place names.
+    /// The group of the line at that place: the leader and the members that it names, each once.
     fn of(alloc: Global, rows: &Rows, place: usize) -> Result<Group, AllocError>
         requires { place < length rows.now }
         ensures { IfOk result (IsGroup rows.now place) }
     {
         let row = rows.at(place);
-        let mut members = belonging(alloc, rows, row)?;
+        let mut members = all_members(alloc, rows, row)?;
         members.sort_unstable();
         members.dedup();
         let marks = marks_if_many(alloc, rows.len(), members.as_slice())?;
@@ -92,7 +95,7 @@ impl Group {
     }
 
     /// Whether the user at that place is a member.
-    pub(crate) fn has(&self, user: usize) -> bool
+    pub(crate) fn contains(&self, user: usize) -> bool
         requires ascending { IsStrictlyIncreasing self.now.members.items }
         requires marked { IfSome self.now.marks
             (λ marks. is_marked marks.words.items user
@@ -100,12 +103,13 @@ impl Group {
         ensures { result ≡ list_any (λ place. place == user) self.now.members.items }
     {
         match &self.marks {
-            Some(marks) => marks.has(user),
+            Some(marks) => marks.is_marked(user),
             None => self.members.binary_search(&user).is_ok(),
         }
     }
 
-    /// Whether the line names the user at that place as the leader.
+    /// Whether the line names the user at that place as the leader; false if no row has the leader
+    /// that it names.
     pub(crate) fn is_led_by(&self, user: usize) -> bool
         ensures { result ≡ option_map_or (λ place. place == user) self.now.leader false }
     {

@@ -12,8 +12,9 @@ use crate::rows::Rows;
 use cs_names::Pieces;
 use std::alloc::Global;
 
-/// The rows with that of this line at the end, or the line's fault. A skipped line adds no row.
-fn keep_line(alloc: Global, rows: Rows, number: usize, line: &[u8]) -> Result<Rows, UsersFault>
+/// Adds the row of the line with this number, or returns the line's fault, or Memory. A skipped
+/// line adds no row.
+fn add_line(alloc: Global, rows: Rows, number: usize, line: &[u8]) -> Result<Rows, UsersFault>
     requires { IfSome (row_in line.now) (λ row. IsText row.name) }
     ensures good { OnOk result (fault_of_line rows number line.now ≡ None) }
     ensures kept { IfOk result (λ more. more ≡ rows ++ option_to_list (row_in line.now)) }
@@ -27,13 +28,13 @@ fn keep_line(alloc: Global, rows: Rows, number: usize, line: &[u8]) -> Result<Ro
         return Err(UsersFault::FieldCount(number));
     };
     check_name(number, fields.name, rows.knows(fields.name))?;
-    let row = Row::keep(alloc, &fields)?;
-    Ok(rows.with(alloc, row)?)
+    let row = Row::copy_of(alloc, &fields)?;
+    Ok(rows.with_row(alloc, row)?)
 }
 
-/// The rows of the lines, or the fault of the first bad line. It is Memory as soon as an allocation
-/// fails, even if a later line has a fault.
-pub(crate) fn keep_lines(alloc: Global, text: &[u8]) -> Result<Rows, UsersFault>
+/// The rows of the text's lines, or the fault of the first bad line. The fault is Memory as soon as
+/// an allocation fails, even if a later line is bad.
+pub(crate) fn rows_of_lines(alloc: Global, text: &[u8]) -> Result<Rows, UsersFault>
     requires { IsTrue (is_text text.now) }
     ensures kept { IfOk result (λ rows. rows_or_fault (pieces 10 text.now) ≡ Ok rows) }
     ensures fault { IfErr result
@@ -42,7 +43,7 @@ pub(crate) fn keep_lines(alloc: Global, text: &[u8]) -> Result<Rows, UsersFault>
     let mut rows = Rows::new(alloc);
     let mut before = 0;
     for line in Pieces::of(text, b'\n') {
-        rows = keep_line(alloc, rows, before + 1, line)?;
+        rows = add_line(alloc, rows, before + 1, line)?;
         before += 1;
     }
     Ok(rows)

@@ -4,7 +4,7 @@ ghost use Rattle.cs_users.specs.Marks.{AreMarks, is_marked};
 
 use std::alloc::{AllocError, Global};
 
-/// The bits, 64 to a word. There may be one word more than the rows need.
+/// A bit for each row, 64 to a word. There may be one word more than the rows need.
 #[derive(Debug, Drop)]
 pub(crate) struct Marks {
     words: Vec<u64>,
@@ -35,7 +35,7 @@ impl Marks {
     }
 
     /// Whether the bit of the row at that place is set; false past the last row.
-    pub(crate) fn has(&self, place: usize) -> bool
+    pub(crate) fn is_marked(&self, place: usize) -> bool
         ensures { result ≡ is_marked self.now.words.items place }
     {
         match self.words.get(place / 64) {

@@ -10,7 +10,8 @@ use crate::row::{fields_of, is_skipped};
 use cs_names::Pieces;
 use cs_names::limits::USER_NAME_BYTES;
 
-/// Checks the name on the line of this number. The caller says whether an earlier line has it.
+/// Finds the fault of the name on the line with this number; Ok if it has none. The caller finds
+/// out whether an earlier line has the same name.
 pub(crate) fn check_name(number: usize, name: &[u8], is_taken: bool) -> Result<(), UsersFault>
     ensures { result_err result ≡ fault_of_name is_taken number name.now }
 {
@@ -26,8 +27,8 @@ pub(crate) fn check_name(number: usize, name: &[u8], is_taken: bool) -> Result<(
     Ok(())
 }
 
-/// Whether the line has exactly four fields, isn't skipped, and its name is this one.
-fn names(name: &[u8], line: &[u8]) -> bool
+/// Whether the line isn't skipped, has exactly four fields, and has this name.
+fn has_name(name: &[u8], line: &[u8]) -> bool
     ensures { result ≡ names name.now line.now }
 {
     match fields_of(line) {
@@ -43,10 +44,11 @@ fn is_named_before(text: &[u8], before: usize, name: &[u8]) -> bool
 {
     Pieces::of(text, b'\n')
         .take(before)
-        .any(|line| names(name, line))
+        .any(|line| has_name(name, line))
 }
 
-/// Checks the line that `before` lines precede.
+/// Finds the fault of a line of the text that `before` lines precede; Ok if it has none or is
+/// skipped.
 fn check_line(text: &[u8], before: usize, line: &[u8]) -> Result<(), UsersFault>
     requires { before ≤ length text.now }
     ensures { result_err result
@@ -65,8 +67,8 @@ fn check_line(text: &[u8], before: usize, line: &[u8]) -> Result<(), UsersFault>
     }
 }
 
-/// The fault of the first bad line, if there is one. It needs no memory: it looks for each line's
-/// name in the lines before it, so its time grows with the square of the file's length.
+/// Finds the fault of the first bad line; Ok if no line is bad. It needs no memory: it looks for
+/// each line's name in the lines before it, so its time grows with the square of the file's length.
 pub(crate) fn check_lines(text: &[u8]) -> Result<(), UsersFault>
     ensures { result_err result ≡ first_fault [] (pieces 10 text.now) }
 {

@@ -17,7 +17,8 @@ pub enum Right {
 }
 
 impl Right {
-    /// The right's bit among those of others: 4, 2 or 1.
+    /// The right's bit among the bits of others: 4, 2 or 1. The group's bit is 8 times that, the
+    /// owner's 64 times.
     fn bit(self) -> u32
         ensures value { result ≡ bit_of self }
         ensures small { result ≤ 4 }
@@ -30,14 +31,15 @@ impl Right {
     }
 }
 
-/// Whether the mode has a bit of the mask.
+/// Whether the mode has at least one bit of the mask.
 pub fn has_bit(mode: u32, mask: u32) -> bool
     ensures { result ≡ has_bit mode mask }
 {
     mode & mask != 0
 }
 
-/// Whether the user owns a file of this owner: `none` owns nothing.
+/// Whether a user of this name owns a file of this owner: the names are the same, and aren't
+/// `none`, who owns nothing.
 pub fn owns(user: &[u8], owner: &[u8]) -> bool
     ensures test { result ≡ owns user.now owner.now }
     ensures owner { IsTrue result ↔ Owns user.now owner.now }

@@ -1,4 +1,4 @@
-//! A line of the users file, as it is in the file and as it is kept.
+//! The fields of a line of the users file: lent from the file, and copied into a row.
 ghost use Rattle.std.specs.Prelude.{◌≡◌, IfOk};
 ghost use Rattle.std.specs.Option.{option_map};
 ghost use Rattle.cs_names.specs.Legal.{IsUserName};
@@ -20,7 +20,7 @@ pub(crate) struct Fields<'a> {
     members: &'a [u8],
 }
 
-/// A line that is kept. The members stay one text with commas.
+/// A copy of a line's fields. The members stay one text, with commas between them.
 #[derive(Debug, Drop)]
 pub(crate) struct Row {
     id: Vec<u8>,
@@ -51,7 +51,7 @@ pub(crate) fn is_skipped(line: &[u8]) -> bool
     line.is_empty() || line[0] == b'#'
 }
 
-/// The line's fields, if there are exactly four.
+/// The line's fields; None unless there are exactly four.
 fn split_fields(line: &[u8]) -> Option<Fields<'_>>
     ensures { option_map row_of result ≡ row_of_fields (pieces 58 line.now) }
 {
@@ -68,7 +68,7 @@ fn split_fields(line: &[u8]) -> Option<Fields<'_>>
     Some(fields)
 }
 
-/// The fields of a line, if it isn't skipped and has exactly four.
+/// The fields of a line; None if it is skipped or hasn't exactly four.
 pub(crate) fn fields_of(line: &[u8]) -> Option<Fields<'_>>
     ensures { option_map row_of result ≡ row_in line.now }
 {
@@ -78,10 +78,10 @@ pub(crate) fn fields_of(line: &[u8]) -> Option<Fields<'_>>
     split_fields(line)
 }
 
-/// A copy of a name that is legal, so that only an allocation can fail.
-fn keep_name(alloc: Global, name: &[u8]) -> Result<UserName, AllocError>
+/// Copies a name that is legal, so the only error is that memory runs out.
+fn copy_name(alloc: Global, name: &[u8]) -> Result<UserName, AllocError>
     requires { IsUserName name.now }
-    ensures { IfOk result (λ kept. kept ≡ name.now) }
+    ensures { IfOk result (λ copy. copy ≡ name.now) }
 {
     match UserName::read(alloc, name) {
         Ok(name) => Ok(name),
@@ -91,20 +91,20 @@ fn keep_name(alloc: Global, name: &[u8]) -> Result<UserName, AllocError>
 }
 
 impl Row {
-    /// The row of these fields, with copies of them.
-    pub(crate) fn keep(alloc: Global, fields: &Fields) -> Result<Row, AllocError>
+    /// Copies the fields, whose name is legal, into a row.
+    pub(crate) fn copy_of(alloc: Global, fields: &Fields) -> Result<Row, AllocError>
         requires { IsUserName fields.now.name.now }
         ensures { IfOk result (λ row. row ≡ row_of fields.now) }
     {
         Ok(Row {
             id: Vec::from_slice(alloc, fields.id)?,
-            name: keep_name(alloc, fields.name)?,
+            name: copy_name(alloc, fields.name)?,
             leader: Vec::from_slice(alloc, fields.leader)?,
             members: Vec::from_slice(alloc, fields.members)?,
         })
     }
 
-    /// A copy of the row.
+    /// Copies the row.
     pub(crate) fn try_clone(&self) -> Result<Row, AllocError>
         ensures { IfOk result (λ row. row ≡ self.now) }
     {
@@ -131,7 +131,8 @@ impl Row {
         self.leader.as_slice()
     }
 
-    /// The names of the members that the line lists. One may be empty or unknown.
+    /// The names of the members that the line lists, in its order. One may be empty or unknown, or
+    /// come twice.
     pub(crate) fn members(&self) -> Pieces<'_>
         ensures { pieces_left result ≡ self.now.members }
     {

@@ -38,7 +38,7 @@ pub(crate) fn is_none(user: &[u8]) -> bool
 }
 
 impl Rows {
-    /// No rows.
+    /// No rows. It takes no memory.
     pub(crate) fn new(alloc: Global) -> Rows
         ensures { result ≡ [] }
     {
@@ -48,8 +48,8 @@ impl Rows {
         }
     }
 
-    /// The rows with one more at the end, whose name no row has yet.
-    pub(crate) fn with(self, alloc: Global, row: Row) -> Result<Rows, AllocError>
+    /// Adds a row, whose name no row has yet, at the end. An error drops all rows.
+    pub(crate) fn with_row(self, alloc: Global, row: Row) -> Result<Rows, AllocError>
         requires { is_known self row.name ≡ false }
         ensures { IfOk result (λ more. more ≡ self ++ row ∷ []) }
     {
@@ -63,13 +63,13 @@ impl Rows {
         Ok(Rows { rows, places })
     }
 
-    /// A copy of the rows.
+    /// Copies the rows.
     pub(crate) fn try_clone(&self, alloc: Global) -> Result<Rows, AllocError>
         ensures { IfOk result (λ copy. copy ≡ self.now) }
     {
         let mut copy = Rows::new(alloc);
         for row in &self.rows {
-            copy = copy.with(alloc, row.try_clone()?)?;
+            copy = copy.with_row(alloc, row.try_clone()?)?;
         }
         Ok(copy)
     }
@@ -105,7 +105,7 @@ impl Rows {
         self.place_of(name).is_some()
     }
 
-    /// The place of the row of that name; None if no row has it, and for `none`.
+    /// The place of the row of that name; None if no row has it or the name is `none`.
     pub(crate) fn somebody_at(&self, name: &[u8]) -> Option<usize>
         ensures { result ≡ somebody_at self.now name.now }
     {

@@ -13,7 +13,7 @@ ghost use Rattle.cs_users.specs.Rows.{AreNamed};
 
 use crate::fault::UsersFault;
 use crate::groups::{Group, groups_of};
-use crate::keeping::keep_lines;
+use crate::keeping::rows_of_lines;
 use crate::reading::check_lines;
 use crate::rows::Rows;
 use cs_names::is_text;
@@ -44,9 +44,9 @@ impl Model for Users {
 
 impl Users {
     /// The users file that the bytes spell: lines `id:name:leader:members`, the members with commas
-    /// between them; empty lines and those that begin with `#` are skipped. Else NotText, or the
-    /// first of FieldCount, EmptyName, LongName, Twice on the first bad line. It is Memory only if
-    /// the file has no fault.
+    /// between them; empty lines and those that begin with `#` are skipped. An error is NotText, or
+    /// the first of FieldCount, EmptyName, LongName and Twice on the first bad line. It is Memory
+    /// only if the file has no fault.
     pub fn read(alloc: Global, bytes: &[u8]) -> Result<Users, UsersFault>
         ensures exact { ReadsAs UsersFault.Memory result (users_in bytes.now) }
         ensures named { IfOk result AreNamed }
@@ -54,7 +54,7 @@ impl Users {
         if !is_text(bytes) {
             return Err(UsersFault::NotText);
         }
-        match Users::keep(alloc, bytes) {
+        match Users::from_text(alloc, bytes) {
             Ok(users) => Ok(users),
             Err(UsersFault::Memory) => {
                 check_lines(bytes)?;
@@ -64,9 +64,9 @@ impl Users {
         }
     }
 
-    /// The users file that a text spells, or its first fault. It is Memory as soon as an allocation
-    /// fails, even if a later line has a fault.
-    fn keep(alloc: Global, text: &[u8]) -> Result<Users, UsersFault>
+    /// Reads a text as `read` does, but the error is Memory as soon as an allocation fails, even if
+    /// a later line has a fault.
+    fn from_text(alloc: Global, text: &[u8]) -> Result<Users, UsersFault>
         requires { IsTrue (is_text text.now) }
         ensures kept { IfOk result (λ users. rows_or_fault (pieces 10 text.now) ≡ Ok users) }
         ensures named { IfOk result AreNamed }
@@ -74,12 +74,12 @@ impl Users {
             (λ fault. (fault ≡ UsersFault.Memory)
             ⊎ (rows_or_fault (pieces 10 text.now) ≡ Err fault)) }
     {
-        let rows = keep_lines(alloc, text)?;
+        let rows = rows_of_lines(alloc, text)?;
         let groups = groups_of(alloc, &rows)?;
         Ok(Users { rows, groups })
     }
 
-    /// A copy of the users.
+    /// Copies the users. The groups are made again from the copied rows.
     pub fn try_clone(&self, alloc: Global) -> Result<Users, AllocError>
         ensures { IfOk result (λ copy. copy ≡ self.now) }
     {
@@ -145,7 +145,7 @@ impl Users {
         requires user { user < length self.now }
         ensures { result ≡ is_member self.now (name_at self.now user) (name_at self.now group) }
     {
-        self.groups[group].has(user)
+        self.groups[group].contains(user)
     }
 
     /// Whether the user at that place leads the group at that place.

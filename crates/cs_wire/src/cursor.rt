@@ -1,5 +1,5 @@
-//! What is left of a message's bytes: each call takes one field from the front, and allocates
-//! nothing.
+//! The bytes of a message that are still to be read. Each `read_` method takes one field from the
+//! front, and allocates nothing: texts and data are lent from the bytes.
 
 ghost use Rattle.std.specs.Prelude.{◌≡◌, ◌≤◌, ◌==◌, map, IfSome, IfNone, true, false};
 ghost use Rattle.std.specs.Int.{w8, w16, w32, w64};
@@ -17,20 +17,21 @@ use crate::message::Qid;
 use crate::stat::StatRef;
 use cs_names::limits::WALK_NAMES;
 
-/// The bytes that no field has taken so far.
+/// The bytes that no field has taken so far. A field with a fault may leave a part of it taken: the
+/// message is refused then, and nothing more is read.
 #[derive(Drop)]
 pub(crate) struct Cursor<'a> {
     pub(crate) rest: &'a [u8],
 }
 
-/// Whether one of the bytes is 0.
+/// Whether at least one of the bytes is NUL.
 pub(crate) fn has_nul(bytes: &[u8]) -> bool
     ensures { result ≡ list_any (λ b. b == 0) bytes.now }
 {
     bytes.iter().any(|b| *b == 0)
 }
 
-/// The bytes as a text, if they are UTF-8 without NUL.
+/// The bytes as a text; None if they aren't UTF-8 or one of them is NUL.
 fn as_text(bytes: &[u8]) -> Option<&str>
     ensures some { IfSome result (λ s. (s.now ≡ bytes.now) × (is_text bytes.now ≡ true)) }
     ensures none { IfNone result (is_text bytes.now ≡ false) }
@@ -41,37 +42,38 @@ fn as_text(bytes: &[u8]) -> Option<&str>
     }
 }
 
-/// The stat whose size and fields fill the bytes: Trailing if bytes are left.
+/// Reads an entry that fills the bytes: a size, and the fields of a stat. The fault is SizeLies if
+/// the size isn't the number of bytes after it, and Trailing if bytes are left after the fields.
 #[tactic(auto, unfolding(crate::specs::Reading::sized_in))]
-fn sized_stat(bytes: &[u8]) -> Result<StatRef, WireFault>
+fn read_sized_stat(bytes: &[u8]) -> Result<StatRef, WireFault>
     ensures { IsSeenAs stat_in result (sized_in (field_at stat_shape) bytes.now) }
 {
     let mut cursor = Cursor { rest: bytes };
-    let size = cursor.two()?;
+    let size = cursor.read_u16()?;
     if size as usize != cursor.rest.len() {
         return Err(WireFault::SizeLies);
     }
-    let stat = cursor.stat_fields()?;
+    let stat = cursor.read_stat_fields()?;
     if !cursor.rest.is_empty() {
         return Err(WireFault::Trailing);
     }
     Ok(stat)
 }
 
-/// The stat whose size and fields fill the bytes. Here fields that end too early or too late are
-/// SizeLies, since the size before the bytes was wrong.
-fn entry(bytes: &[u8]) -> Result<StatRef, WireFault>
+/// Reads an entry that fills the bytes. Here Short and Trailing become SizeLies, since the message
+/// gave the length of these bytes as that of the entry.
+fn read_entry(bytes: &[u8]) -> Result<StatRef, WireFault>
     ensures { IsSeenAs stat_in result (entry_in (field_at stat_shape) bytes.now) }
 {
-    match sized_stat(bytes) {
+    match read_sized_stat(bytes) {
         Err(WireFault::Short | WireFault::Trailing) => Err(WireFault::SizeLies),
         answer => answer,
     }
 }
 
 impl<'a> Cursor<'a> {
-    /// The next `count` bytes; Short, and nothing is taken, if there are fewer.
-    pub(crate) fn front(&mut self, count: usize) -> Result<&'a [u8], WireFault>
+    /// Takes the next `count` bytes. If there are fewer the fault is Short, and nothing is taken.
+    pub(crate) fn read_bytes(&mut self, count: usize) -> Result<&'a [u8], WireFault>
         ensures { IsFrontSeenAs (λ x. x.now) result self.new.rest.now
             (front_at count self.old.rest.now) }
     {
@@ -83,8 +85,8 @@ impl<'a> Cursor<'a> {
         Ok(front)
     }
 
-    /// Trailing if a byte is left.
-    pub(crate) fn end(&self) -> Result<(), WireFault>
+    /// Checks that no byte is left. If one is, the fault is Trailing.
+    pub(crate) fn expect_end(&self) -> Result<(), WireFault>
         ensures { IsSeenAs (λ _. tt) result (end_at self.now.rest.now) }
     {
         if !self.rest.is_empty() {
@@ -93,8 +95,8 @@ impl<'a> Cursor<'a> {
         Ok(())
     }
 
-    /// The next N bytes; Short, and nothing is taken, if there are fewer.
-    fn array<const N: usize>(&mut self) -> Result<[u8; N], WireFault>
+    /// Takes the next N bytes. If there are fewer the fault is Short, and nothing is taken.
+    fn read_array<const N: usize>(&mut self) -> Result<[u8; N], WireFault>
         ensures { IsFrontSeenAs (λ x. x) result self.new.rest.now (front_at N self.old.rest.now) }
     {
         let Some((front, rest)) = self.rest.split_first_chunk::<N>() else {
@@ -104,89 +106,92 @@ impl<'a> Cursor<'a> {
         Ok(*front)
     }
 
-    /// A number of one byte.
-    pub(crate) fn one(&mut self) -> Result<u8, WireFault>
+    /// Reads a number of one byte. After an error (Short) nothing is taken.
+    pub(crate) fn read_u8(&mut self) -> Result<u8, WireFault>
         ensures { IsFrontSeenAs (λ x. x) result self.new.rest.now (number_at w8 self.old.rest.now) }
     {
-        Ok(u8::from_le_bytes(self.array()?))
+        Ok(u8::from_le_bytes(self.read_array()?))
     }
 
-    /// A number of two bytes, the low one first.
-    pub(crate) fn two(&mut self) -> Result<u16, WireFault>
+    /// Reads a number of two bytes, the low one first. After an error (Short) nothing is taken.
+    pub(crate) fn read_u16(&mut self) -> Result<u16, WireFault>
         ensures { IsFrontSeenAs (λ x. x) result self.new.rest.now
             (number_at w16 self.old.rest.now) }
     {
-        Ok(u16::from_le_bytes(self.array()?))
+        Ok(u16::from_le_bytes(self.read_array()?))
     }
 
-    /// A number of four bytes, the low one first.
-    pub(crate) fn four(&mut self) -> Result<u32, WireFault>
+    /// Reads a number of four bytes, the low one first. After an error (Short) nothing is taken.
+    pub(crate) fn read_u32(&mut self) -> Result<u32, WireFault>
         ensures { IsFrontSeenAs (λ x. x) result self.new.rest.now
             (number_at w32 self.old.rest.now) }
     {
-        Ok(u32::from_le_bytes(self.array()?))
+        Ok(u32::from_le_bytes(self.read_array()?))
     }
 
-    /// A number of eight bytes, the low one first.
-    pub(crate) fn eight(&mut self) -> Result<u64, WireFault>
+    /// Reads a number of eight bytes, the low one first. After an error (Short) nothing is taken.
+    pub(crate) fn read_u64(&mut self) -> Result<u64, WireFault>
         ensures { IsFrontSeenAs (λ x. x) result self.new.rest.now
             (number_at w64 self.old.rest.now) }
     {
-        Ok(u64::from_le_bytes(self.array()?))
+        Ok(u64::from_le_bytes(self.read_array()?))
     }
 
-    /// A text: its length in two bytes, and UTF-8 without NUL.
+    /// Reads a text: its length in two bytes, and that many bytes. The fault is BadText if these
+    /// aren't UTF-8 or have a NUL. An error may leave a part of it taken.
     #[tactic(auto, unfolding(crate::specs::Reading::field_at, crate::specs::Reading::text_at))]
-    pub(crate) fn text(&mut self) -> Result<&'a str, WireFault>
+    pub(crate) fn read_text(&mut self) -> Result<&'a str, WireFault>
         ensures { IsFrontSeenAs (λ x. x.now) result self.new.rest.now
             (field_at Text self.old.rest.now) }
     {
-        let count = self.two()?;
-        let front = self.front(count as usize)?;
+        let count = self.read_u16()?;
+        let front = self.read_bytes(count as usize)?;
         match as_text(front) {
             None => Err(WireFault::BadText),
             Some(text) => Ok(text),
         }
     }
 
-    /// The 13 bytes of a qid.
+    /// Reads the 13 bytes of a qid: kind, version and path. An error may leave a part of it taken.
     #[tactic(auto, unfolding(crate::specs::Reading::field_at))]
-    pub(crate) fn qid(&mut self) -> Result<Qid, WireFault>
+    pub(crate) fn read_qid(&mut self) -> Result<Qid, WireFault>
         ensures { IsFrontSeenAs qid_of result self.new.rest.now
             (field_at qid_shape self.old.rest.now) }
     {
         Ok(Qid {
-            kind: self.one()?,
-            vers: self.four()?,
-            path: self.eight()?,
+            kind: self.read_u8()?,
+            vers: self.read_u32()?,
+            path: self.read_u64()?,
         })
     }
 
-    /// Bytes, after their count in four.
+    /// Reads a count in four bytes, and takes that many bytes. An error may leave the count taken.
     #[tactic(auto, unfolding(crate::specs::Reading::raw_at))]
-    pub(crate) fn data(&mut self) -> Result<&'a [u8], WireFault>
+    pub(crate) fn read_data(&mut self) -> Result<&'a [u8], WireFault>
         ensures { IsFrontSeenAs (λ x. x.now) result self.new.rest.now (raw_at self.old.rest.now) }
     {
-        let count = self.four()?;
-        self.front(count as usize)
+        let count = self.read_u32()?;
+        self.read_bytes(count as usize)
     }
 
-    /// The next `count` texts.
-    fn times_text(&mut self, count: u16) -> Result<Few<&'a str>, WireFault>
+    /// Reads `count` texts, without a count before them. An error leaves the texts before the
+    /// faulty one taken.
+    fn read_each_name(&mut self, count: u16) -> Result<Few<&'a str>, WireFault>
         requires { count ≤ WALK_NAMES }
         ensures { IsFrontSeenAs (λ names. texts_in (items_of names)) result self.new.rest.now
             (times_at (field_at Text) count self.old.rest.now) }
     {
         let mut names = Few::new("");
         for _ in 0..count {
-            let name = self.text()?;
+            let name = self.read_text()?;
             names.push(name);
         }
         Ok(names)
     }
 
-    /// The next `count` qids.
-    fn times_qid(&mut self, count: u16) -> Result<Few<Qid>, WireFault>
+    /// Reads `count` qids, without a count before them. An error leaves the qids before the faulty
+    /// one taken.
+    fn read_each_qid(&mut self, count: u16) -> Result<Few<Qid>, WireFault>
         requires { count ≤ WALK_NAMES }
         ensures { IsFrontSeenAs (λ qids. map qid_of (items_of qids)) result self.new.rest.now
             (times_at (field_at qid_shape) count self.old.rest.now) }
@@ -198,67 +203,71 @@ impl<'a> Cursor<'a> {
         };
         let mut qids = Few::new(blank);
         for _ in 0..count {
-            let qid = self.qid()?;
+            let qid = self.read_qid()?;
             qids.push(qid);
         }
         Ok(qids)
     }
 
-    /// The names of a walk, after their count in two bytes.
+    /// Reads the names of a walk, after their count in two bytes; more than 16 are TooManyNames. An
+    /// error may leave a part of them taken.
     #[tactic(auto, unfolding(crate::specs::Reading::several_at))]
-    pub(crate) fn names(&mut self) -> Result<Few<&'a str>, WireFault>
+    pub(crate) fn read_names(&mut self) -> Result<Few<&'a str>, WireFault>
         ensures { IsFrontSeenAs (λ names. texts_in (items_of names)) result self.new.rest.now
             (several_at (field_at Text) self.old.rest.now) }
     {
-        let count = self.two()?;
+        let count = self.read_u16()?;
         if count > WALK_NAMES {
             return Err(WireFault::TooManyNames);
         }
-        self.times_text(count)
+        self.read_each_name(count)
     }
 
-    /// The qids of a walk, after their count in two bytes.
+    /// Reads the qids of a walk, after their count in two bytes; more than 16 are TooManyNames. An
+    /// error may leave a part of them taken.
     #[tactic(auto, unfolding(crate::specs::Reading::several_at))]
-    pub(crate) fn qids(&mut self) -> Result<Few<Qid>, WireFault>
+    pub(crate) fn read_qids(&mut self) -> Result<Few<Qid>, WireFault>
         ensures { IsFrontSeenAs (λ qids. map qid_of (items_of qids)) result self.new.rest.now
             (several_at (field_at qid_shape) self.old.rest.now) }
     {
-        let count = self.two()?;
+        let count = self.read_u16()?;
         if count > WALK_NAMES {
             return Err(WireFault::TooManyNames);
         }
-        self.times_qid(count)
+        self.read_each_qid(count)
     }
 
-    /// The fields of a stat, without a size before them.
+    /// Reads the fields of a stat, without a size before them. An error leaves the fields before
+    /// the faulty one taken.
     #[tactic(auto, unfolding(crate::specs::Reading::field_at))]
-    fn stat_fields(&mut self) -> Result<StatRef<'a>, WireFault>
+    fn read_stat_fields(&mut self) -> Result<StatRef<'a>, WireFault>
         ensures { IsFrontSeenAs stat_in result self.new.rest.now
             (field_at stat_shape self.old.rest.now) }
     {
         Ok(StatRef {
-            kind: self.two()?,
-            dev: self.four()?,
-            qid: self.qid()?,
-            mode: self.four()?,
-            atime: self.four()?,
-            mtime: self.four()?,
-            length: self.eight()?,
-            name: self.text()?,
-            uid: self.text()?,
-            gid: self.text()?,
-            muid: self.text()?,
+            kind: self.read_u16()?,
+            dev: self.read_u32()?,
+            qid: self.read_qid()?,
+            mode: self.read_u32()?,
+            atime: self.read_u32()?,
+            mtime: self.read_u32()?,
+            length: self.read_u64()?,
+            name: self.read_text()?,
+            uid: self.read_text()?,
+            gid: self.read_text()?,
+            muid: self.read_text()?,
         })
     }
 
-    /// A stat: its length in two bytes, and an entry of that length.
+    /// Reads a stat: its length in two bytes, and an entry of that length. An error may leave a
+    /// part of it taken.
     #[tactic(auto, unfolding(crate::specs::Reading::boxed_at))]
-    pub(crate) fn stat(&mut self) -> Result<StatRef<'a>, WireFault>
+    pub(crate) fn read_stat(&mut self) -> Result<StatRef<'a>, WireFault>
         ensures { IsFrontSeenAs stat_in result self.new.rest.now
             (boxed_at (field_at stat_shape) self.old.rest.now) }
     {
-        let count = self.two()?;
-        let front = self.front(count as usize)?;
-        entry(front)
+        let count = self.read_u16()?;
+        let front = self.read_bytes(count as usize)?;
+        read_entry(front)
     }
 }

@@ -1,4 +1,5 @@
-//! A stream has the same messages however it is cut into pieces.
+//! A stream has the same messages however it is cut into pieces. A call of a function here does
+//! nothing: its contract is the law.
 
 ghost use Rattle.std.specs.Prelude.{◌≡◌, ◌<◌, ℕ, List, [], ◌++◌, length};
 ghost use Rattle.cs_wire.specs.Messages.{requests, replies, Message, Fits, spelling};
@@ -7,8 +8,8 @@ ghost use Rattle.cs_wire.specs.Framing.{IsUndersized, IsOversized};
 ghost use Rattle.cs_names.specs.declared.limits.TheConstants.{MESSAGE_BYTES};
 ghost use Rattle.cs_wire.specs.Cutting.{Call, Leaves, bytes_fed, messages_given};
 
-/// What was given and what is left are the messages and the rest of the joined pieces, however the
-/// stream was cut, and whenever its messages were taken.
+/// However a stream is cut into pieces, and whenever its messages are taken, a framer gives the
+/// same messages, in the same order, and what is left is the rest of the bytes.
 pub fn any_cutting()
     // The bytes that came are the messages given, in their order, and what is left.
     ensures joined { (calls : List Call) (left : List ℕ) → Leaves [] calls left

@@ -26,6 +26,7 @@ pub enum WireFault {
 }
 
 impl fmt::Display for WireFault {
+    /// Prints the fault in words.
     fn fmt<W: fmt::Write>(&self, f: &mut fmt::Formatter<W>) -> fmt::Result {
         match self {
             WireFault::Short => write!(f, "a field runs past the end"),
@@ -42,6 +43,7 @@ impl fmt::Display for WireFault {
 impl From<AllocError> for WireFault {
     ghost from_gives = { λ _ e. e ≡ Memory };
 
+    /// An allocation that fails is Memory.
     fn from(_e: AllocError) -> WireFault {
         WireFault::Memory
     }
@@ -50,6 +52,7 @@ impl From<AllocError> for WireFault {
 impl<T: Drop> From<AllocFailed<T>> for WireFault {
     ghost from_gives = { λ _ e. e ≡ Memory };
 
+    /// An allocation that fails is Memory; the value that it was for is dropped.
     fn from(_e: AllocFailed<T>) -> WireFault {
         WireFault::Memory
     }

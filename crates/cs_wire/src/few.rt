@@ -20,7 +20,7 @@ impl<T: Copy> Few<T> {
     ghost use Rattle.std.specs.Prelude.{◌≡◌, ◌<◌, ◌++◌, ◌+◌, [], ◌∷◌};
     ghost use Rattle.cs_wire.specs.Few.{items_of};
 
-    /// No item; `blank` only fills the unused places.
+    /// An empty list. `blank` fills the unused places, and is never seen.
     pub(crate) fn new(blank: T) -> Few<T>
         ensures items { items_of result ≡ [] }
         ensures count { result.count ≡ 0 }
@@ -31,7 +31,7 @@ impl<T: Copy> Few<T> {
         }
     }
 
-    /// Adds an item at the end. There must be room.
+    /// Adds an item at the end. The list must have fewer than 16.
     pub(crate) fn push(&mut self, item: T)
         requires { self.old.count < WALK_NAMES }
         ensures items { items_of self.new ≡ items_of self.old ++ item ∷ [] }

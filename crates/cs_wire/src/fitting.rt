@@ -1,5 +1,6 @@
-//! Which messages have a spelling, and its length. Each private function gives the number of bytes
-//! of a field, or None if the field can't hold the value.
+//! Which messages have a spelling, and its length. Each `size_of_` function gives the bytes that a
+//! field takes, or None if the field can't hold the value. The bytes themselves are made in
+//! `writing`.
 
 ghost use Rattle.std.specs.Prelude.{◌≡◌, ◌≤◌, ◌<◌, length, true, IfSome, Some, Option, map, ◌↔◌};
 ghost use Rattle.cs_wire.specs.Fields.{One, Two, Four, Eight, Text, Several, Raw, ◌▸◌, is_text};
@@ -15,9 +16,9 @@ use crate::table::{each_reply, each_request};
 use cs_names::laws::know;
 use cs_names::limits::{MESSAGE_BYTES, WALK_NAMES};
 
-/// The bytes of a number of one byte: 1.
+/// The size of a number of one byte: 1.
 #[tactic(auto, unfolding(crate::specs::Fields::size_of))]
-fn one(number: &u8) -> usize
+fn size_of_u8(number: &u8) -> usize
     ensures size { size_of One number.now ≡ Some result }
     ensures small { result ≡ 1 }
 {
@@ -26,70 +27,72 @@ fn one(number: &u8) -> usize
     1
 }
 
-/// The bytes of a number of two bytes: 2.
+/// The size of a number of two bytes: 2.
 #[tactic(auto, unfolding(crate::specs::Fields::size_of))]
-fn two(number: &u16) -> usize
+fn size_of_u16(number: &u16) -> usize
     ensures size { size_of Two number.now ≡ Some result }
     ensures small { result ≡ 2 }
 {
-    // as in `one`
+    // as in `size_of_u8`
     know(*number);
     2
 }
 
-/// The bytes of a number of four bytes: 4.
+/// The size of a number of four bytes: 4.
 #[tactic(auto, unfolding(crate::specs::Fields::size_of))]
-fn four(number: &u32) -> usize
+fn size_of_u32(number: &u32) -> usize
     ensures size { size_of Four number.now ≡ Some result }
     ensures small { result ≡ 4 }
 {
-    // as in `one`
+    // as in `size_of_u8`
     know(*number);
     4
 }
 
-/// The bytes of a number of eight bytes: 8.
+/// The size of a number of eight bytes: 8.
 #[tactic(auto, unfolding(crate::specs::Fields::size_of))]
-fn eight(number: &u64) -> usize
+fn size_of_u64(number: &u64) -> usize
     ensures size { size_of Eight number.now ≡ Some result }
     ensures small { result ≡ 8 }
 {
-    // as in `one`
+    // as in `size_of_u8`
     know(*number);
     8
 }
 
-/// The bytes of a qid: 13.
+/// The size of a qid: 13.
 #[tactic(auto, unfolding(crate::specs::Fields::size_of))]
-fn qid(qid: &Qid) -> usize
+fn size_of_qid(qid: &Qid) -> usize
     ensures size { size_of qid_shape (qid_of qid.now) ≡ Some result }
     ensures small { result ≡ 13 }
 {
-    one(&qid.kind) + four(&qid.vers) + eight(&qid.path)
+    size_of_u8(&qid.kind) + size_of_u32(&qid.vers) + size_of_u64(&qid.path)
 }
 
-/// Whether a message can hold the text: it has no NUL.
-fn is_legal(text: &str) -> bool
+/// Whether no byte of the text is NUL, which a text of a message may not have.
+fn has_no_nul(text: &str) -> bool
     ensures { result ≡ is_text text.now }
 {
     !has_nul(text.as_bytes())
 }
 
-/// The bytes of a text, with the two of its length; None if it is too long or has a NUL.
+/// The size of a text, with the two bytes of its length; None if it has a NUL or is longer than
+/// 65,535 bytes.
 #[tactic(auto, unfolding(crate::specs::Fields::size_of))]
-fn text(text: &str) -> Option<usize>
+fn size_of_text(text: &str) -> Option<usize>
     ensures size { result ≡ size_of Text text.now }
     ensures small { IfSome result (λ size. size ≤ 65537) }
 {
-    if text.len() > 65_535 || !is_legal(text) {
+    if text.len() > 65_535 || !has_no_nul(text) {
         return None;
     }
     Some(text.len() + 2)
 }
 
-/// The bytes of data, with the four of their count; None if there are too many.
+/// The size of data, with the four bytes of its count; None if it is longer than 4,294,967,295
+/// bytes.
 #[tactic(auto, unfolding(crate::specs::Fields::size_of))]
-fn raw(bytes: &[u8]) -> Option<usize>
+fn size_of_data(bytes: &[u8]) -> Option<usize>
     ensures size { result ≡ size_of Raw bytes.now }
     ensures small { IfSome result (λ size. size ≤ 4294967299) }
 {
@@ -99,76 +102,80 @@ fn raw(bytes: &[u8]) -> Option<usize>
     Some(bytes.len() + 4)
 }
 
-/// The bytes of all of the texts, each with its length; None if one can't be held.
-fn all_texts(texts: &[String]) -> Option<usize>
-    requires { length texts.now ≤ WALK_NAMES }
-    ensures size { result ≡ sizes_of (size_of Text) (names_of texts.now) }
+/// The sum of the sizes of the names, without a count before them; None if one can't be held.
+fn size_of_each_name(names: &[String]) -> Option<usize>
+    requires { length names.now ≤ WALK_NAMES }
+    ensures size { result ≡ sizes_of (size_of Text) (names_of names.now) }
     ensures small { IfSome result (λ size. size ≤ 1048592) }
 {
     let mut total = 0;
-    for name in texts {
-        total += text(name.as_str())?;
+    for name in names {
+        total += size_of_text(name.as_str())?;
     }
     Some(total)
 }
 
-/// The bytes of all of the qids.
-fn all_qids(qids: &[Qid]) -> usize
+/// The sum of the sizes of the qids, without a count before them.
+fn size_of_each_qid(qids: &[Qid]) -> usize
     requires { length qids.now ≤ WALK_NAMES }
     ensures size { sizes_of (size_of qid_shape) (map qid_of qids.now) ≡ Some result }
     ensures small { result ≤ 208 }
 {
     let mut total = 0;
     for item in qids {
-        total += qid(item);
+        total += size_of_qid(item);
     }
     total
 }
 
-/// The bytes of a walk's names, with the two of their count; None if there are more than 16, or if
-/// one can't be held.
+/// The size of a walk's names, with the two bytes of their count; None if there are more than 16,
+/// or if one can't be held.
 #[tactic(auto, unfolding(crate::specs::Fields::size_of))]
-fn names(wname: &[String]) -> Option<usize>
+fn size_of_names(wname: &[String]) -> Option<usize>
     ensures size { result ≡ size_of (Several Text) (names_of wname.now) }
     ensures small { IfSome result (λ size. size ≤ 1048594) }
 {
     if wname.len() > WALK_NAMES as usize {
         return None;
     }
-    Some(2 + all_texts(wname)?)
+    Some(2 + size_of_each_name(wname)?)
 }
 
-/// The bytes of a walk's qids, with the two of their count; None if there are more than 16.
+/// The size of a walk's qids, with the two bytes of their count; None if there are more than 16.
 #[tactic(auto, unfolding(crate::specs::Fields::size_of))]
-fn qids(wqid: &[Qid]) -> Option<usize>
+fn size_of_qids(wqid: &[Qid]) -> Option<usize>
     ensures size { result ≡ size_of (Several qid_shape) (map qid_of wqid.now) }
     ensures small { IfSome result (λ size. size ≤ 210) }
 {
     if wqid.len() > WALK_NAMES as usize {
         return None;
     }
-    Some(2 + all_qids(wqid))
+    Some(2 + size_of_each_qid(wqid))
 }
 
-/// The bytes of a stat's fields, without a size before them; None if a text can't be held.
+/// The size of a stat's fields, without a size before them; None if one of its texts can't be held.
 #[tactic(auto, unfolding(crate::specs::Fields::size_of))]
-fn stat_fields(stat: &StatRef) -> Option<usize>
+fn size_of_stat_fields(stat: &StatRef) -> Option<usize>
     ensures size { result ≡ size_of stat_shape (stat_in stat.now) }
     ensures small { IfSome result (λ size. size ≤ 300000) }
 {
-    let numbers = two(&stat.kind) + four(&stat.dev) + qid(&stat.qid) + four(&stat.mode);
-    let times = four(&stat.atime) + four(&stat.mtime) + eight(&stat.length);
-    let name = text(stat.name)?;
-    let users = text(stat.uid)? + text(stat.gid)? + text(stat.muid)?;
+    let numbers = size_of_u16(&stat.kind)
+        + size_of_u32(&stat.dev)
+        + size_of_qid(&stat.qid)
+        + size_of_u32(&stat.mode);
+    let times = size_of_u32(&stat.atime) + size_of_u32(&stat.mtime) + size_of_u64(&stat.length);
+    let name = size_of_text(stat.name)?;
+    let users = size_of_text(stat.uid)? + size_of_text(stat.gid)? + size_of_text(stat.muid)?;
     Some(numbers + times + name + users)
 }
 
-/// The bytes of a stat's entry, with the two of its size; None if it has none.
-fn entry(stat: &StatRef) -> Option<usize>
+/// The size of a stat's entry, with the two bytes of its size; None if that is above 65,535, or if
+/// one of its texts can't be held.
+fn size_of_entry(stat: &StatRef) -> Option<usize>
     ensures size { result ≡ entry_size (size_of stat_shape (stat_in stat.now)) }
     ensures small { IfSome result (λ size. size < 65536) }
 {
-    let size = 2 + stat_fields(stat)?;
+    let size = 2 + size_of_stat_fields(stat)?;
     if size > 65_535 {
         return None;
     }
@@ -177,12 +184,16 @@ fn entry(stat: &StatRef) -> Option<usize>
 
 /// The number of bytes of a field; if it can't hold the value, the function returns None.
 macro_rules! field_size {
-    (text $text:ident) => { text($text.as_str())? };
-    (names $names:ident) => { names($names)? };
-    (qids $qids:ident) => { qids($qids)? };
-    (data $bytes:ident) => { raw($bytes)? };
-    (stat $stat:ident) => { 2 + entry(&$stat.borrowed())? };
-    ($number:ident $value:ident) => { self::$number($value) };
+    (u8 $number:ident) => { size_of_u8($number) };
+    (u16 $number:ident) => { size_of_u16($number) };
+    (u32 $number:ident) => { size_of_u32($number) };
+    (u64 $number:ident) => { size_of_u64($number) };
+    (qid $qid:ident) => { size_of_qid($qid) };
+    (text $text:ident) => { size_of_text($text.as_str())? };
+    (names $names:ident) => { size_of_names($names)? };
+    (qids $qids:ident) => { size_of_qids($qids)? };
+    (data $bytes:ident) => { size_of_data($bytes)? };
+    (stat $stat:ident) => { 2 + size_of_entry(&$stat.as_stat_ref())? };
 }
 
 /// The number of bytes of a body's fields, one match arm for each row of the table.
@@ -195,31 +206,32 @@ macro_rules! size_of_body {
     };
 }
 
-/// The bytes of a request's fields; None if one can't hold its value.
+/// The sum of the sizes of a request's fields; None if one can't hold its value.
 #[tactic(auto, unfolding(crate::specs::Fields::size_of))]
-fn of_request(body: &TBody<'_>) -> Option<usize>
+fn size_of_request_fields(body: &TBody<'_>) -> Option<usize>
     ensures size { result ≡ request_size body.now }
     ensures small { IfSome result (λ size. size ≤ 4295000000) }
 {
     each_request!(size_of_body (body TBody))
 }
 
-/// The bytes of a reply's fields; None if one can't hold its value.
+/// The sum of the sizes of a reply's fields; None if one can't hold its value.
 #[tactic(auto, unfolding(crate::specs::Fields::size_of))]
-fn of_reply(body: &RBody) -> Option<usize>
+fn size_of_reply_fields(body: &RBody) -> Option<usize>
     ensures size { result ≡ reply_size body.now }
     ensures small { IfSome result (λ size. size ≤ 4295000000) }
 {
     each_reply!(size_of_body (body RBody))
 }
 
-/// The bytes of a message with these fields, with the seven of size, type and tag before them.
+/// The size of a message whose fields have this size: seven bytes more, for size, type and tag.
+/// None if `fields` is None. Of the tag only its size counts.
 #[tactic(auto, unfolding(crate::specs::Fields::size_of))]
 fn size_with_header(tag: &u16, fields: Option<usize>) -> Option<usize>
     requires { IfSome fields (λ size. size ≤ 4295000000) }
     ensures size { result ≡ sum_if_both (size_of (Four ▸ One ▸ Two) (0, (0, tag.now))) fields }
 {
-    Some(5 + two(tag) + fields?)
+    Some(5 + size_of_u16(tag) + fields?)
 }
 
 impl TMessage<'_> {
@@ -228,18 +240,18 @@ impl TMessage<'_> {
     pub fn fits(&self) -> bool
         ensures { result ≡ true ↔ Fits (t_view self.now) }
     {
-        match size_with_header(&self.tag, of_request(&self.body)) {
+        match size_with_header(&self.tag, size_of_request_fields(&self.body)) {
             Some(length) => length <= MESSAGE_BYTES as usize,
             None => false,
         }
     }
 
-    /// The bytes of its spelling.
+    /// The length of its spelling in bytes. The message must fit.
     pub fn spelled_length(&self) -> usize
         requires { Fits (t_view self.now) }
         ensures { result ≡ length (spelling (t_view self.now)) }
     {
-        size_with_header(&self.tag, of_request(&self.body)).unwrap()
+        size_with_header(&self.tag, size_of_request_fields(&self.body)).unwrap()
     }
 }
 
@@ -249,18 +261,18 @@ impl RMessage {
     pub fn fits(&self) -> bool
         ensures { result ≡ true ↔ Fits (r_view self.now) }
     {
-        match size_with_header(&self.tag, of_reply(&self.body)) {
+        match size_with_header(&self.tag, size_of_reply_fields(&self.body)) {
             Some(length) => length <= MESSAGE_BYTES as usize,
             None => false,
         }
     }
 
-    /// The bytes of its spelling.
+    /// The length of its spelling in bytes. The message must fit.
     pub fn spelled_length(&self) -> usize
         requires { Fits (r_view self.now) }
         ensures { result ≡ length (spelling (r_view self.now)) }
     {
-        size_with_header(&self.tag, of_reply(&self.body)).unwrap()
+        size_with_header(&self.tag, size_of_reply_fields(&self.body)).unwrap()
     }
 }
 
@@ -270,14 +282,14 @@ impl StatRef<'_> {
     pub fn fits(&self) -> bool
         ensures { result ≡ true ↔ IsEntry (stat_in self.now) }
     {
-        entry(self).is_some()
+        size_of_entry(self).is_some()
     }
 
-    /// The number of bytes of its entry, with the two of its size.
+    /// The length of its entry in bytes, with the two of its size. It must have an entry.
     pub fn entry_length(&self) -> usize
         requires { IsEntry (stat_in self.now) }
         ensures { result ≡ length (stat_entry (stat_in self.now)) }
     {
-        entry(self).unwrap()
+        size_of_entry(self).unwrap()
     }
 }

@@ -27,6 +27,7 @@ pub enum FrameFault {
 }
 
 impl fmt::Display for FrameFault {
+    /// Prints the fault in words.
     fn fmt<W: fmt::Write>(&self, f: &mut fmt::Formatter<W>) -> fmt::Result {
         match self {
             FrameFault::Undersize => write!(f, "a message's size is below 7"),
@@ -39,7 +40,7 @@ impl fmt::Display for FrameFault {
 /// Bytes of size, type and tag, which each message has.
 const LEAST_MESSAGE: usize = 7;
 
-/// The size that the bytes begin with, if its four bytes are there.
+/// The size that the bytes begin with; None if its four bytes aren't all there.
 #[tactic(auto, unfolding(crate::specs::Framing::size_in))]
 fn size_in_front(bytes: &[u8]) -> Option<usize>
     ensures { result ≡ size_in bytes.now }
@@ -50,7 +51,8 @@ fn size_in_front(bytes: &[u8]) -> Option<usize>
     }
 }
 
-/// The size of the message that the bytes begin with, if all of it is there.
+/// The size of the message that the bytes begin with; None if not all of its bytes are there yet. A
+/// size below 7 or above 65,536 is a fault as soon as its four bytes are there.
 fn whole_in_front(bytes: &[u8]) -> Result<Option<usize>, FrameFault>
     ensures { FrontIs result bytes.now }
 {
@@ -104,7 +106,7 @@ impl Framer {
     ghost use Rattle.cs_wire.specs.contracts.framer.Framer.{the_row};
     ghost use Rattle.cs_wire.specs.Lending.{LendsRoom};
 
-    /// No bytes, and no memory.
+    /// A framer without bytes, which has allocated nothing.
     pub fn new(alloc: Global) -> Framer
         ensures { result ≡ record { bytes = []; place = 0; room = [] } }
     {
@@ -131,7 +133,7 @@ impl Framer {
         ensures ok { OnOk result (count ≤ length self.new.room) }
         ensures left { pending_bytes self.new ≡ pending_bytes self.old }
         ensures stays { count ≤ length self.old.room → IsOk result × (self.new ≡ self.old) }
-        // A buffer that holds what is left and so many bytes more neither grows nor shrinks.
+        // A buffer that holds the pending bytes and `count` more neither grows nor shrinks.
         ensures enough { length (pending_bytes self.old) + count ≤ size_of self.old → IsOk result
             × (size_of self.new ≡ size_of self.old) }
         ensures err { OnErr result (self.new ≡ self.old) }
@@ -199,7 +201,7 @@ impl Framer {
     }
 
     /// Cut if the stream can't end here: bytes are left that weren't given, either a part of a
-    /// message or whole messages that weren't taken by `next`. The framer stays.
+    /// message or whole messages that weren't taken by `next`.
     pub fn end(&self) -> Result<(), FrameFault>
         ensures { MatchResult result (λ _. pending_bytes self.now ≡ [])
             (λ fault. (fault ≡ FrameFault.Cut) × (pending_bytes self.now ≢ [])) }

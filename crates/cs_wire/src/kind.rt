@@ -1,4 +1,4 @@
-//! The types of messages.
+//! The types of messages, without their fields.
 
 ghost use Rattle.std.specs.Prelude.{◌≡◌};
 ghost use Rattle.cs_wire.specs.Messages.{t_kind_of, r_kind_of};
@@ -54,7 +54,7 @@ macro_rules! kind_of_number {
 }
 
 impl TKind {
-    /// The type of a client's message with that number (intro(5)), if there is one.
+    /// The type of a client's message with that number (intro(5)); None if no request has it.
     #[tactic(auto, unfolding(crate::specs::Messages::t_kind_of))]
     pub fn of_number(number: u8) -> Option<TKind>
         ensures { result ≡ t_kind_of number }
@@ -64,7 +64,7 @@ impl TKind {
 }
 
 impl RKind {
-    /// The type of a reply with that number (intro(5)), if there is one.
+    /// The type of a reply with that number (intro(5)); None if no reply has it.
     #[tactic(auto, unfolding(crate::specs::Messages::r_kind_of))]
     pub fn of_number(number: u8) -> Option<RKind>
         ensures { result ≡ r_kind_of number }

@@ -1,4 +1,4 @@
-//! Messages from bytes.
+//! Messages from bytes: the header here, the fields in `requests` and `replies`.
 
 ghost use Rattle.std.specs.Prelude.{◌≡◌, ◌++◌, ℕ, List, IfOk, IsOk, IsErrOf, Ok};
 ghost use Rattle.cs_wire.specs.declared.fault.WireFault.TheVariants.{Memory};
@@ -11,47 +11,50 @@ use crate::cursor::Cursor;
 use crate::fault::WireFault;
 use crate::kind::{RKind, TKind};
 use crate::message::{RMessage, TMessage};
-use crate::replies::reply;
-use crate::requests::request;
+use crate::replies::read_reply_fields;
+use crate::requests::read_request_fields;
 use std::alloc::Global;
 
-/// The type, the tag and the fields' bytes of a message. Short if it has fewer than 7 bytes, and
-/// SizeLies if its size isn't the number of its bytes.
+/// Reads the first seven bytes of a message, and returns the type's number, the tag and the bytes
+/// of the fields. It is Short if there are fewer than 7 bytes, and SizeLies if the size isn't the
+/// number of all bytes.
 #[tactic(auto, unfolding(crate::specs::Reading::header_at))]
-fn header(bytes: &[u8]) -> Result<(u8, u16, Cursor), WireFault>
+fn read_header(bytes: &[u8]) -> Result<(u8, u16, Cursor), WireFault>
     ensures { IsSeenAs (λ x. (x.0, x.1, x.2.rest.now)) result (header_at bytes.now) }
 {
     if bytes.len() < 7 {
         return Err(WireFault::Short);
     }
     let mut cursor = Cursor { rest: bytes };
-    let size = cursor.four()?;
-    let number = cursor.one()?;
-    let tag = cursor.two()?;
+    let size = cursor.read_u32()?;
+    let number = cursor.read_u8()?;
+    let tag = cursor.read_u16()?;
     if size as usize != bytes.len() {
         return Err(WireFault::SizeLies);
     }
     Ok((number, tag, cursor))
 }
 
-/// The client's message that the bytes spell, or its first fault.
+/// The client's message that the bytes spell, or the first fault. `decode_request` says in its
+/// clauses what that means.
 #[tactic(auto, unfolding(crate::specs::Reading::message_of))]
 fn read_request(alloc: Global, bytes: &[u8]) -> Result<TMessage<'_>, WireFault>
     ensures { IsSeenAsOrMemory t_view result (message_of requests bytes.now) }
 {
-    let (number, tag, fields) = header(bytes)?;
+    let (number, tag, fields) = read_header(bytes)?;
     let kind = TKind::of_number(number).ok_or(WireFault::UnknownType)?;
-    request(alloc, kind, tag, fields)
+    read_request_fields(alloc, kind, tag, fields)
 }
 
-/// The reply that the bytes spell, or its first fault.
+/// The reply that the bytes spell, or the first fault. `decode_reply` says in its clauses what that
+/// means.
 #[tactic(auto, unfolding(crate::specs::Reading::message_of))]
 fn read_reply(alloc: Global, bytes: &[u8]) -> Result<RMessage, WireFault>
     ensures { IsSeenAsOrMemory r_view result (message_of replies bytes.now) }
 {
-    let (number, tag, fields) = header(bytes)?;
+    let (number, tag, fields) = read_header(bytes)?;
     let kind = RKind::of_number(number).ok_or(WireFault::UnknownType)?;
-    reply(alloc, kind, tag, fields)
+    read_reply_fields(alloc, kind, tag, fields)
 }
 
 /// The client's message that the bytes spell, all of the bytes (intro(5)).
@@ -76,7 +79,8 @@ pub fn decode_request(alloc: Global, bytes: &[u8]) -> Result<TMessage<'_>, WireF
     read_request(alloc, bytes)
 }
 
-/// The reply that the bytes spell, or the first fault, as `decode_request`.
+/// The reply that the bytes spell, all of the bytes, or the first fault, in the order of
+/// `decode_request`. The data of an Rread is copied.
 pub fn decode_reply(alloc: Global, bytes: &[u8]) -> Result<RMessage, WireFault>
     // What is read is spelled so.
     ensures found { IfOk result (λ m. IsMessage (r_view m) × (bytes.now ≡ spelling (r_view m))) }

@@ -1,11 +1,12 @@
-//! Each reply from all of the bytes of a cursor, read and copied as requests are.
+//! The fields of each reply, read and copied in the order of `requests`. The data of a read is
+//! copied too.
 
 ghost use Rattle.cs_wire.specs.declared.kind.RKind.TheVariants as rk;
 ghost use Rattle.cs_wire.specs.Messages.{replies, r_view};
 ghost use Rattle.cs_wire.specs.Reading.{all_of};
 ghost use Rattle.cs_wire.specs.Answers.{IsSeenAsOrMemory, IsSeenAs};
 
-use crate::copying::{items_copied, text_copied};
+use crate::copying::{copy_items, copy_text};
 use crate::cursor::Cursor;
 use crate::fault::WireFault;
 use crate::kind::RKind;
@@ -13,194 +14,194 @@ use crate::message::{RBody, RMessage};
 use std::alloc::Global;
 use std::borrow::CowStr;
 
-/// Reads the fields of an Rversion.
+/// Reads the fields of an Rversion: msize and version.
 #[tactic(auto, unfolding(crate::specs::Reading::all_of, crate::specs::Reading::field_at))]
-fn version(alloc: Global, tag: u16, mut fields: Cursor) -> Result<RMessage, WireFault>
+fn read_rversion(alloc: Global, tag: u16, mut fields: Cursor) -> Result<RMessage, WireFault>
     ensures { IsSeenAsOrMemory r_view result (all_of replies rk.Version tag fields.entry.rest.now) }
 {
-    let msize = fields.four()?;
-    let version = fields.text()?;
-    fields.end()?;
-    let version = CowStr::Owned(text_copied(alloc, version)?);
+    let msize = fields.read_u32()?;
+    let version = fields.read_text()?;
+    fields.expect_end()?;
+    let version = CowStr::Owned(copy_text(alloc, version)?);
     Ok(RMessage {
         tag,
         body: RBody::Version { msize, version },
     })
 }
 
-/// Reads the fields of an Rauth.
+/// Reads the fields of an Rauth: aqid.
 #[tactic(auto, unfolding(crate::specs::Reading::all_of))]
-fn auth(tag: u16, mut fields: Cursor) -> Result<RMessage, WireFault>
+fn read_rauth(tag: u16, mut fields: Cursor) -> Result<RMessage, WireFault>
     ensures { IsSeenAs r_view result (all_of replies rk.Auth tag fields.entry.rest.now) }
 {
-    let aqid = fields.qid()?;
-    fields.end()?;
+    let aqid = fields.read_qid()?;
+    fields.expect_end()?;
     Ok(RMessage {
         tag,
         body: RBody::Auth { aqid },
     })
 }
 
-/// Reads the fields of an Rattach.
+/// Reads the fields of an Rattach: qid.
 #[tactic(auto, unfolding(crate::specs::Reading::all_of))]
-fn attach(tag: u16, mut fields: Cursor) -> Result<RMessage, WireFault>
+fn read_rattach(tag: u16, mut fields: Cursor) -> Result<RMessage, WireFault>
     ensures { IsSeenAs r_view result (all_of replies rk.Attach tag fields.entry.rest.now) }
 {
-    let qid = fields.qid()?;
-    fields.end()?;
+    let qid = fields.read_qid()?;
+    fields.expect_end()?;
     Ok(RMessage {
         tag,
         body: RBody::Attach { qid },
     })
 }
 
-/// Reads the fields of an Rerror.
+/// Reads the fields of an Rerror: ename.
 #[tactic(auto, unfolding(crate::specs::Reading::all_of))]
-fn error(alloc: Global, tag: u16, mut fields: Cursor) -> Result<RMessage, WireFault>
+fn read_rerror(alloc: Global, tag: u16, mut fields: Cursor) -> Result<RMessage, WireFault>
     ensures { IsSeenAsOrMemory r_view result (all_of replies rk.Error tag fields.entry.rest.now) }
 {
-    let ename = fields.text()?;
-    fields.end()?;
-    let ename = CowStr::Owned(text_copied(alloc, ename)?);
+    let ename = fields.read_text()?;
+    fields.expect_end()?;
+    let ename = CowStr::Owned(copy_text(alloc, ename)?);
     Ok(RMessage {
         tag,
         body: RBody::Error { ename },
     })
 }
 
-/// Reads the fields of an Rflush, which has none.
+/// Reads an Rflush, which has no fields: any byte is Trailing.
 #[tactic(auto, unfolding(crate::specs::Reading::all_of, crate::specs::Reading::field_at))]
-fn flush(tag: u16, fields: Cursor) -> Result<RMessage, WireFault>
+fn read_rflush(tag: u16, fields: Cursor) -> Result<RMessage, WireFault>
     ensures { IsSeenAs r_view result (all_of replies rk.Flush tag fields.entry.rest.now) }
 {
-    fields.end()?;
+    fields.expect_end()?;
     Ok(RMessage {
         tag,
         body: RBody::Flush,
     })
 }
 
-/// Reads the fields of an Rwalk, of at most 16 qids.
+/// Reads the fields of an Rwalk: at most 16 qids.
 #[tactic(auto, unfolding(crate::specs::Reading::all_of, crate::specs::Reading::field_at))]
-fn walk(alloc: Global, tag: u16, mut fields: Cursor) -> Result<RMessage, WireFault>
+fn read_rwalk(alloc: Global, tag: u16, mut fields: Cursor) -> Result<RMessage, WireFault>
     ensures { IsSeenAsOrMemory r_view result (all_of replies rk.Walk tag fields.entry.rest.now) }
 {
-    let wqid = fields.qids()?;
-    fields.end()?;
-    let wqid = items_copied(alloc, wqid.as_slice())?;
+    let wqid = fields.read_qids()?;
+    fields.expect_end()?;
+    let wqid = copy_items(alloc, wqid.as_slice())?;
     Ok(RMessage {
         tag,
         body: RBody::Walk { wqid },
     })
 }
 
-/// Reads the fields of an Ropen.
+/// Reads the fields of an Ropen: qid and iounit.
 #[tactic(auto, unfolding(crate::specs::Reading::all_of, crate::specs::Reading::field_at))]
-fn open(tag: u16, mut fields: Cursor) -> Result<RMessage, WireFault>
+fn read_ropen(tag: u16, mut fields: Cursor) -> Result<RMessage, WireFault>
     ensures { IsSeenAs r_view result (all_of replies rk.Open tag fields.entry.rest.now) }
 {
-    let qid = fields.qid()?;
-    let iounit = fields.four()?;
-    fields.end()?;
+    let qid = fields.read_qid()?;
+    let iounit = fields.read_u32()?;
+    fields.expect_end()?;
     Ok(RMessage {
         tag,
         body: RBody::Open { qid, iounit },
     })
 }
 
-/// Reads the fields of an Rcreate.
+/// Reads the fields of an Rcreate: qid and iounit.
 #[tactic(auto, unfolding(crate::specs::Reading::all_of, crate::specs::Reading::field_at))]
-fn create(tag: u16, mut fields: Cursor) -> Result<RMessage, WireFault>
+fn read_rcreate(tag: u16, mut fields: Cursor) -> Result<RMessage, WireFault>
     ensures { IsSeenAs r_view result (all_of replies rk.Create tag fields.entry.rest.now) }
 {
-    let qid = fields.qid()?;
-    let iounit = fields.four()?;
-    fields.end()?;
+    let qid = fields.read_qid()?;
+    let iounit = fields.read_u32()?;
+    fields.expect_end()?;
     Ok(RMessage {
         tag,
         body: RBody::Create { qid, iounit },
     })
 }
 
-/// Reads the fields of an Rread, and copies its data.
+/// Reads the fields of an Rread: data, which is copied.
 #[tactic(auto, unfolding(crate::specs::Reading::all_of, crate::specs::Reading::field_at))]
-fn read(alloc: Global, tag: u16, mut fields: Cursor) -> Result<RMessage, WireFault>
+fn read_rread(alloc: Global, tag: u16, mut fields: Cursor) -> Result<RMessage, WireFault>
     ensures { IsSeenAsOrMemory r_view result (all_of replies rk.Read tag fields.entry.rest.now) }
 {
-    let data = fields.data()?;
-    fields.end()?;
-    let data = items_copied(alloc, data)?;
+    let data = fields.read_data()?;
+    fields.expect_end()?;
+    let data = copy_items(alloc, data)?;
     Ok(RMessage {
         tag,
         body: RBody::Read { data },
     })
 }
 
-/// Reads the fields of an Rwrite.
+/// Reads the fields of an Rwrite: count.
 #[tactic(auto, unfolding(crate::specs::Reading::all_of, crate::specs::Reading::field_at))]
-fn write(tag: u16, mut fields: Cursor) -> Result<RMessage, WireFault>
+fn read_rwrite(tag: u16, mut fields: Cursor) -> Result<RMessage, WireFault>
     ensures { IsSeenAs r_view result (all_of replies rk.Write tag fields.entry.rest.now) }
 {
-    let count = fields.four()?;
-    fields.end()?;
+    let count = fields.read_u32()?;
+    fields.expect_end()?;
     Ok(RMessage {
         tag,
         body: RBody::Write { count },
     })
 }
 
-/// Reads the fields of an Rclunk, which has none.
+/// Reads an Rclunk, which has no fields: any byte is Trailing.
 #[tactic(auto, unfolding(crate::specs::Reading::all_of, crate::specs::Reading::field_at))]
-fn clunk(tag: u16, fields: Cursor) -> Result<RMessage, WireFault>
+fn read_rclunk(tag: u16, fields: Cursor) -> Result<RMessage, WireFault>
     ensures { IsSeenAs r_view result (all_of replies rk.Clunk tag fields.entry.rest.now) }
 {
-    fields.end()?;
+    fields.expect_end()?;
     Ok(RMessage {
         tag,
         body: RBody::Clunk,
     })
 }
 
-/// Reads the fields of an Rremove, which has none.
+/// Reads an Rremove, which has no fields: any byte is Trailing.
 #[tactic(auto, unfolding(crate::specs::Reading::all_of, crate::specs::Reading::field_at))]
-fn remove(tag: u16, fields: Cursor) -> Result<RMessage, WireFault>
+fn read_rremove(tag: u16, fields: Cursor) -> Result<RMessage, WireFault>
     ensures { IsSeenAs r_view result (all_of replies rk.Remove tag fields.entry.rest.now) }
 {
-    fields.end()?;
+    fields.expect_end()?;
     Ok(RMessage {
         tag,
         body: RBody::Remove,
     })
 }
 
-/// Reads the fields of an Rstat.
+/// Reads the fields of an Rstat: stat.
 #[tactic(auto, unfolding(crate::specs::Reading::all_of, crate::specs::Reading::field_at))]
-fn stat(alloc: Global, tag: u16, mut fields: Cursor) -> Result<RMessage, WireFault>
+fn read_rstat(alloc: Global, tag: u16, mut fields: Cursor) -> Result<RMessage, WireFault>
     ensures { IsSeenAsOrMemory r_view result (all_of replies rk.Stat tag fields.entry.rest.now) }
 {
-    let stat = fields.stat()?;
-    fields.end()?;
-    let stat = stat.copied(alloc)?;
+    let stat = fields.read_stat()?;
+    fields.expect_end()?;
+    let stat = stat.to_stat(alloc)?;
     Ok(RMessage {
         tag,
         body: RBody::Stat { stat },
     })
 }
 
-/// Reads the fields of an Rwstat, which has none.
+/// Reads an Rwstat, which has no fields: any byte is Trailing.
 #[tactic(auto, unfolding(crate::specs::Reading::all_of, crate::specs::Reading::field_at))]
-fn wstat(tag: u16, fields: Cursor) -> Result<RMessage, WireFault>
+fn read_rwstat(tag: u16, fields: Cursor) -> Result<RMessage, WireFault>
     ensures { IsSeenAs r_view result (all_of replies rk.Wstat tag fields.entry.rest.now) }
 {
-    fields.end()?;
+    fields.expect_end()?;
     Ok(RMessage {
         tag,
         body: RBody::Wstat,
     })
 }
 
-/// The reply of that type and tag whose fields are all of the bytes.
-pub(crate) fn reply(
+/// The reply of that type and tag whose fields are all of the bytes, or the first fault.
+pub(crate) fn read_reply_fields(
     alloc: Global,
     kind: RKind,
     tag: u16,
@@ -209,19 +210,19 @@ pub(crate) fn reply(
     ensures { IsSeenAsOrMemory r_view result (all_of replies kind tag fields.entry.rest.now) }
 {
     match kind {
-        RKind::Version => version(alloc, tag, fields),
-        RKind::Auth => auth(tag, fields),
-        RKind::Attach => attach(tag, fields),
-        RKind::Error => error(alloc, tag, fields),
-        RKind::Flush => flush(tag, fields),
-        RKind::Walk => walk(alloc, tag, fields),
-        RKind::Open => open(tag, fields),
-        RKind::Create => create(tag, fields),
-        RKind::Read => read(alloc, tag, fields),
-        RKind::Write => write(tag, fields),
-        RKind::Clunk => clunk(tag, fields),
-        RKind::Remove => remove(tag, fields),
-        RKind::Stat => stat(alloc, tag, fields),
-        RKind::Wstat => wstat(tag, fields),
+        RKind::Version => read_rversion(alloc, tag, fields),
+        RKind::Auth => read_rauth(tag, fields),
+        RKind::Attach => read_rattach(tag, fields),
+        RKind::Error => read_rerror(alloc, tag, fields),
+        RKind::Flush => read_rflush(tag, fields),
+        RKind::Walk => read_rwalk(alloc, tag, fields),
+        RKind::Open => read_ropen(tag, fields),
+        RKind::Create => read_rcreate(tag, fields),
+        RKind::Read => read_rread(alloc, tag, fields),
+        RKind::Write => read_rwrite(tag, fields),
+        RKind::Clunk => read_rclunk(tag, fields),
+        RKind::Remove => read_rremove(tag, fields),
+        RKind::Stat => read_rstat(alloc, tag, fields),
+        RKind::Wstat => read_rwstat(tag, fields),
     }
 }

@@ -1,220 +1,220 @@
-//! Each request from all of the bytes of a cursor: first its fields are read, then no byte may be
-//! left, and only then are they copied, so that Memory is the last fault. The data of a write is
-//! lent, not copied.
+//! The fields of each request. They must be all of the bytes of the cursor: first they are read,
+//! then no byte may be left, and only then are they copied, so that Memory is the last fault. The
+//! data of a write is lent, not copied. What comes before the fields is read in `reading`.
 
 ghost use Rattle.cs_wire.specs.declared.kind.TKind.TheVariants as tk;
 ghost use Rattle.cs_wire.specs.Messages.{requests, t_view};
 ghost use Rattle.cs_wire.specs.Reading.{all_of};
 ghost use Rattle.cs_wire.specs.Answers.{IsSeenAsOrMemory, IsSeenAs};
 
-use crate::copying::{names_copied, text_copied};
+use crate::copying::{copy_names, copy_text};
 use crate::cursor::Cursor;
 use crate::fault::WireFault;
 use crate::kind::TKind;
 use crate::message::{TBody, TMessage};
 use std::alloc::Global;
 
-/// Reads the fields of a Tversion.
+/// Reads the fields of a Tversion: msize and version.
 #[tactic(auto, unfolding(crate::specs::Reading::all_of, crate::specs::Reading::field_at))]
-fn version(alloc: Global, tag: u16, mut fields: Cursor<'_>) -> Result<TMessage<'_>, WireFault>
+fn read_tversion(alloc: Global, tag: u16, mut fields: Cursor<'_>) -> Result<TMessage<'_>, WireFault>
     ensures { IsSeenAsOrMemory t_view result
         (all_of requests tk.Version tag fields.entry.rest.now) }
 {
-    let msize = fields.four()?;
-    let version = fields.text()?;
-    fields.end()?;
+    let msize = fields.read_u32()?;
+    let version = fields.read_text()?;
+    fields.expect_end()?;
     let body = TBody::Version {
         msize,
-        version: text_copied(alloc, version)?,
+        version: copy_text(alloc, version)?,
     };
     Ok(TMessage { tag, body })
 }
 
-/// Reads the fields of a Tauth.
+/// Reads the fields of a Tauth: afid, uname and aname.
 #[tactic(auto, unfolding(crate::specs::Reading::all_of, crate::specs::Reading::field_at))]
-fn auth(alloc: Global, tag: u16, mut fields: Cursor<'_>) -> Result<TMessage<'_>, WireFault>
+fn read_tauth(alloc: Global, tag: u16, mut fields: Cursor<'_>) -> Result<TMessage<'_>, WireFault>
     ensures { IsSeenAsOrMemory t_view result (all_of requests tk.Auth tag fields.entry.rest.now) }
 {
-    let afid = fields.four()?;
-    let uname = fields.text()?;
-    let aname = fields.text()?;
-    fields.end()?;
+    let afid = fields.read_u32()?;
+    let uname = fields.read_text()?;
+    let aname = fields.read_text()?;
+    fields.expect_end()?;
     let body = TBody::Auth {
         afid,
-        uname: text_copied(alloc, uname)?,
-        aname: text_copied(alloc, aname)?,
+        uname: copy_text(alloc, uname)?,
+        aname: copy_text(alloc, aname)?,
     };
     Ok(TMessage { tag, body })
 }
 
-/// Reads the fields of a Tattach.
+/// Reads the fields of a Tattach: fid, afid, uname and aname.
 #[tactic(auto, unfolding(crate::specs::Reading::all_of, crate::specs::Reading::field_at))]
-fn attach(alloc: Global, tag: u16, mut fields: Cursor<'_>) -> Result<TMessage<'_>, WireFault>
+fn read_tattach(alloc: Global, tag: u16, mut fields: Cursor<'_>) -> Result<TMessage<'_>, WireFault>
     ensures { IsSeenAsOrMemory t_view result (all_of requests tk.Attach tag fields.entry.rest.now) }
 {
-    let fid = fields.four()?;
-    let afid = fields.four()?;
-    let uname = fields.text()?;
-    let aname = fields.text()?;
-    fields.end()?;
+    let fid = fields.read_u32()?;
+    let afid = fields.read_u32()?;
+    let uname = fields.read_text()?;
+    let aname = fields.read_text()?;
+    fields.expect_end()?;
     let body = TBody::Attach {
         fid,
         afid,
-        uname: text_copied(alloc, uname)?,
-        aname: text_copied(alloc, aname)?,
+        uname: copy_text(alloc, uname)?,
+        aname: copy_text(alloc, aname)?,
     };
     Ok(TMessage { tag, body })
 }
 
-/// Reads the fields of a Tflush.
+/// Reads the fields of a Tflush: oldtag.
 #[tactic(auto, unfolding(crate::specs::Reading::all_of, crate::specs::Reading::field_at))]
-fn flush(tag: u16, mut fields: Cursor<'_>) -> Result<TMessage<'_>, WireFault>
+fn read_tflush(tag: u16, mut fields: Cursor<'_>) -> Result<TMessage<'_>, WireFault>
     ensures { IsSeenAs t_view result (all_of requests tk.Flush tag fields.entry.rest.now) }
 {
-    let oldtag = fields.two()?;
-    fields.end()?;
+    let oldtag = fields.read_u16()?;
+    fields.expect_end()?;
     Ok(TMessage {
         tag,
         body: TBody::Flush { oldtag },
     })
 }
 
-/// Reads the fields of a Twalk, of at most 16 names.
+/// Reads the fields of a Twalk: fid, newfid, and at most 16 names.
 #[tactic(auto, unfolding(crate::specs::Reading::all_of, crate::specs::Reading::field_at))]
-fn walk(alloc: Global, tag: u16, mut fields: Cursor<'_>) -> Result<TMessage<'_>, WireFault>
+fn read_twalk(alloc: Global, tag: u16, mut fields: Cursor<'_>) -> Result<TMessage<'_>, WireFault>
     ensures { IsSeenAsOrMemory t_view result (all_of requests tk.Walk tag fields.entry.rest.now) }
 {
-    let fid = fields.four()?;
-    let newfid = fields.four()?;
-    let wname = fields.names()?;
-    fields.end()?;
+    let fid = fields.read_u32()?;
+    let newfid = fields.read_u32()?;
+    let wname = fields.read_names()?;
+    fields.expect_end()?;
     let body = TBody::Walk {
         fid,
         newfid,
-        wname: names_copied(alloc, wname.as_slice())?,
+        wname: copy_names(alloc, wname.as_slice())?,
     };
     Ok(TMessage { tag, body })
 }
 
-/// Reads the fields of a Topen.
+/// Reads the fields of a Topen: fid and mode.
 #[tactic(auto, unfolding(crate::specs::Reading::all_of, crate::specs::Reading::field_at))]
-fn open(tag: u16, mut fields: Cursor<'_>) -> Result<TMessage<'_>, WireFault>
+fn read_topen(tag: u16, mut fields: Cursor<'_>) -> Result<TMessage<'_>, WireFault>
     ensures { IsSeenAs t_view result (all_of requests tk.Open tag fields.entry.rest.now) }
 {
-    let fid = fields.four()?;
-    let mode = fields.one()?;
-    fields.end()?;
+    let fid = fields.read_u32()?;
+    let mode = fields.read_u8()?;
+    fields.expect_end()?;
     Ok(TMessage {
         tag,
         body: TBody::Open { fid, mode },
     })
 }
 
-/// Reads the fields of a Tcreate.
+/// Reads the fields of a Tcreate: fid, name, perm and mode.
 #[tactic(auto, unfolding(crate::specs::Reading::all_of, crate::specs::Reading::field_at))]
-fn create(alloc: Global, tag: u16, mut fields: Cursor<'_>) -> Result<TMessage<'_>, WireFault>
+fn read_tcreate(alloc: Global, tag: u16, mut fields: Cursor<'_>) -> Result<TMessage<'_>, WireFault>
     ensures { IsSeenAsOrMemory t_view result (all_of requests tk.Create tag fields.entry.rest.now) }
 {
-    let fid = fields.four()?;
-    let name = fields.text()?;
-    let perm = fields.four()?;
-    let mode = fields.one()?;
-    fields.end()?;
+    let fid = fields.read_u32()?;
+    let name = fields.read_text()?;
+    let perm = fields.read_u32()?;
+    let mode = fields.read_u8()?;
+    fields.expect_end()?;
     let body = TBody::Create {
         fid,
-        name: text_copied(alloc, name)?,
+        name: copy_text(alloc, name)?,
         perm,
         mode,
     };
     Ok(TMessage { tag, body })
 }
 
-/// Reads the fields of a Tread.
+/// Reads the fields of a Tread: fid, offset and count.
 #[tactic(auto, unfolding(crate::specs::Reading::all_of, crate::specs::Reading::field_at))]
-fn read(tag: u16, mut fields: Cursor<'_>) -> Result<TMessage<'_>, WireFault>
+fn read_tread(tag: u16, mut fields: Cursor<'_>) -> Result<TMessage<'_>, WireFault>
     ensures { IsSeenAs t_view result (all_of requests tk.Read tag fields.entry.rest.now) }
 {
-    let fid = fields.four()?;
-    let offset = fields.eight()?;
-    let count = fields.four()?;
-    fields.end()?;
+    let fid = fields.read_u32()?;
+    let offset = fields.read_u64()?;
+    let count = fields.read_u32()?;
+    fields.expect_end()?;
     Ok(TMessage {
         tag,
         body: TBody::Read { fid, offset, count },
     })
 }
 
-/// Reads the fields of a Twrite, whose data is lent by the bytes.
+/// Reads the fields of a Twrite: fid, offset, and data, which is lent from the bytes.
 #[tactic(auto, unfolding(crate::specs::Reading::all_of, crate::specs::Reading::field_at))]
-fn write(tag: u16, mut fields: Cursor<'_>) -> Result<TMessage<'_>, WireFault>
+fn read_twrite(tag: u16, mut fields: Cursor<'_>) -> Result<TMessage<'_>, WireFault>
     ensures { IsSeenAs t_view result (all_of requests tk.Write tag fields.entry.rest.now) }
 {
-    let fid = fields.four()?;
-    let offset = fields.eight()?;
-    let data = fields.data()?;
-    fields.end()?;
+    let fid = fields.read_u32()?;
+    let offset = fields.read_u64()?;
+    let data = fields.read_data()?;
+    fields.expect_end()?;
     Ok(TMessage {
         tag,
         body: TBody::Write { fid, offset, data },
     })
 }
 
-/// Reads the fields of a Tclunk.
+/// Reads the fields of a Tclunk: fid.
 #[tactic(auto, unfolding(crate::specs::Reading::all_of, crate::specs::Reading::field_at))]
-fn clunk(tag: u16, mut fields: Cursor<'_>) -> Result<TMessage<'_>, WireFault>
+fn read_tclunk(tag: u16, mut fields: Cursor<'_>) -> Result<TMessage<'_>, WireFault>
     ensures { IsSeenAs t_view result (all_of requests tk.Clunk tag fields.entry.rest.now) }
 {
-    let fid = fields.four()?;
-    fields.end()?;
+    let fid = fields.read_u32()?;
+    fields.expect_end()?;
     Ok(TMessage {
         tag,
         body: TBody::Clunk { fid },
     })
 }
 
-/// Reads the fields of a Tremove.
+/// Reads the fields of a Tremove: fid.
 #[tactic(auto, unfolding(crate::specs::Reading::all_of, crate::specs::Reading::field_at))]
-fn remove(tag: u16, mut fields: Cursor<'_>) -> Result<TMessage<'_>, WireFault>
+fn read_tremove(tag: u16, mut fields: Cursor<'_>) -> Result<TMessage<'_>, WireFault>
     ensures { IsSeenAs t_view result (all_of requests tk.Remove tag fields.entry.rest.now) }
 {
-    let fid = fields.four()?;
-    fields.end()?;
+    let fid = fields.read_u32()?;
+    fields.expect_end()?;
     Ok(TMessage {
         tag,
         body: TBody::Remove { fid },
     })
 }
 
-/// Reads the fields of a Tstat.
+/// Reads the fields of a Tstat: fid.
 #[tactic(auto, unfolding(crate::specs::Reading::all_of, crate::specs::Reading::field_at))]
-fn stat(tag: u16, mut fields: Cursor<'_>) -> Result<TMessage<'_>, WireFault>
+fn read_tstat(tag: u16, mut fields: Cursor<'_>) -> Result<TMessage<'_>, WireFault>
     ensures { IsSeenAs t_view result (all_of requests tk.Stat tag fields.entry.rest.now) }
 {
-    let fid = fields.four()?;
-    fields.end()?;
+    let fid = fields.read_u32()?;
+    fields.expect_end()?;
     Ok(TMessage {
         tag,
         body: TBody::Stat { fid },
     })
 }
 
-/// Reads the fields of a Twstat.
+/// Reads the fields of a Twstat: fid and stat.
 #[tactic(auto, unfolding(crate::specs::Reading::all_of, crate::specs::Reading::field_at))]
-fn wstat(alloc: Global, tag: u16, mut fields: Cursor<'_>) -> Result<TMessage<'_>, WireFault>
+fn read_twstat(alloc: Global, tag: u16, mut fields: Cursor<'_>) -> Result<TMessage<'_>, WireFault>
     ensures { IsSeenAsOrMemory t_view result (all_of requests tk.Wstat tag fields.entry.rest.now) }
 {
-    let fid = fields.four()?;
-    let stat = fields.stat()?;
-    fields.end()?;
+    let fid = fields.read_u32()?;
+    let stat = fields.read_stat()?;
+    fields.expect_end()?;
     let body = TBody::Wstat {
         fid,
-        stat: stat.copied(alloc)?,
+        stat: stat.to_stat(alloc)?,
     };
     Ok(TMessage { tag, body })
 }
 
-/// The request of that type and tag whose fields are all of the bytes.
-pub(crate) fn request(
+/// The request of that type and tag whose fields are all of the bytes, or the first fault.
+pub(crate) fn read_request_fields(
     alloc: Global,
     kind: TKind,
     tag: u16,
@@ -223,18 +223,18 @@ pub(crate) fn request(
     ensures { IsSeenAsOrMemory t_view result (all_of requests kind tag fields.entry.rest.now) }
 {
     match kind {
-        TKind::Version => version(alloc, tag, fields),
-        TKind::Auth => auth(alloc, tag, fields),
-        TKind::Attach => attach(alloc, tag, fields),
-        TKind::Flush => flush(tag, fields),
-        TKind::Walk => walk(alloc, tag, fields),
-        TKind::Open => open(tag, fields),
-        TKind::Create => create(alloc, tag, fields),
-        TKind::Read => read(tag, fields),
-        TKind::Write => write(tag, fields),
-        TKind::Clunk => clunk(tag, fields),
-        TKind::Remove => remove(tag, fields),
-        TKind::Stat => stat(tag, fields),
-        TKind::Wstat => wstat(alloc, tag, fields),
+        TKind::Version => read_tversion(alloc, tag, fields),
+        TKind::Auth => read_tauth(alloc, tag, fields),
+        TKind::Attach => read_tattach(alloc, tag, fields),
+        TKind::Flush => read_tflush(tag, fields),
+        TKind::Walk => read_twalk(alloc, tag, fields),
+        TKind::Open => read_topen(tag, fields),
+        TKind::Create => read_tcreate(alloc, tag, fields),
+        TKind::Read => read_tread(tag, fields),
+        TKind::Write => read_twrite(tag, fields),
+        TKind::Clunk => read_tclunk(tag, fields),
+        TKind::Remove => read_tremove(tag, fields),
+        TKind::Stat => read_tstat(tag, fields),
+        TKind::Wstat => read_twstat(alloc, tag, fields),
     }
 }

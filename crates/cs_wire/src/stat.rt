@@ -1,10 +1,10 @@
-//! A stat whose texts are borrowed.
+//! A stat whose texts are borrowed, and copies between it and one that owns them.
 
 ghost use Rattle.std.specs.Prelude.{◌≡◌, IfOk, OnErr, true};
 ghost use Rattle.cs_wire.specs.Fields.{holds_bytes};
 ghost use Rattle.cs_wire.specs.Messages.{stat_in, stat_of, stat_shape};
 
-use crate::copying::text_copied;
+use crate::copying::copy_text;
 use crate::message::{Qid, Stat};
 use std::alloc::{AllocError, Global};
 
@@ -25,8 +25,8 @@ pub struct StatRef<'a> {
 }
 
 impl StatRef<'_> {
-    /// A stat with copies of the texts. It allocates only if one of them isn't empty.
-    pub fn copied(&self, alloc: Global) -> Result<Stat, AllocError>
+    /// Copies the texts into a stat that owns them. It allocates only if a text isn't empty.
+    pub fn to_stat(&self, alloc: Global) -> Result<Stat, AllocError>
         ensures same { IfOk result (λ copy. stat_of copy ≡ stat_in self.now) }
         ensures grows { OnErr result (holds_bytes stat_shape (stat_in self.now) ≡ true) }
     {
@@ -38,17 +38,17 @@ impl StatRef<'_> {
             atime: self.atime,
             mtime: self.mtime,
             length: self.length,
-            name: text_copied(alloc, self.name)?,
-            uid: text_copied(alloc, self.uid)?,
-            gid: text_copied(alloc, self.gid)?,
-            muid: text_copied(alloc, self.muid)?,
+            name: copy_text(alloc, self.name)?,
+            uid: copy_text(alloc, self.uid)?,
+            gid: copy_text(alloc, self.gid)?,
+            muid: copy_text(alloc, self.muid)?,
         })
     }
 }
 
 impl Stat {
     /// The same stat, with its texts borrowed.
-    pub fn borrowed(&self) -> StatRef<'_>
+    pub fn as_stat_ref(&self) -> StatRef<'_>
         ensures { stat_in result ≡ stat_of self.now }
     {
         StatRef {

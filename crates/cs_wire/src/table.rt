@@ -1,23 +1,24 @@
 //! Each type of message: its name, its number, and its fields in the manual's order by what they
-//! hold. A macro that gets the table writes one match arm for each row.
+//! hold. A field of `u8` to `u64` is a number, `names` and `qids` are those of a walk, and `data`
+//! is bytes after their count. A macro that gets the table writes one match arm for each row.
 
 /// The messages that clients send.
 macro_rules! each_request {
     ($rows:ident $args:tt) => {
         $rows! { $args
-            Version "Tversion" 100 { msize: four, version: text }
-            Auth "Tauth" 102 { afid: four, uname: text, aname: text }
-            Attach "Tattach" 104 { fid: four, afid: four, uname: text, aname: text }
-            Flush "Tflush" 108 { oldtag: two }
-            Walk "Twalk" 110 { fid: four, newfid: four, wname: names }
-            Open "Topen" 112 { fid: four, mode: one }
-            Create "Tcreate" 114 { fid: four, name: text, perm: four, mode: one }
-            Read "Tread" 116 { fid: four, offset: eight, count: four }
-            Write "Twrite" 118 { fid: four, offset: eight, data: data }
-            Clunk "Tclunk" 120 { fid: four }
-            Remove "Tremove" 122 { fid: four }
-            Stat "Tstat" 124 { fid: four }
-            Wstat "Twstat" 126 { fid: four, stat: stat }
+            Version "Tversion" 100 { msize: u32, version: text }
+            Auth "Tauth" 102 { afid: u32, uname: text, aname: text }
+            Attach "Tattach" 104 { fid: u32, afid: u32, uname: text, aname: text }
+            Flush "Tflush" 108 { oldtag: u16 }
+            Walk "Twalk" 110 { fid: u32, newfid: u32, wname: names }
+            Open "Topen" 112 { fid: u32, mode: u8 }
+            Create "Tcreate" 114 { fid: u32, name: text, perm: u32, mode: u8 }
+            Read "Tread" 116 { fid: u32, offset: u64, count: u32 }
+            Write "Twrite" 118 { fid: u32, offset: u64, data: data }
+            Clunk "Tclunk" 120 { fid: u32 }
+            Remove "Tremove" 122 { fid: u32 }
+            Stat "Tstat" 124 { fid: u32 }
+            Wstat "Twstat" 126 { fid: u32, stat: stat }
         }
     };
 }
@@ -26,16 +27,16 @@ macro_rules! each_request {
 macro_rules! each_reply {
     ($rows:ident $args:tt) => {
         $rows! { $args
-            Version "Rversion" 101 { msize: four, version: text }
+            Version "Rversion" 101 { msize: u32, version: text }
             Auth "Rauth" 103 { aqid: qid }
             Attach "Rattach" 105 { qid: qid }
             Error "Rerror" 107 { ename: text }
             Flush "Rflush" 109 {}
             Walk "Rwalk" 111 { wqid: qids }
-            Open "Ropen" 113 { qid: qid, iounit: four }
-            Create "Rcreate" 115 { qid: qid, iounit: four }
+            Open "Ropen" 113 { qid: qid, iounit: u32 }
+            Create "Rcreate" 115 { qid: qid, iounit: u32 }
             Read "Rread" 117 { data: data }
-            Write "Rwrite" 119 { count: four }
+            Write "Rwrite" 119 { count: u32 }
             Clunk "Rclunk" 121 {}
             Remove "Rremove" 123 {}
             Stat "Rstat" 125 { stat: stat }

@@ -1,4 +1,6 @@
-//! Messages as bytes.
+//! Messages as bytes. Each `put_` function appends to a `Vec` that has room for it, so it allocates
+//! nothing and can't fail. Only the public ones make room first. How long a message is, and whether
+//! it can be written at all, is found in `fitting`.
 
 ghost use Rattle.std.specs.Prelude.{◌≡◌, ◌≤◌, ◌+◌, ◌++◌, length, map, vec_len, vec_capacity, OnOk};
 ghost use Rattle.std.specs.Prelude.{OnErr, IsOk};
@@ -16,8 +18,8 @@ use crate::stat::StatRef;
 use crate::table::{each_reply, each_request};
 use std::alloc::AllocError;
 
-/// Appends bytes to a `Vec` that has room for them, as each function here does.
-fn put(out: &mut Vec<u8>, bytes: &[u8])
+/// Appends the bytes, without their count.
+fn put_bytes(out: &mut Vec<u8>, bytes: &[u8])
     requires { vec_len out.old + length bytes.now ≤ vec_capacity out.old }
     ensures items { out.new.items ≡ out.old.items ++ bytes.now }
     ensures len { vec_len out.new ≡ vec_len out.old + length bytes.now }
@@ -28,46 +30,46 @@ fn put(out: &mut Vec<u8>, bytes: &[u8])
 
 /// Appends a number of one byte.
 #[tactic(auto, unfolding(crate::specs::Fields::bytes_of_field))]
-fn put_one(out: &mut Vec<u8>, number: u8)
+fn put_u8(out: &mut Vec<u8>, number: u8)
     requires { vec_len out.old + 1 ≤ vec_capacity out.old }
     ensures items { out.new.items ≡ out.old.items ++ bytes_of_field One number }
     ensures len { vec_len out.new ≡ vec_len out.old + 1 }
     ensures capacity { vec_capacity out.old ≤ vec_capacity out.new }
 {
-    put(out, &number.to_le_bytes());
+    put_bytes(out, &number.to_le_bytes());
 }
 
 /// Appends a number of two bytes, the low one first.
 #[tactic(auto, unfolding(crate::specs::Fields::bytes_of_field))]
-fn put_two(out: &mut Vec<u8>, number: u16)
+fn put_u16(out: &mut Vec<u8>, number: u16)
     requires { vec_len out.old + 2 ≤ vec_capacity out.old }
     ensures items { out.new.items ≡ out.old.items ++ bytes_of_field Two number }
     ensures len { vec_len out.new ≡ vec_len out.old + 2 }
     ensures capacity { vec_capacity out.old ≤ vec_capacity out.new }
 {
-    put(out, &number.to_le_bytes());
+    put_bytes(out, &number.to_le_bytes());
 }
 
 /// Appends a number of four bytes, the low one first.
 #[tactic(auto, unfolding(crate::specs::Fields::bytes_of_field))]
-fn put_four(out: &mut Vec<u8>, number: u32)
+fn put_u32(out: &mut Vec<u8>, number: u32)
     requires { vec_len out.old + 4 ≤ vec_capacity out.old }
     ensures items { out.new.items ≡ out.old.items ++ bytes_of_field Four number }
     ensures len { vec_len out.new ≡ vec_len out.old + 4 }
     ensures capacity { vec_capacity out.old ≤ vec_capacity out.new }
 {
-    put(out, &number.to_le_bytes());
+    put_bytes(out, &number.to_le_bytes());
 }
 
 /// Appends a number of eight bytes, the low one first.
 #[tactic(auto, unfolding(crate::specs::Fields::bytes_of_field))]
-fn put_eight(out: &mut Vec<u8>, number: u64)
+fn put_u64(out: &mut Vec<u8>, number: u64)
     requires { vec_len out.old + 8 ≤ vec_capacity out.old }
     ensures items { out.new.items ≡ out.old.items ++ bytes_of_field Eight number }
     ensures len { vec_len out.new ≡ vec_len out.old + 8 }
     ensures capacity { vec_capacity out.old ≤ vec_capacity out.new }
 {
-    put(out, &number.to_le_bytes());
+    put_bytes(out, &number.to_le_bytes());
 }
 
 /// Appends a text: its length in two bytes, and its bytes.
@@ -79,8 +81,8 @@ fn put_text(out: &mut Vec<u8>, text: &str)
     ensures len { vec_len out.new ≡ vec_len out.old + (length text.now + 2) }
     ensures capacity { vec_capacity out.old ≤ vec_capacity out.new }
 {
-    put_two(out, text.len() as u16);
-    put(out, text.as_bytes());
+    put_u16(out, text.len() as u16);
+    put_bytes(out, text.as_bytes());
 }
 
 /// Appends the 13 bytes of a qid.
@@ -91,23 +93,23 @@ fn put_qid(out: &mut Vec<u8>, qid: &Qid)
     ensures len { vec_len out.new ≡ vec_len out.old + 13 }
     ensures capacity { vec_capacity out.old ≤ vec_capacity out.new }
 {
-    put_one(out, qid.kind);
-    put_four(out, qid.vers);
-    put_eight(out, qid.path);
+    put_u8(out, qid.kind);
+    put_u32(out, qid.vers);
+    put_u64(out, qid.path);
 }
 
-/// Appends the texts one after the other, without a count before them.
-fn put_each_text(out: &mut Vec<u8>, texts: &[String])
-    requires fits { AllByRecursion (IsIn Text) (names_of texts.now) }
-    requires room { vec_len out.old + length (flat_map (bytes_of_field Text) (names_of texts.now))
+/// Appends the names one after the other, without a count before them.
+fn put_each_name(out: &mut Vec<u8>, names: &[String])
+    requires fits { AllByRecursion (IsIn Text) (names_of names.now) }
+    requires room { vec_len out.old + length (flat_map (bytes_of_field Text) (names_of names.now))
         ≤ vec_capacity out.old }
     ensures items { out.new.items ≡ out.old.items
-        ++ flat_map (bytes_of_field Text) (names_of texts.now) }
+        ++ flat_map (bytes_of_field Text) (names_of names.now) }
     ensures len { vec_len out.new
-        ≡ vec_len out.old + length (flat_map (bytes_of_field Text) (names_of texts.now)) }
+        ≡ vec_len out.old + length (flat_map (bytes_of_field Text) (names_of names.now)) }
     ensures capacity { vec_capacity out.old ≤ vec_capacity out.new }
 {
-    for name in texts {
+    for name in names {
         put_text(out, name.as_str());
     }
 }
@@ -139,13 +141,13 @@ fn put_names(out: &mut Vec<u8>, names: &[String])
         ≡ vec_len out.old + length (bytes_of_field (Several Text) (names_of names.now)) }
     ensures capacity { vec_capacity out.old ≤ vec_capacity out.new }
 {
-    put_two(out, names.len() as u16);
-    put_each_text(out, names);
+    put_u16(out, names.len() as u16);
+    put_each_name(out, names);
 }
 
 /// Appends the qids of a walk, after their count in two bytes.
 #[tactic(auto, unfolding(crate::specs::Fields::bytes_of_field))]
-fn put_wqid(out: &mut Vec<u8>, wqid: &[Qid])
+fn put_qids(out: &mut Vec<u8>, wqid: &[Qid])
     requires fits { IsIn (Several qid_shape) (map qid_of wqid.now) }
     requires room { vec_len out.old + length
         (bytes_of_field (Several qid_shape) (map qid_of wqid.now)) ≤ vec_capacity out.old }
@@ -155,7 +157,7 @@ fn put_wqid(out: &mut Vec<u8>, wqid: &[Qid])
         ≡ vec_len out.old + length (bytes_of_field (Several qid_shape) (map qid_of wqid.now)) }
     ensures capacity { vec_capacity out.old ≤ vec_capacity out.new }
 {
-    put_two(out, wqid.len() as u16);
+    put_u16(out, wqid.len() as u16);
     put_each_qid(out, wqid);
 }
 
@@ -168,8 +170,8 @@ fn put_data(out: &mut Vec<u8>, bytes: &[u8])
     ensures len { vec_len out.new ≡ vec_len out.old + (length bytes.now + 4) }
     ensures capacity { vec_capacity out.old ≤ vec_capacity out.new }
 {
-    put_four(out, bytes.len() as u32);
-    put(out, bytes);
+    put_u32(out, bytes.len() as u32);
+    put_bytes(out, bytes);
 }
 
 /// Appends the last four fields of a stat: name, owner, group and last writer.
@@ -197,13 +199,13 @@ fn put_stat_fields(out: &mut Vec<u8>, stat: &StatRef)
     ensures items { out.new.items ≡ out.old.items ++ bytes_of_field stat_shape (stat_in stat.now) }
     ensures capacity { vec_capacity out.old ≤ vec_capacity out.new }
 {
-    put_two(out, stat.kind);
-    put_four(out, stat.dev);
+    put_u16(out, stat.kind);
+    put_u32(out, stat.dev);
     put_qid(out, &stat.qid);
-    put_four(out, stat.mode);
-    put_four(out, stat.atime);
-    put_four(out, stat.mtime);
-    put_eight(out, stat.length);
+    put_u32(out, stat.mode);
+    put_u32(out, stat.atime);
+    put_u32(out, stat.mtime);
+    put_u64(out, stat.length);
     put_stat_texts(out, stat);
 }
 
@@ -215,7 +217,7 @@ fn put_entry(out: &mut Vec<u8>, stat: &StatRef)
     ensures items { out.new.items ≡ out.old.items ++ stat_entry (stat_in stat.now) }
     ensures capacity { vec_capacity out.old ≤ vec_capacity out.new }
 {
-    put_two(out, (stat.entry_length() - 2) as u16);
+    put_u16(out, (stat.entry_length() - 2) as u16);
     put_stat_fields(out, stat);
 }
 
@@ -228,22 +230,22 @@ fn put_stat(out: &mut Vec<u8>, stat: &StatRef)
         ++ bytes_of_field (Boxed stat_shape) (stat_in stat.now) }
     ensures capacity { vec_capacity out.old ≤ vec_capacity out.new }
 {
-    put_two(out, stat.entry_length() as u16);
+    put_u16(out, stat.entry_length() as u16);
     put_entry(out, stat);
 }
 
 /// Appends a field, by what the table says that it holds.
 macro_rules! put_field {
-    ($out:ident one $number:ident) => { put_one($out, *$number) };
-    ($out:ident two $number:ident) => { put_two($out, *$number) };
-    ($out:ident four $number:ident) => { put_four($out, *$number) };
-    ($out:ident eight $number:ident) => { put_eight($out, *$number) };
+    ($out:ident u8 $number:ident) => { put_u8($out, *$number) };
+    ($out:ident u16 $number:ident) => { put_u16($out, *$number) };
+    ($out:ident u32 $number:ident) => { put_u32($out, *$number) };
+    ($out:ident u64 $number:ident) => { put_u64($out, *$number) };
     ($out:ident qid $qid:ident) => { put_qid($out, $qid) };
     ($out:ident text $text:ident) => { put_text($out, $text.as_str()) };
     ($out:ident names $names:ident) => { put_names($out, $names) };
-    ($out:ident qids $qids:ident) => { put_wqid($out, $qids) };
+    ($out:ident qids $qids:ident) => { put_qids($out, $qids) };
     ($out:ident data $bytes:ident) => { put_data($out, $bytes) };
-    ($out:ident stat $stat:ident) => { put_stat($out, &$stat.borrowed()) };
+    ($out:ident stat $stat:ident) => { put_stat($out, &$stat.as_stat_ref()) };
 }
 
 /// Appends the fields of a body, one match arm for each row of the table.
@@ -289,30 +291,30 @@ macro_rules! number_of_body {
 }
 
 /// The number of the request's type.
-fn request_kind(body: &TBody<'_>) -> u8
+fn request_type(body: &TBody<'_>) -> u8
     ensures { result ≡ request_number body.now }
 {
     each_request!(number_of_body (body TBody))
 }
 
 /// The number of the reply's type.
-fn reply_kind(body: &RBody) -> u8
+fn reply_type(body: &RBody) -> u8
     ensures { result ≡ reply_number body.now }
 {
     each_reply!(number_of_body (body RBody))
 }
 
-/// Appends the size, the type and the tag of a message.
-fn put_header(out: &mut Vec<u8>, size: u32, kind: u8, tag: u16)
+/// Appends the first seven bytes of a message: its size, the number of its type, and its tag.
+fn put_header(out: &mut Vec<u8>, size: u32, number: u8, tag: u16)
     requires { vec_len out.old + 7 ≤ vec_capacity out.old }
     ensures items { out.new.items ≡ out.old.items
-        ++ (bytes_of_field Four size ++ (bytes_of_field One kind ++ bytes_of_field Two tag)) }
+        ++ (bytes_of_field Four size ++ (bytes_of_field One number ++ bytes_of_field Two tag)) }
     ensures len { vec_len out.new ≡ vec_len out.old + 7 }
     ensures capacity { vec_capacity out.old ≤ vec_capacity out.new }
 {
-    put_four(out, size);
-    put_one(out, kind);
-    put_two(out, tag);
+    put_u32(out, size);
+    put_u8(out, number);
+    put_u16(out, tag);
 }
 
 /// Appends the only spelling of a reply that fits (intro(5)). If `out` has room for it nothing is
@@ -327,12 +329,13 @@ pub fn encode_reply(message: &RMessage, out: &mut Vec<u8>) -> Result<(), AllocEr
 {
     let size = message.spelled_length();
     out.reserve(size)?;
-    put_header(out, size as u32, reply_kind(&message.body), message.tag);
+    put_header(out, size as u32, reply_type(&message.body), message.tag);
     put_reply(out, &message.body);
     Ok(())
 }
 
-/// Appends the only spelling of a client's message that fits, as `encode_reply` does.
+/// Appends the only spelling of a client's message that fits (intro(5)). If `out` has room for it
+/// nothing is allocated, and it succeeds. After an `Err` the bytes are as before.
 pub fn encode_request(message: &TMessage<'_>, out: &mut Vec<u8>) -> Result<(), AllocError>
     requires { Fits (t_view message.now) }
     ensures ok { OnOk result (out.new.items ≡ out.old.items ++ spelling (t_view message.now)) }
@@ -343,7 +346,7 @@ pub fn encode_request(message: &TMessage<'_>, out: &mut Vec<u8>) -> Result<(), A
 {
     let size = message.spelled_length();
     out.reserve(size)?;
-    put_header(out, size as u32, request_kind(&message.body), message.tag);
+    put_header(out, size as u32, request_type(&message.body), message.tag);
     put_request(out, &message.body);
     Ok(())
 }

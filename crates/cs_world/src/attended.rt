@@ -1,4 +1,4 @@
-//! A run, with the passes that it gave.
+//! A run, with the passes that it gave: what the registry of a world holds.
 ghost use Rattle.std.specs.Prelude.{◌≡◌};
 ghost use Rattle.cs_journal.specs.Marks.{StepMark};
 ghost use Rattle.cs_run.specs.Laws.{FitsCall};
@@ -48,7 +48,8 @@ impl Held for RunWithPasses {
 
     ghost is_fresh = { λ key tree users run. run ≡ fresh_run tree users };
 
-    /// A run over the tree with these users, which gave no pass yet. It doesn't keep its key.
+    /// A run over the state `lower`, with these users, that has given no pass. The key isn't kept:
+    /// the registry has it.
     fn fresh(
         alloc: Global,
         _key: &RunKey,
@@ -63,8 +64,8 @@ impl Held for RunWithPasses {
 }
 
 impl RunWithPasses {
-    /// Attaches a user under a new pass, at that moment: the pass's number, and the answer. Room
-    /// if it gave RUN_ATTACHES passes already. If it gives no pass, the run is unchanged.
+    /// Attaches a user under a new pass, at the moment `now`: the pass's number, and the answer.
+    /// Room if the run gave RUN_ATTACHES passes already. After an error the run is unchanged.
     pub(crate) fn attach(
         &mut self,
         alloc: Global,
@@ -88,8 +89,8 @@ impl RunWithPasses {
         Ok((number, answer))
     }
 
-    /// Makes a call under the pass of that number, at that moment. S5, and nothing changes, if the
-    /// run gave no such pass.
+    /// Makes a call under the pass of that number, at the moment `now`. S5, and nothing changes, if
+    /// the run gave no such pass.
     pub(crate) fn call(&mut self, alloc: Global, now: u32, pass: u32, call: Call<'_>) -> Answer
         ensures called { (mark : StepMark)
             × ((result, self.new) ≡ call_on self.old now pass call.entry mark) }

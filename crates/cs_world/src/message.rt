@@ -23,7 +23,8 @@ use cs_wire::{RBody, RMessage};
 use std::alloc::Global;
 use std::borrow::CowStr;
 
-/// The reply to a message that comes while a run awaits its attach: S5, with the message's tag.
+/// The reply to a message that comes while a run awaits its attach: an Rerror of S5 with the
+/// message's tag.
 fn out_of_turn(bytes: &[u8]) -> RMessage
     requires { 7 ≤ length bytes.now }
     ensures value { r_view result ≡ wire_of (tag_in bytes.now) (reply.Error S5) }
@@ -39,11 +40,11 @@ fn out_of_turn(bytes: &[u8]) -> RMessage
 }
 
 impl World {
-    /// Answers one message of a connection, of 7 bytes at least, at that moment. It takes the
-    /// message's steps, one after the other; the reply is that of the last, with the message's
-    /// tag; an Rerror has the first rule that fails, or says out of memory (error(5)). While a run
-    /// awaits its attach the connection can't take a message's steps: the reply is S5, and nothing
-    /// changes. No other connection changes.
+    /// Answers one message of a connection, of at least 7 bytes, at the moment `now`: takes the
+    /// message's steps, one after the other. The reply is that of the last, with the message's tag;
+    /// it is an Rerror with the first rule that fails, or because memory ran out (error(5)). S5,
+    /// and nothing changes, while a run awaits its attach: the connection can't take a message's
+    /// steps then. No other connection changes.
     pub fn message(&mut self, alloc: Global, conn: u32, now: u32, bytes: &[u8]) -> RMessage
         requires connection { conn < CONNECTIONS }
         requires whole { 7 ≤ length bytes.now }
@@ -65,9 +66,9 @@ impl World {
         session.reply(alloc, &mut self.runs, now, bytes)
     }
 
-    /// Ends a connection at that moment: its open fids are closed, the least first, and all are
-    /// freed (intro(5)). The reply is Closed. While a run awaits its attach the connection can't
-    /// take these steps: the reply is S5, and nothing changes. No other connection changes.
+    /// Ends a connection at the moment `now`: its open fids are closed, the least number first, and
+    /// then all are freed (intro(5)). The reply is Closed. S5, and nothing changes, while a run
+    /// awaits its attach. No other connection changes.
     pub fn hang_up(&mut self, alloc: Global, conn: u32, now: u32) -> Reply
         requires connection { conn < CONNECTIONS }
         ensures closed { (session_at self.old conn).awaited ≡ None →

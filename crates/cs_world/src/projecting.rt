@@ -1,4 +1,5 @@
-//! The calls of a list of steps that reach one run.
+//! The calls of a list of steps that reach one run, found by taking the steps in a world that notes
+//! them.
 ghost use Rattle.std.specs.Prelude.{◌≡◌, IfOk, length};
 ghost use Rattle.std.specs.Arc.{arc_value};
 ghost use Rattle.cs_names.specs.declared.limits.TheConstants.{CONNECTIONS};
@@ -11,9 +12,9 @@ use crate::reply::Reply;
 use crate::run_call::RunCall;
 use crate::runs::Runs;
 use crate::step::{ConnectionStep, Step};
-use crate::taking::take;
+use crate::taking::take_session_step;
 use crate::watched::WatchedRuns;
-use crate::world::{World, blanks};
+use crate::world::{World, empty_sessions};
 use cs_names::{RuleId, RunName};
 use cs_plan::Scene;
 use cs_registry::{RunKey, States};
@@ -22,7 +23,7 @@ use cs_users::Users;
 use std::alloc::{AllocError, Global};
 use std::sync::Arc;
 
-/// A world, with the calls that reached the run of a key.
+/// A world that notes the calls which reach the run of one key.
 #[derive(Drop)]
 pub(crate) struct WatchedWorld {
     watched: WatchedRuns,
@@ -30,7 +31,7 @@ pub(crate) struct WatchedWorld {
 }
 
 impl WatchedWorld {
-    /// A new world, in which no call reached the run yet.
+    /// A new world of this scene and these users, in which no call has reached the run of the key.
     fn new(
         alloc: Global,
         scene: Arc<Scene>,
@@ -47,7 +48,7 @@ impl WatchedWorld {
                 calls: Vec::new(alloc),
                 is_short: false,
             },
-            sessions: blanks(alloc)?,
+            sessions: empty_sessions(alloc)?,
         })
     }
 
@@ -60,13 +61,19 @@ impl WatchedWorld {
         match step {
             Step::Publish(number) => self.watched.runs.publish(alloc, number),
             Step::Reload(users) => self.watched.runs.reload(alloc, users),
-            Step::On { conn, now, step } => self.take(alloc, conn, now, step),
+            Step::On { conn, now, step } => self.take_connection_step(alloc, conn, now, step),
         }
     }
 
-    /// Takes a step of a connection, and notes the call that reaches the run, if one does. S5 if no
-    /// connection has the number.
-    fn take(&mut self, alloc: Global, conn: u32, now: u32, step: ConnectionStep) -> Reply
+    /// Takes a step of a connection, and notes the call that reaches the run, if one does. S5, and
+    /// nothing changes, if no connection has the number.
+    fn take_connection_step(
+        &mut self,
+        alloc: Global,
+        conn: u32,
+        now: u32,
+        step: ConnectionStep,
+    ) -> Reply
         requires all { length self.old.sessions.items ≡ CONNECTIONS }
         ensures all { length self.new.sessions.items ≡ CONNECTIONS }
         ensures notes { NotesStep self.old (On conn now step) result self.new }
@@ -74,13 +81,14 @@ impl WatchedWorld {
         let Some(session) = self.sessions.get_mut(conn as usize) else {
             return Reply::Connection(cs_session::Reply::Error(RuleId::S5));
         };
-        Reply::Connection(take(alloc, session, &mut self.watched, now, step))
+        Reply::Connection(take_session_step(alloc, session, &mut self.watched, now, step))
     }
 }
 
 impl World {
-    /// A new world of the same scene and users, in which no call reached the run of the key yet.
-    fn watching(&self, alloc: Global, key: RunKey) -> Result<WatchedWorld, AllocError>
+    /// A new world of the same scene and users, which notes the calls that reach the run of the
+    /// key.
+    fn new_watched(&self, alloc: Global, key: RunKey) -> Result<WatchedWorld, AllocError>
         ensures { IfOk result (λ world.
             IsStart self.now.registry.scene self.now.registry.users key world) }
     {
@@ -92,8 +100,8 @@ impl World {
 
     /// The calls of a list of steps that reach one run, of that name and of the state of that
     /// number, each with its pass and its moment. The steps are taken in a new world of this one's
-    /// scene and users, reloads too, and memory refuses nothing: if an allocation fails, that is
-    /// the error. This world is unchanged.
+    /// scene and users, and reloads count too. Memory refuses nothing there: if an allocation
+    /// fails, that is the error. This world is unchanged.
     pub fn project(
         &self,
         alloc: Global,
@@ -105,7 +113,7 @@ impl World {
             ≡ calls_put (new_world self.now.registry.scene self.now.registry.users) steps.now
             (record { number = number; name = name.now })) }
     {
-        let mut world = self.watching(alloc, RunKey::new(number, name))?;
+        let mut world = self.new_watched(alloc, RunKey::new(number, name))?;
         for step in steps {
             let copy = step.try_clone(alloc)?;
             if world.step(alloc, copy).says_out_of_memory() {

@@ -1,4 +1,4 @@
-//! Lists of steps.
+//! A list of steps, taken one after the other.
 ghost use Rattle.std.specs.Prelude.{◌≡◌, IfErr, IfOk, List};
 ghost use Rattle.cs_plan.specs.Scenes.{Scene};
 ghost use Rattle.cs_users.specs.Rows.{Row};

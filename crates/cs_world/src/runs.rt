@@ -36,7 +36,7 @@ impl Runs {
     ghost use Rattle.cs_world.specs.Publishing.{publish_step};
     ghost use Rattle.cs_world.specs.Reloading.{reload_step};
 
-    /// Makes the state of that number and publishes it. If that is refused, nothing changes.
+    /// Makes the state of that number, and publishes it. If that is refused, nothing changes.
     pub(crate) fn publish(&mut self, alloc: Global, number: u32) -> Reply
         ensures { (mark : WorldMark) × ((result, self.new) ≡ publish_step self.old number mark) }
     {
@@ -54,8 +54,8 @@ impl Runs {
         }
     }
 
-    /// Loads another list of users. A run that is there keeps the list with which it was made. If
-    /// memory runs out, the old list stays.
+    /// Loads another list of users, for runs that are made later: a run keeps the list with which
+    /// it was made. If memory runs out, the old list stays.
     pub(crate) fn reload(&mut self, alloc: Global, users: Users) -> Reply
         ensures { (mark : WorldMark) × ((result, self.new) ≡ reload_step self.old users mark) }
     {
@@ -71,8 +71,8 @@ impl Port for Runs {
 
     ghost gives = { λ old question answer new. IsGiven old question answer new };
 
-    /// Finds the run of that key in the registry, which makes it at the first find. Unpublished if
-    /// the name names no run.
+    /// Finds the run of that name in the registry, which makes it at the first find, and returns
+    /// its place. Unpublished if the name can't be a run's.
     fn find(&mut self, alloc: Global, name: &TreeName) -> Result<u32, FindFault> {
         let Some(key) = RunKey::of_tree_name(name) else {
             return Err(FindFault::Unpublished);
@@ -80,7 +80,8 @@ impl Port for Runs {
         self.states.find_key(alloc, key)
     }
 
-    /// Attaches a user to the run at that place. The place of the pass is its number in its run.
+    /// Attaches a user to the run at the place `run`. The place of the new pass is its number in
+    /// the run. Foreign if there is no run at that place.
     fn attach(
         &mut self,
         alloc: Global,
@@ -94,7 +95,8 @@ impl Port for Runs {
         self.states.held_at_mut(run).attach(alloc, now, user)
     }
 
-    /// Makes a call on the run at that place. S5 if there is no run, or the run gave no such pass.
+    /// Makes a call on the run at the place `run`. S5, and nothing changes, if there is no run at
+    /// that place, or it gave no pass of the number `pass`.
     fn call(&mut self, alloc: Global, now: u32, run: u32, pass: u32, call: Call<'_>) -> Answer {
         if run >= self.states.run_count() {
             return Answer::Denied(RuleId::S5);

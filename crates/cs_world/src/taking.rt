@@ -1,4 +1,4 @@
-//! Steps of a connection over its port.
+//! A step of a connection over its port, for a world and for one that notes calls.
 ghost use Rattle.cs_session.specs.Steps.{IsStepTaken};
 ghost use Rattle.cs_world.specs.ConnectionSteps.{session_step};
 
@@ -6,8 +6,8 @@ use crate::step::ConnectionStep;
 use cs_session::{Port, Reply, Session};
 use std::alloc::Global;
 
-/// Takes a step of a connection at that moment, over these runs as its port.
-pub(crate) fn take<P: Port>(
+/// Takes a step of a connection at the moment `now`, over its port `runs`.
+pub(crate) fn take_session_step<P: Port>(
     alloc: Global,
     session: &mut Session,
     runs: &mut P,

@@ -1,4 +1,4 @@
-//! The runs of a world, with the calls that reach one of them.
+//! The runs of a world as a port that notes the calls which reach one of them.
 ghost use Rattle.std.specs.Prelude.{◌≡◌, false, IfOk};
 ghost use Rattle.cs_permit.specs.declared.call.Call.TheVariants.{Attach};
 ghost use Rattle.cs_world.specs.Projections.{is_at};
@@ -14,8 +14,7 @@ use cs_session::{FindFault, PassFault, Port};
 use std::alloc::{AllocError, Global};
 
 /// The runs of a world, which are the port of its connections, and the calls that reached the run
-/// of a key, in order. It is short if there was no memory to note one: the calls may then be
-/// incomplete.
+/// of a key, in order. If memory ran out for a note, `is_short` is true, and calls may be missing.
 #[derive(Drop)]
 pub(crate) struct WatchedRuns {
     pub(crate) runs: Runs,
@@ -25,7 +24,7 @@ pub(crate) struct WatchedRuns {
 }
 
 impl WatchedRuns {
-    /// Whether the run of the key is at that place.
+    /// Whether the run of the key is at that place. False if the key has no run yet.
     fn is_at(&self, place: u32) -> bool
         ensures { result ≡ is_at self.now.runs self.now.key place }
     {
@@ -35,8 +34,8 @@ impl WatchedRuns {
         }
     }
 
-    /// Notes a call that reached the run. If there is no copy of it, or no memory to keep it, the
-    /// runs are short.
+    /// Notes a call under that pass, at that moment. If `call` is an error, or there is no memory
+    /// to keep the note, it sets `is_short`.
     fn note(&mut self, pass: u32, now: u32, call: Result<Call<'static>, AllocError>)
         ensures runs { self.new.runs ≡ self.old.runs }
         ensures key { self.new.key ≡ self.old.key }
@@ -59,7 +58,8 @@ impl WatchedRuns {
         }
     }
 
-    /// Notes a call, if it reaches the run.
+    /// Notes a copy of a call if `reaches`, that is, if it goes to the run of the key. If memory
+    /// runs out, it sets `is_short`.
     fn note_call(&mut self, alloc: Global, reaches: bool, pass: u32, now: u32, call: &Call<'_>)
         ensures runs { self.new.runs ≡ self.old.runs }
         ensures key { self.new.key ≡ self.old.key }
@@ -72,7 +72,8 @@ impl WatchedRuns {
         }
     }
 
-    /// Notes an attach that got a pass, if it reaches the run. If it got none, the runs are short.
+    /// Notes an attach if `reaches`, that is, if it goes to the run of the key, under the pass that
+    /// was given. If it got no pass, or memory runs out, it sets `is_short`.
     fn note_attach(
         &mut self,
         reaches: bool,
@@ -105,7 +106,7 @@ impl Port for WatchedRuns {
         self.runs.find(alloc, name)
     }
 
-    /// Attaches as the runs do, and notes the attach if it reaches the run of the key.
+    /// Attaches as the runs do, and notes the attach if the run is that of the key.
     fn attach(
         &mut self,
         alloc: Global,
@@ -120,7 +121,7 @@ impl Port for WatchedRuns {
         given
     }
 
-    /// Calls as the runs do, and notes the call if it reaches the run of the key.
+    /// Calls as the runs do, and notes the call if the run is that of the key.
     fn call(&mut self, alloc: Global, now: u32, run: u32, pass: u32, call: Call<'_>) -> Answer {
         let reaches = self.is_at(run);
         self.note_call(alloc, reaches, pass, now, &call);
@@ -128,7 +129,7 @@ impl Port for WatchedRuns {
     }
 }
 
-/// The call that attaches the user.
+/// The call that attaches the user, whose name is copied.
 fn attach_of(user: &Text) -> Result<Call<'static>, AllocError>
     ensures { IfOk result (λ call. call ≡ Attach (record { user = user.now })) }
 {

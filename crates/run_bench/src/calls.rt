@@ -103,7 +103,7 @@ impl<'a> ByTree<'a> {
     }
 
     fn stat(&self, alloc: Global) -> Option<()> {
-        let _stat = stat_ref(&self.tree, FILE)?.copied(alloc).ok()?;
+        let _stat = stat_ref(&self.tree, FILE)?.to_stat(alloc).ok()?;
         Some(())
     }
 

@@ -19,7 +19,7 @@ fn taken(step: ConnectionStep) -> Step {
 }
 
 fn text(rt: &impl Abort, alloc: Global, text: &str) -> Text {
-    Text::keep(alloc, text).expect(rt, "memory")
+    Text::copy_of(alloc, text).expect(rt, "memory")
 }
 
 fn begin(rt: &impl Abort, alloc: Global) -> Step {

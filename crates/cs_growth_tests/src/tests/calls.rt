@@ -144,7 +144,7 @@ fn wstat(alloc: Global, user: UserName) -> Option<Call<'static>> {
 }
 
 fn attach(alloc: Global) -> Option<Call<'static>> {
-    let user = Text::keep(alloc, "ann").ok()?;
+    let user = Text::copy_of(alloc, "ann").ok()?;
     Some(Call::Attach(AttachCall { user }))
 }
 

@@ -11,7 +11,7 @@ use cs_wire::{Qid, Stat};
 use std::alloc::Global;
 
 pub fn text(alloc: Global, text: &str) -> Option<Text> {
-    Text::keep(alloc, text).ok()
+    Text::copy_of(alloc, text).ok()
 }
 
 pub fn attach(alloc: Global, fid: u32) -> Option<AttachMessage> {

@@ -33,7 +33,7 @@ enum Word {
 }
 
 fn text(alloc: Global, text: &str) -> Option<Text> {
-    Text::keep(alloc, text).ok()
+    Text::copy_of(alloc, text).ok()
 }
 
 fn taken(conn: u32, step: ConnectionStep) -> Step {

@@ -122,8 +122,8 @@ fn takes_text_without_a_nul(rt: HostRuntime) {
 
 /// Whether the text, and its bytes, are kept as they are, and copies equal them.
 fn are_kept(alloc: Global, text: &str) -> Result<bool, AllocError> {
-    let kept = Text::keep(alloc, text)?;
-    let bytes = Bytes::keep(alloc, text.as_bytes())?;
+    let kept = Text::copy_of(alloc, text)?;
+    let bytes = Bytes::copy_of(alloc, text.as_bytes())?;
     Ok(
         kept.try_clone()? == kept
             && kept.as_str() == text
@@ -152,8 +152,8 @@ fn copies_equal_what_they_are_made_of(rt: HostRuntime) {
     assert!(rt; are_kept(rt.alloc(), "").expect(&rt, "memory"));
     assert!(rt; are_kept(rt.alloc(), "a\0b/\u{e9}").expect(&rt, "memory"));
     assert!(rt; are_copied(rt.alloc()).expect(&rt, "memory"));
-    let text = Text::keep(rt.alloc(), "a").expect(&rt, "memory");
-    assert!(rt; text != Text::keep(rt.alloc(), "b").expect(&rt, "memory"));
+    let text = Text::copy_of(rt.alloc(), "a").expect(&rt, "memory");
+    assert!(rt; text != Text::copy_of(rt.alloc(), "b").expect(&rt, "memory"));
 }
 
 /// `ann`, the bytes `hello`, and two texts come back as they were put in.

@@ -104,7 +104,7 @@ fn changes_nothing_by(alloc: Global, tree: &PlainTree, stat: Stat) -> Option<boo
 
 /// The same of the stat that the tree tells of `/f`.
 fn changes_nothing_sent_back(alloc: Global, tree: &PlainTree) -> Option<bool> {
-    let stat = stat_ref(tree, 4)?.copied(alloc).ok()?;
+    let stat = stat_ref(tree, 4)?.to_stat(alloc).ok()?;
     changes_nothing_by(alloc, tree, stat)
 }
 

@@ -41,7 +41,7 @@ fn perm_of(word: &str) -> Option<u32> {
 }
 
 fn attach(rt: &impl Abort, alloc: Global, user: UserName) -> Call<'static> {
-    let user = Text::keep(alloc, user.as_str()).expect(rt, "memory");
+    let user = Text::copy_of(alloc, user.as_str()).expect(rt, "memory");
     Call::Attach(AttachCall { user })
 }
 
@@ -127,7 +127,7 @@ fn write(rt: &impl Abort, alloc: Global, user: UserName, words: &str) -> Call<'s
         number(file).expect(rt, "a value"),
         number(offset).expect(rt, "a value"),
     );
-    let bytes = SentBytes::keep(alloc, text.as_bytes()).expect(rt, "memory");
+    let bytes = SentBytes::copy_of(alloc, text.as_bytes()).expect(rt, "memory");
     Call::Write(WriteCall {
         number,
         user,

@@ -130,7 +130,7 @@ impl Side {
 }
 
 pub fn attach(rt: &impl Abort, alloc: Global, user: &str) -> Call<'static> {
-    let user = Text::keep(alloc, user).expect(rt, "memory");
+    let user = Text::copy_of(alloc, user).expect(rt, "memory");
     Call::Attach(AttachCall { user })
 }
 
@@ -165,7 +165,7 @@ fn write(rt: &impl Abort, alloc: Global, words: &str) -> Call<'static> {
 
 pub fn write_of(rt: &impl Abort, alloc: Global, offset: u64, bytes: &[u8]) -> Call<'static> {
     let user = user(rt, alloc);
-    let bytes = SentBytes::keep(alloc, bytes).expect(rt, "memory");
+    let bytes = SentBytes::copy_of(alloc, bytes).expect(rt, "memory");
     Call::Write(WriteCall {
         number: FILE,
         user,

@@ -45,7 +45,7 @@ fn a_port_tells_why_a_run_is_not_found(rt: HostRuntime) {
 
 /// How an attach to the run at a place comes out: the place of the pass.
 fn attach(alloc: Global, port: &mut impl Port, run: u32, user: &str) -> Result<u32, PassFault> {
-    let Ok(user) = Text::keep(alloc, user) else {
+    let Ok(user) = Text::copy_of(alloc, user) else {
         return Err(PassFault::Memory);
     };
     match port.attach(alloc, 720, run, user) {

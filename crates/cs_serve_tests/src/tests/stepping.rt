@@ -15,7 +15,7 @@ fn number(rt: &impl Abort, word: &str) -> u32 {
 
 fn begin(rt: &impl Abort, alloc: Global, conn: &str) -> Step {
     let conn = number(rt, conn);
-    let version = Text::keep(alloc, "9P2000").expect(rt, "memory");
+    let version = Text::copy_of(alloc, "9P2000").expect(rt, "memory");
     let change = TableStep::Version {
         msize: 8192,
         version,
@@ -36,8 +36,8 @@ fn find(rt: &impl Abort, alloc: Global, words: &str) -> Step {
     let message = AttachMessage {
         fid,
         afid: u32::MAX,
-        uname: Text::keep(alloc, user).expect(rt, "memory"),
-        aname: Text::keep(alloc, tree).expect(rt, "memory"),
+        uname: Text::copy_of(alloc, user).expect(rt, "memory"),
+        aname: Text::copy_of(alloc, tree).expect(rt, "memory"),
     };
     Step::On {
         conn,

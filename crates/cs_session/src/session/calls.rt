@@ -1,5 +1,6 @@
-//! The steps of a session that make one call. Each of the eight is the same: the connection's own
-//! rules and the memory that it takes, the call on the fid's run, and what comes of the answer.
+//! The steps of a session that make one call. All eight do the same: decide by the connection's own
+//! rules what to ask, or refuse; ask the fid's run; and make the reply, and the change of the fids,
+//! from its answer.
 ghost use Rattle.std.specs.Prelude.{◌≡◌};
 ghost use Rattle.cs_session.specs.declared.message.CallMessage.TheVariants as call;
 ghost use Rattle.cs_session.specs.Sizes.{CallFits, ReplyFits};
@@ -20,7 +21,8 @@ use crate::writing::{decide_write, write_reply};
 use std::alloc::Global;
 
 impl Session {
-    /// Walks from a fid to a new one, or to itself. If a rule stops the walk, no fid changes.
+    /// Walks from a fid to a new one, or moves the fid itself. No fid changes if the walk is
+    /// refused or a rule stops it on the way.
     fn walk_step<P: Port>(
         &mut self,
         alloc: Global,
@@ -34,18 +36,18 @@ impl Session {
         ensures fits { CallFits (call.Walk message) → ReplyFits self.old.msize result }
         ensures awaited { self.new.awaited ≡ self.old.awaited }
     {
-        let awaits = self.awaited.is_some();
+        let awaits_attach = self.awaited.is_some();
         let (fid, newfid) = (message.fid, message.newfid);
-        match decide_walk(awaits, self.msize, &mut self.fids, now, message) {
+        match decide_walk(awaits_attach, self.msize, &mut self.fids, now, message) {
             Err(reply) => reply,
-            Ok((ask, from)) => {
-                let answer = ask.put(alloc, port);
+            Ok((question, from)) => {
+                let answer = question.ask(alloc, port);
                 settle_walk(&mut self.fids, fid, newfid, from, answer)
             }
         }
     }
 
-    /// Opens the fid. If it is refused, the fid stays as it was.
+    /// Opens a fid. If it is refused, no fid changes.
     fn open_step<P: Port>(
         &mut self,
         alloc: Global,
@@ -59,18 +61,18 @@ impl Session {
         ensures fits { ReplyFits self.old.msize result }
         ensures awaited { self.new.awaited ≡ self.old.awaited }
     {
-        let awaits = self.awaited.is_some();
-        match decide_open(awaits, self.msize, &self.fids, now, message) {
+        let awaits_attach = self.awaited.is_some();
+        match decide_open(awaits_attach, self.msize, &self.fids, now, message) {
             Err(reply) => reply,
-            Ok(ask) => {
-                let answer = ask.put(alloc, port);
+            Ok(question) => {
+                let answer = question.ask(alloc, port);
                 settle_open(&mut self.fids, message.fid, message.mode, answer)
             }
         }
     }
 
-    /// Makes a file in the fid's directory; the fid is then the new file's, and open. If it is
-    /// refused, the fid stays as it was.
+    /// Makes a file in the fid's directory. The fid is then that of the new file, and open. If it
+    /// is refused, no fid changes.
     fn create_step<P: Port>(
         &mut self,
         alloc: Global,
@@ -83,19 +85,19 @@ impl Session {
         ensures fits { ReplyFits self.old.msize result }
         ensures awaited { self.new.awaited ≡ self.old.awaited }
     {
-        let awaits = self.awaited.is_some();
+        let awaits_attach = self.awaited.is_some();
         let (fid, mode) = (message.fid, message.mode);
-        match decide_create(awaits, self.msize, &self.fids, now, message) {
+        match decide_create(awaits_attach, self.msize, &self.fids, now, message) {
             Err(reply) => reply,
-            Ok(ask) => {
-                let answer = ask.put(alloc, port);
+            Ok(question) => {
+                let answer = question.ask(alloc, port);
                 settle_create(&mut self.fids, fid, mode, answer)
             }
         }
     }
 
-    /// Reads from an open fid at most as many bytes as a reply holds. After a read of a directory
-    /// the fid keeps the place at which the next one goes on.
+    /// Reads from an open fid, at most as many bytes as a reply holds. After a read of a directory
+    /// the fid keeps the place at which the next one goes on; else no fid changes.
     fn read_step<P: Port>(
         &mut self,
         alloc: Global,
@@ -109,11 +111,11 @@ impl Session {
         ensures fits { ReplyFits self.old.msize result }
         ensures awaited { self.new.awaited ≡ self.old.awaited }
     {
-        let awaits = self.awaited.is_some();
-        match decide_read(awaits, self.msize, &self.fids, now, message) {
+        let awaits_attach = self.awaited.is_some();
+        match decide_read(awaits_attach, self.msize, &self.fids, now, message) {
             Err(reply) => reply,
-            Ok(ask) => {
-                let answer = ask.put(alloc, port);
+            Ok(question) => {
+                let answer = question.ask(alloc, port);
                 settle_read(&mut self.fids, message.fid, answer)
             }
         }
@@ -133,16 +135,17 @@ impl Session {
         ensures fits { ReplyFits self.old.msize result }
         ensures awaited { self.new.awaited ≡ self.old.awaited }
     {
-        let awaits = self.awaited.is_some();
-        let ask = match decide_write(awaits, self.msize, &self.fids, now, message) {
-            Ok(ask) => ask,
+        let awaits_attach = self.awaited.is_some();
+        let question = match decide_write(awaits_attach, self.msize, &self.fids, now, message) {
+            Ok(question) => question,
             Err(reply) => return reply,
         };
-        let answer = ask.put(alloc, port);
+        let answer = question.ask(alloc, port);
         write_reply(answer)
     }
 
-    /// Removes the fid's file. Once the run is asked the fid is free, also if the run refuses.
+    /// Removes the fid's file. The fid is free once the run is asked, also if the run refuses. If
+    /// the connection itself refuses, no fid changes.
     fn remove_step<P: Port>(&mut self, alloc: Global, port: &mut P, now: u32, fid: u32) -> Reply
         ensures takes { IsStepTaken P.gives now self.old port.old (CallStep (call.Remove fid))
             result
@@ -150,12 +153,12 @@ impl Session {
         ensures fits { ReplyFits self.old.msize result }
         ensures awaited { self.new.awaited ≡ self.old.awaited }
     {
-        let awaits = self.awaited.is_some();
-        let ask = match decide_remove(awaits, self.msize, &mut self.fids, now, fid) {
-            Ok(ask) => ask,
+        let awaits_attach = self.awaited.is_some();
+        let question = match decide_remove(awaits_attach, self.msize, &mut self.fids, now, fid) {
+            Ok(question) => question,
             Err(reply) => return reply,
         };
-        let answer = ask.put(alloc, port);
+        let answer = question.ask(alloc, port);
         remove_reply(answer)
     }
 
@@ -166,12 +169,12 @@ impl Session {
         ensures fits { ReplyFits self.old.msize result }
         ensures awaited { self.new.awaited ≡ self.old.awaited }
     {
-        let awaits = self.awaited.is_some();
-        let ask = match decide_stat(awaits, self.msize, &self.fids, now, fid) {
-            Ok(ask) => ask,
+        let awaits_attach = self.awaited.is_some();
+        let question = match decide_stat(awaits_attach, self.msize, &self.fids, now, fid) {
+            Ok(question) => question,
             Err(reply) => return reply,
         };
-        let answer = ask.put(alloc, port);
+        let answer = question.ask(alloc, port);
         stat_reply(answer)
     }
 
@@ -189,18 +192,19 @@ impl Session {
         ensures fits { ReplyFits self.old.msize result }
         ensures awaited { self.new.awaited ≡ self.old.awaited }
     {
-        let awaits = self.awaited.is_some();
-        let ask = match decide_wstat(awaits, self.msize, &self.fids, now, message) {
-            Ok(ask) => ask,
+        let awaits_attach = self.awaited.is_some();
+        let question = match decide_wstat(awaits_attach, self.msize, &self.fids, now, message) {
+            Ok(question) => question,
             Err(reply) => return reply,
         };
-        let answer = ask.put(alloc, port);
+        let answer = question.ask(alloc, port);
         wstat_reply(answer)
     }
 
-    /// Makes a call on a fid's run. The reply is the first of the connection's rules that fails,
-    /// or out of memory, or else what the run answers. If it is refused, no fid changes, except
-    /// that the fid of a remove is free once the run is asked (remove(5)).
+    /// Makes the call of a message on the run of its fid. The reply is the first of the
+    /// connection's rules that fails, or out of memory, or else what the run answers. If it is
+    /// refused, no fid changes, except that the fid of a remove is free once the run is asked
+    /// (remove(5)).
     pub fn call_step<P: Port>(
         &mut self,
         alloc: Global,

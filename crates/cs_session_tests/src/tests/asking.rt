@@ -15,13 +15,13 @@ pub fn attaching(rt: &impl Abort, alloc: Global, fid: u32) -> AttachMessage {
     AttachMessage {
         fid,
         afid: NOFID,
-        uname: Text::keep(alloc, "ann").expect(rt, "memory"),
-        aname: Text::keep(alloc, "0/a").expect(rt, "memory"),
+        uname: Text::copy_of(alloc, "ann").expect(rt, "memory"),
+        aname: Text::copy_of(alloc, "0/a").expect(rt, "memory"),
     }
 }
 
 fn version(rt: &impl Abort, alloc: Global, msize: u32) -> Message<'static> {
-    let version = Text::keep(alloc, "9P2000.L").expect(rt, "memory");
+    let version = Text::copy_of(alloc, "9P2000.L").expect(rt, "memory");
     Message::Version { msize, version }
 }
 
@@ -49,7 +49,7 @@ fn cloning(alloc: Global, fid: u32) -> CallMessage<'static> {
 
 /// A create of a file that is opened to be written.
 fn creating(rt: &impl Abort, alloc: Global, fid: u32) -> CallMessage<'static> {
-    let name = Text::keep(alloc, "c").expect(rt, "memory");
+    let name = Text::copy_of(alloc, "c").expect(rt, "memory");
     CallMessage::Create(CreateMessage {
         fid,
         name,
@@ -67,7 +67,7 @@ fn reading(fid: u32) -> CallMessage<'static> {
 }
 
 fn writing(rt: &impl Abort, alloc: Global, fid: u32) -> CallMessage<'static> {
-    let bytes = SentBytes::keep(alloc, b"abc").expect(rt, "memory");
+    let bytes = SentBytes::copy_of(alloc, b"abc").expect(rt, "memory");
     CallMessage::Write(WriteMessage {
         fid,
         offset: 0,

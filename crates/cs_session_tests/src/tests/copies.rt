@@ -67,7 +67,7 @@ fn a_copy_of_each_message_says_the_same(rt: HostRuntime) {
 #[test]
 fn a_copy_of_each_change_of_a_table_says_the_same(rt: HostRuntime) {
     let alloc = rt.alloc();
-    let version = Text::keep(alloc, "9P2000").expect(&rt, "memory");
+    let version = Text::copy_of(alloc, "9P2000").expect(&rt, "memory");
     let begin = TableStep::Version {
         msize: 8192,
         version,

@@ -326,7 +326,7 @@ const F: &[u8] =
     b"F\0\0\0}\x01\0=\0;\0\0\0\0\0\0\0\0\0\0\0\0\x04\0\0\0\0\0\0\0\xb4\x01\0\0\0\0\0\0\0\0\0\0\x05\0\0\0\0\0\0\0\x01\0f\x03\0ann\x05\0staff\x03\0ann";
 
 fn expect_entry(rt: &(impl Abort + AllocGlobal), stat: &Stat, bytes: &[u8]) {
-    let stat = stat.borrowed();
+    let stat = stat.as_stat_ref();
     assert!(rt; stat.fits());
     let mut out = Vec::new(rt.alloc());
     stat.encode_entry(&mut out).expect(rt, "memory");

@@ -57,7 +57,7 @@ pub fn attach<R: Wait + Abort>(
     run: &SharedRun<AnyScene>,
     user: &str,
 ) -> Pass {
-    match run.attach(rt, alloc, 1, Text::keep(alloc, user).expect(rt, "memory")) {
+    match run.attach(rt, alloc, 1, Text::copy_of(alloc, user).expect(rt, "memory")) {
         Ok((pass, Answer::Attached(_))) => pass,
         _ => panic!(rt; "another answer"),
     }
@@ -91,7 +91,7 @@ pub fn open(rt: &impl Abort, alloc: Global, user: &str, mode: u8) -> Call<'stati
 
 pub fn write(rt: &impl Abort, alloc: Global, user: &str, text: &str) -> Call<'static> {
     let user = UserName::read(alloc, user.as_bytes()).expect(rt, "a value");
-    let bytes = SentBytes::keep(alloc, text.as_bytes()).expect(rt, "memory");
+    let bytes = SentBytes::copy_of(alloc, text.as_bytes()).expect(rt, "memory");
     Call::Write(WriteCall {
         number: F,
         user,

@@ -20,7 +20,7 @@ pub const TRACE: &[u8] =
 /// How often a thread looks for what another is to do.
 const TURNS: u32 = 10_000_000;
 
-/// Whether it holds in the end.
+/// Whether this holds within TURNS looks; between two it lets other threads run.
 pub fn comes<F: Fn() -> bool>(holds: F) -> bool
     requires { F.IsAlwaysCallable holds }
 {
@@ -59,7 +59,7 @@ impl Write for Output<'_> {
     }
 }
 
-/// What the command came to.
+/// The status of the command, and what it printed.
 #[derive(Drop)]
 pub struct Told {
     pub status: u8,

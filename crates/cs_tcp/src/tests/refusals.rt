@@ -105,7 +105,7 @@ fn accepted_after<R: Wait + Clock>(rt: &R, failures: u64) -> (bool, u64) {
     };
     let accepted = match accept(rt, &listener, &AtomicBool::new(false)) {
         Accepted::Connection((), _) => true,
-        Accepted::Ended | Accepted::Failed => false,
+        Accepted::Closing | Accepted::Failed => false,
     };
     (accepted, listener.accepts.load(Ordering::SeqCst))
 }

@@ -183,10 +183,11 @@ where
 /// With `--reload`, without `--again` and with it: bob attaches `0/x`. The file becomes ann and
 /// dan's: on the next connection dan's attach to `0/x` and bob's to `0/y` are A6; dan attaches
 /// `0/y`, and may not open `/f` with 1, but with 0. It becomes `1:ann:`, for two connections: dan
-/// attaches `0/z` on each, and `users line 1: FieldCount` is printed once. It goes away: dan attaches
-/// `0/z`, and `cannot read` is printed. It becomes only ann's: dan attaches `0/z`, and `1/x` is A6.
-/// Bob, on his own connection, then reads `/f` of `0/x`. The status is 0, and the lines at the end
-/// are those of `0/x`, `0/y`, `0/z` and `1/x`, with 6, 6, 4 and 1 entries, each audit ok.
+/// attaches `0/z` on each, and `users line 1: FieldCount` is printed once. It goes away: dan
+/// attaches `0/z`, and `cannot read` is printed. It becomes only ann's: dan attaches `0/z`, and
+/// `1/x` is A6. Bob, on his own connection, then reads `/f` of `0/x`. The status is 0, and the
+/// lines at the end are those of `0/x`, `0/y`, `0/z` and `1/x`, with 6, 6, 4 and 1 entries, each
+/// audit ok.
 #[test]
 fn runs_that_are_made_later_have_the_new_users(rt: HostRuntime) {
     fs::write(&rt, FILE, USERS).expect(&rt, "a file");

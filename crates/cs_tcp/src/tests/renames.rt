@@ -106,7 +106,7 @@ fn a_file_does_not_get_the_name_of_a_directory(rt: HostRuntime) {
 
 const NOT_ALLOWED: [&[u8]; 5] = [CLONE_ROOT, F, TO_G, G, F_AGAIN];
 
-/// Where the user has no write right in the directory, Q6 comes before Q7, and nothing is removed.
+/// If the user has no write right in the directory, Q6 comes before Q7, and nothing is removed.
 #[test]
 fn nothing_is_removed_for_a_user_who_may_not_rename(rt: HostRuntime) {
     let answered = ask_all(&rt, rt.alloc(), CLOSED_ROOT, &NOT_ALLOWED);

@@ -1,8 +1,8 @@
 //! What is printed on standard error.
 
 use super::fixture::{TRACE, inputs_of, scene_in, told_of};
-use crate::heard::LoggedStream;
 use crate::log::Log;
+use crate::logged::LoggedStream;
 use crate::progress::Progress;
 use crate::serving::server_of;
 use crate::{Client, ReadsFiles, Serving};
@@ -149,7 +149,7 @@ fn each_message_is_told_with_its_reply(rt: HostRuntime) {
     expect_told(&rt, rt.alloc(), 65_536);
 }
 
-/// Tells before these states.
+/// Asks the gate before each of these states.
 fn tell_before<R: Wait + Sync>(
     rt: &R,
     server: &Server<AnyScene>,
@@ -208,33 +208,33 @@ const NOWHERE: Serving = Serving {
 const UNCHANGED: &[u8] = b"{\"trace\":1,\"owner\":\"cat\",\"group\":\"staff\",\"mode\":\"775\"}\n";
 
 /// A trace, whether messages are printed, and progress, and what is printed.
-struct Asked {
+struct Row {
     trace: &'static [u8],
     verbose: bool,
     progress: bool,
     told: &'static [u8],
 }
 
-const ASKED: [Asked; 4] = [
-    Asked {
+const ROWS: [Row; 4] = [
+    Row {
         trace: TRACE,
         verbose: false,
         progress: false,
         told: b"crashfs: cannot listen\ncrashfs: nowhere: ",
     },
-    Asked {
+    Row {
         trace: TRACE,
         verbose: true,
         progress: false,
         told: b"published 2 states\ncrashfs: cannot listen\ncrashfs: nowhere: ",
     },
-    Asked {
+    Row {
         trace: TRACE,
         verbose: false,
         progress: true,
         told: b"published 2 states\ncrashfs: cannot listen\ncrashfs: nowhere: ",
     },
-    Asked {
+    Row {
         trace: UNCHANGED,
         verbose: true,
         progress: false,
@@ -243,7 +243,7 @@ const ASKED: [Asked; 4] = [
 ];
 
 /// Looks at what is printed of publishing.
-fn expect_published<R>(rt: &R, alloc: Global, asked: &Asked)
+fn expect_published<R>(rt: &R, alloc: Global, row: &Row)
 where
     R: Net<Listener = TcpListener, Stream = TcpStream>
         + Threads
@@ -254,20 +254,20 @@ where
         + Abort,
 {
     let serving = Serving {
-        progress: asked.progress,
+        progress: row.progress,
         ..NOWHERE
     };
-    let inputs = inputs_of(asked.trace, asked.verbose);
+    let inputs = inputs_of(row.trace, row.verbose);
     let port = AtomicU64::new(0);
     let told = told_of(rt, alloc, &inputs, serving, io::empty(), &port);
-    assert!(rt; told.err.starts_with(asked.told));
+    assert!(rt; told.err.starts_with(row.told));
 }
 
 /// `published 2 states` is printed with `--verbose` or on a terminal, and else nothing; of a trace
 /// with no operation `published 1 state`.
 #[test]
 fn publishing_is_told_when_it_is_asked_for(rt: HostRuntime) {
-    for asked in &ASKED {
-        expect_published(&rt, rt.alloc(), asked);
+    for row in &ROWS {
+        expect_published(&rt, rt.alloc(), row);
     }
 }

@@ -12,7 +12,7 @@ loop-number-init g c =
     λ q. ap (λ es. lookup (is_at (path_cmp q)) es) c.new-paths.ensures.empty ∙ below_zero (number_at (g.T.TreeRead.tree c.args.tree.now) q)
 
 pub loop-number-preserved : goal.loop-number-preserved
-loop-number-preserved g c = λ q. c.in_ok-enter.ensures q
+loop-number-preserved g c = λ q. c.in_ok-insert_if_some.ensures q
     ∙ (λ i. option_map_or (λ p. cond (is_eq (path_cmp p q)) (Some c.loop-number.number) (c.loop-number.invariant q i))
     (c.in_ok-path.ensures.value i) (c.loop-number.invariant q i))
     ∙ enters (g.T.TreeRead.tree c.args.tree.now) c.requires.is_tree c.loop-number.number q

@@ -5,19 +5,19 @@ use Rattle.cs_journal.specs.Small.{is_small, is_write}
 use Rattle.cs_journal.specs.Summaries.{without_bytes}
 use Rattle.cs_journal.proofs.keeping.keep_call.Goals as goal
 
-pub small-entry-requires-clause-small : goal.small-entry-requires-clause-small
-small-entry-requires-clause-small c =
+pub of_small-entry-requires-clause-small : goal.of_small-entry-requires-clause-small
+of_small-entry-requires-clause-small c =
     let apart : (is_small c.args.call.now || is_write c.args.call.now) ≡ true = search rules in
     small_unless_write c.args.call.now apart (λ call is. c.in_default-call.not-Write call is)
 
-pub small-requires-clause-small : goal.small-requires-clause-small
-small-requires-clause-small c =
+pub of_small-requires-clause-small : goal.of_small-requires-clause-small
+of_small-requires-clause-small c =
     let apart : (is_small c.args.call.now || is_write c.args.call.now) ≡ true = search rules in
     small_unless_write c.args.call.now apart (λ call is. c.in_default-call.not-Write call is)
 
 pub returns-in_default-call-clause-kept : goal.returns-in_default-call-clause-kept
 returns-in_default-call-clause-kept c = record {
-  lies = c.small-entry.ensures.lies c.args.journal.now.blocks;
-  entry = c.small-entry.ensures.value c.args.journal.now.blocks;
-  receipt = ap without_bytes (c.small.ensures.value []);
+  lies = c.of_small-entry.ensures.lies c.args.journal.now.blocks;
+  entry = c.of_small-entry.ensures.value c.args.journal.now.blocks;
+  receipt = ap without_bytes (c.of_small.ensures.value []);
 }

@@ -5,8 +5,8 @@ use Rattle.cs_micro.specs.MicroOperations.{IsWithinLimit}
 use Rattle.cs_micro.proofs.Limits.{all_within}
 use Rattle.cs_list_lines.proofs.lines.lines_of.Goals as goal
 
-pub spread-requires-clause-within : goal.spread-requires-clause-within
-spread-requires-clause-within c =
+pub lines_of_operations-requires-clause-within : goal.lines_of_operations-requires-clause-within
+lines_of_operations-requires-clause-within c =
     let t = c.args.trace.now in
     subst (All IsWithinLimit) (sym c.operations.ensures.value)
     (all_within (start_paths t) (start_sizes t) t.operations c.operations.ensures.legal)

@@ -7,6 +7,14 @@ use Rattle.cs_overlay.proofs.table.insert_both_answers.Goals as goal
 pub copy_up-requires : goal.copy_up-requires
 copy_up-requires g c = some_of _ _ c.requires.there
 
+pub insert_answer-requires : goal.insert_answer-requires
+insert_answer-requires g c = c.in_ok-copy_up.ensures.there
+
+pub insert_answer-requires-2 : goal.insert_answer-requires-2
+insert_answer-requires-2 g c =
+    keeps_said (get nat_eq c.copy_up.new.nodes) c.args.directory c.args.old (Some c.args.number) (get nat_eq c.insert_answer.new.nodes)
+    c.in_ok-insert_answer.ensures.ok c.args.directory c.in_ok-copy_up.ensures.there
+
 pub returns-in_err-insert_answer-clause-keeps : goal.returns-in_err-insert_answer-clause-keeps
 returns-in_err-insert_answer-clause-keeps g c =
     λ n h. (let m = c.copy_up.ensures.keeps n h in (m.0, c.in_err-insert_answer.ensures.err n ∙ m.1))

@@ -18,5 +18,5 @@ err-stepped false false (Some n) = refl
 pub returns : goal.returns
 returns g c =
     c.err.ensures.value
-    ∙ ap result_err c.element.ensures
+    ∙ ap result_err c.walk_element_at.ensures
     ∙ err-stepped _ _ (number_by_name (g.T.TreeRead.tree c.args.tree.now) c.args.number c.args.name.now)

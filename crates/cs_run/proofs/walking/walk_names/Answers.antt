@@ -8,7 +8,7 @@ pub returns-in-Err-clause-value : goal.returns-in-Err-clause-value
 returns-in-Err-clause-value g c =
     let t = g.T.TreeRead.tree c.args.tree.now in
     let fails =
-    sym c.in-Err.is ∙ c.element_of.ensures ∙ ap (element t c.args.users.now c.args.user.now c.loop-name.last) c.as_str.ensures.value in
+    sym c.in-Err.is ∙ c.walk_element.ensures ∙ ap (element t c.args.users.now c.args.user.now c.loop-name.last) c.as_str.ensures.value in
     c.new.ensures ∙ stops_at t c.args.users.now c.args.user.now c.loop-name.last c.args.names.now c.loop-name.name-index c.name-item.result
     c.loop-name.qids.items _ c.loop-name-test.true c.name-item.is c.in-Err.rule fails c.loop-name.invariant.going
 
@@ -16,7 +16,7 @@ pub loop-name-preserved : goal.loop-name-preserved
 loop-name-preserved g c =
     let t = g.T.TreeRead.tree c.args.tree.now in
     let leads =
-    sym c.in-Ok.is ∙ c.element_of.ensures ∙ ap (element t c.args.users.now c.args.user.now c.loop-name.last) c.as_str.ensures.value in
+    sym c.in-Ok.is ∙ c.walk_element.ensures ∙ ap (element t c.args.users.now c.args.user.now c.loop-name.last) c.as_str.ensures.value in
     record {
       going = rw (c.push_reserved.ensures.items, c.qid_known.ensures.value ∙ ap qid_or_zeros c.record-file.ensures.value)
           (goes_on t c.args.users.now c.args.user.now c.loop-name.last c.args.names.now c.loop-name.name-index c.name-item.result

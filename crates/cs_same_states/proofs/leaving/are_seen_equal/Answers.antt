@@ -8,8 +8,8 @@ use Rattle.cs_apm.specs.States.{crash_state_of}
 use Rattle.cs_apm.proofs.Folding.{if_ok}
 use Rattle.cs_same_states.proofs.leaving.are_seen_equal.Goals as goal
 
-pub are_alike-requires-clause-allowed : goal.are_alike-requires-clause-allowed
-are_alike-requires-clause-allowed c =
+pub is_equal_pair-requires-clause-allowed : goal.is_equal_pair-requires-clause-allowed
+is_equal_pair-requires-clause-allowed c =
     let back = sym c.trace.ensures in
     record {
       ops = c.ops.ensures.value ∙ ap (λ (m : Micros). m.ops) c.micros.ensures ∙ ap (λ (t : Trace). (micros_in t).ops) back;
@@ -20,6 +20,6 @@ are_alike-requires-clause-allowed c =
 
 pub returns : goal.returns
 returns c =
-    if_ok c.are_alike.result (λ same given yes.
+    if_ok c.is_equal_pair.result (λ same given yes.
     subst (λ t. crash_state_of t (micros_in t) c.args.places.now ≡ crash_state_of t (micros_in t) c.args.others.now) c.trace.ensures
-    (given yes)) c.are_alike.ensures
+    (given yes)) c.is_equal_pair.ensures

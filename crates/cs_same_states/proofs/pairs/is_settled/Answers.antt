@@ -22,7 +22,7 @@ returns c =
       owner = c.if-not-are_same_owners.ensures refl;
       bytes = λ i low hits.
           let reached =
-          c.reached-span.ensures.all file i (omega (arith, low, sized))
+          c.reach_of-span.ensures.all file i (omega (arith, low, sized))
           (subst (λ v. reaches v file i c.args.op.now ≡ true) (sym c.floor_of.ensures) hits) in
           bytes yes i reached.0 reached.1;
     }) c.are_same_windows.ensures.size c.are_same_windows.ensures.bytes

@@ -25,7 +25,7 @@ loop-line-preserved c =
     let line = c.in-Some.line.now in
     let later = picks_from (number + 1) (pieces_left c.next.new.self) in
     record {
-      read = line_kept c.loop-line.picks.items c.keep_line.new.picks.items number (picks_on line) later c.in_default.ensures.kept
+      read = line_kept c.loop-line.picks.items c.push_pick.new.picks.items number (picks_on line) later c.in_default.ensures.kept
           ∙ ap (λ lines. with_picks_first c.loop-line.picks.items (picks_from number lines)) (sym c.in-Some.ensures.steps)
           ∙ c.loop-line.invariant.read;
       bounded = (let one_more = ap length c.in-Some.ensures.steps in omega (arith, one_more, c.loop-line.invariant.bounded));

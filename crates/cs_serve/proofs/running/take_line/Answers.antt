@@ -5,4 +5,4 @@ use Rattle.cs_serve.proofs.running.take_line.Goals as goal
 pub returns-in-Reload-clause-err : goal.returns-in-Reload-clause-err
 returns-in-Reload-clause-err g c =
     let line : c.args.line.now ≡ Reload c.bytes.result.now = cc in
-    rw line c.reload.ensures.err
+    rw line c.load_file.ensures.err

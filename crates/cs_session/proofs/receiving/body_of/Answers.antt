@@ -11,8 +11,8 @@ returns-in-Version-clause-fits c =
 
 pub returns-in-Attach-clause-fits : goal.returns-in-Attach-clause-fits
 returns-in-Attach-clause-fits c = λ msize _ _. record {
-  fields = c.ranged.ensures.fits;
-  small = omega (arith, qid_length (qid_of c.ranged.result));
+  fields = c.qid_in_range.ensures.fits;
+  small = omega (arith, qid_length (qid_of c.qid_in_range.result));
 }
 
 pub returns-in-Walk-clause-fits : goal.returns-in-Walk-clause-fits
@@ -23,14 +23,14 @@ returns-in-Walk-clause-fits c = λ msize _ fits. fits-walk msize c.into_qids.res
 
 pub returns-in-Open-clause-fits : goal.returns-in-Open-clause-fits
 returns-in-Open-clause-fits c = λ msize _ _. record {
-  fields = (c.ranged-in-Open.ensures.fits, lit< tt);
-  small = omega (arith, open_length (qid_of c.ranged-in-Open.result, 0));
+  fields = (c.qid_in_range-in-Open.ensures.fits, lit< tt);
+  small = omega (arith, open_length (qid_of c.qid_in_range-in-Open.result, 0));
 }
 
 pub returns-in-Create-clause-fits : goal.returns-in-Create-clause-fits
 returns-in-Create-clause-fits c = λ msize _ _. record {
-  fields = (c.ranged-in-Create.ensures.fits, lit< tt);
-  small = omega (arith, open_length (qid_of c.ranged-in-Create.result, 0));
+  fields = (c.qid_in_range-in-Create.ensures.fits, lit< tt);
+  small = omega (arith, open_length (qid_of c.qid_in_range-in-Create.result, 0));
 }
 
 pub returns-in-Read-clause-fits : goal.returns-in-Read-clause-fits
@@ -64,13 +64,13 @@ unfolding bytes_of_field
 returns-in-Flush-clause-fits c = λ msize _ _. record { fields = tt; small = omega arith }
 
 pub returns-in-Error-clause-fits : goal.returns-in-Error-clause-fits
-returns-in-Error-clause-fits c = λ msize _ _. c.error.ensures.fits msize
+returns-in-Error-clause-fits c = λ msize _ _. c.error_body.ensures.fits msize
 
 pub returns-in-Memory-clause-fits : goal.returns-in-Memory-clause-fits
-returns-in-Memory-clause-fits c = λ msize _ _. c.error-in-Memory.ensures.fits msize
+returns-in-Memory-clause-fits c = λ msize _ _. c.error_body-in-Memory.ensures.fits msize
 
 pub returns-in-Found-clause-fits : goal.returns-in-Found-clause-fits
-returns-in-Found-clause-fits c = λ msize _ _. c.error-in-Found.ensures.fits msize
+returns-in-Found-clause-fits c = λ msize _ _. c.error_body-in-Found.ensures.fits msize
 
 pub returns-in-Closed-clause-fits : goal.returns-in-Closed-clause-fits
-returns-in-Closed-clause-fits c = λ msize _ _. c.error-in-Closed.ensures.fits msize
+returns-in-Closed-clause-fits c = λ msize _ _. c.error_body-in-Closed.ensures.fits msize

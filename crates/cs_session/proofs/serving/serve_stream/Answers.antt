@@ -4,10 +4,10 @@ use Rattle.cs_session.proofs.serving.serve_stream.Goals.{in-Ok, in-Err}
 
 pub returns-clause-serves : goal.returns-clause-serves
 returns-clause-serves g c = record {
-  last = c.match-buffers.session;
-  there = c.match-buffers.port;
+  last = c.match-make_buffers.session;
+  there = c.match-make_buffers.port;
   moment = c.now.result;
-  conversed = elim c.match-buffers.branch [
+  conversed = elim c.match-make_buffers.branch [
     | in-Ok w ↦ rw (w.result-is, w.stream-is, w.session-is, w.port-is, ← c.new-session.ensures) w.converse-result.ensures.conversed
     | in-Err w ↦ rw (w.result-is, w.stream-is, w.session-is, w.port-is, c.new-session.ensures) (conversed_nothing g.P.Port.gives _ _ _ _)
   ];
@@ -15,7 +15,7 @@ returns-clause-serves g c = record {
 }
 
 pub returns-clause-faults : goal.returns-clause-faults
-returns-clause-faults g c = elim c.match-buffers.branch [
+returns-clause-faults g c = elim c.match-make_buffers.branch [
   | in-Ok w ↦
       let done = w.converse-result.ensures in
       rw (w.result-is, w.stream-is) (record {

@@ -8,8 +8,8 @@ use Rattle.cs_state.proofs.building.own_of.Goals as goal
 pub slots_of_set-requires-clause-inside : goal.slots_of_set-requires-clause-inside
 slots_of_set-requires-clause-inside c = members_inside c.args.parts.now c.requires.parts c.args.places.now c.requires.allowed
 
-pub count_standing-requires-clause-there : goal.count_standing-requires-clause-there
-count_standing-requires-clause-there c =
+pub touched_entries-requires-clause-there : goal.touched_entries-requires-clause-there
+touched_entries-requires-clause-there c =
     let parts = c.args.parts.now in
     let long : length c.deref-3.result.now ≡ length parts.tables.slots.items =
     ap length (c.deref-3.ensures.value ∙ c.in_ok-slots.ensures) ∙ after_long parts c.requires.parts c.args.places.now c.requires.allowed
@@ -17,15 +17,15 @@ count_standing-requires-clause-there c =
     subst (λ (ts : List ℕ). (k : ℕ) → k < length ts → kept_at ts k < length c.deref-3.result.now) (sym c.deref.ensures.value)
     (λ k low. subst (λ n. kept_at parts.shares.touched.items k < n) (sym long) (c.requires.parts.shares.touched_low k low))
 
-pub count_standing-requires-clause-counted : goal.count_standing-requires-clause-counted
-count_standing-requires-clause-counted c =
+pub touched_entries-requires-clause-counted : goal.touched_entries-requires-clause-counted
+touched_entries-requires-clause-counted c =
     let parts = c.args.parts.now in
     ap length c.deref-2.ensures.value ∙ c.requires.parts.shares.counted ∙ sym
     (ap length (c.deref-3.ensures.value ∙ c.in_ok-slots.ensures) ∙ after_long parts c.requires.parts c.args.places.now
     c.requires.allowed)
 
-pub count_standing-requires-clause-small : goal.count_standing-requires-clause-small
-count_standing-requires-clause-small c =
+pub touched_entries-requires-clause-small : goal.touched_entries-requires-clause-small
+touched_entries-requires-clause-small c =
     subst (λ (bs : List ℕ). (k : ℕ) → k < length c.deref.result.now
     → kept_at bs (kept_at c.deref.result.now k) + length c.deref.result.now < 4294967296) (sym c.deref-2.ensures.value)
     (subst (λ (ts : List ℕ). (k : ℕ) → k < length ts

@@ -8,7 +8,7 @@ use Rattle.cs_tcp.proofs.summary.report_of.Goals as goal
 
 pub returns-clause-report : goal.returns-clause-report
 returns-clause-report g c =
-    let own : c.again.result ≡ c.args.run.now = c.again.ensures ∙ c.key-2.ensures in
+    let own : c.copy.result ≡ c.args.run.now = c.copy.ensures ∙ c.key-2.ensures in
     let passes : c.of-passes.result.now ≡ passes_of c.args.passes.now c.args.run.now =
     c.of-passes.ensures ∙ ap (passes_of c.args.passes.now) c.key.ensures in
     subst (λ (key : Key). IsTold g.S.ServerBrand.serves key.number (IsAudit (passes_of c.args.passes.now key)) c.inspect.result) (sym own)

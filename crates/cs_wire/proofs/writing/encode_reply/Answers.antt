@@ -29,7 +29,7 @@ returns-clause-ok c =
     let header =
     c.put_header.ensures.items ∙ ap
     (λ (kind : ℕ). c.reserve.new.self.items ++ (bytes_of_field Four size ++ (bytes_of_field One kind ++ bytes_of_field Two m.tag)))
-    c.reply_kind.ensures in
+    c.reply_type.ensures in
     written c.reserve.new.self.items (reply_bytes m.body) (spelling (r_view m)) c.put_header.new.out.items c.put_reply.new.out.items size
     (reply_number m.body) m.tag (r_parts m) c.spelled_length-size.ensures header c.put_reply.ensures.items ∙ ap
     (λ z. z ++ spelling (r_view m)) c.in_ok-reserve.ensures.items

@@ -31,7 +31,7 @@ returns-clause-ok c =
     let header =
     c.put_header.ensures.items ∙ ap
     (λ (kind : ℕ). c.reserve.new.self.items ++ (bytes_of_field Four size ++ (bytes_of_field One kind ++ bytes_of_field Two m.tag)))
-    c.request_kind.ensures in
+    c.request_type.ensures in
     written c.reserve.new.self.items (request_bytes m.body) (spelling (t_view m)) c.put_header.new.out.items c.put_request.new.out.items
     size (request_number m.body) m.tag (t_parts m) c.spelled_length-size.ensures header c.put_request.ensures.items ∙ ap
     (λ z. z ++ spelling (t_view m)) c.in_ok-reserve.ensures.items

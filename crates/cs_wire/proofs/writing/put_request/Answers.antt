@@ -9,8 +9,8 @@ returns-in-Read-clause-items c =
     let count = bytes_of_field Four c.in-Read.count in
     let offset = bytes_of_field Eight c.in-Read.offset in
     rw c.in-Read.is
-    (then_put c.args.out.now.items (bytes_of_field Four c.in-Read.fid) (offset ++ count) c.put_four-in-Read.ensures.items
-    (then_put c.put_four-in-Read.new.out.items offset count c.put_eight.ensures.items c.put_four-in-Read-2.ensures.items))
+    (then_put c.args.out.now.items (bytes_of_field Four c.in-Read.fid) (offset ++ count) c.put_u32-in-Read.ensures.items
+    (then_put c.put_u32-in-Read.new.out.items offset count c.put_u64.ensures.items c.put_u32-in-Read-2.ensures.items))
 
 pub returns-in-Write-clause-items : goal.returns-in-Write-clause-items
 unfolding bytes_of_field
@@ -19,5 +19,5 @@ returns-in-Write-clause-items c =
     let offset = bytes_of_field Eight c.in-Write.offset in
     let bytes = bytes_of_field Raw c.in-Write.data.now in
     rw c.in-Write.is
-    (then_put c.args.out.now.items fid (offset ++ bytes) c.put_four-in-Write.ensures.items
-    (then_put c.put_four-in-Write.new.out.items offset bytes c.put_eight-in-Write.ensures.items c.put_data.ensures.items))
+    (then_put c.args.out.now.items fid (offset ++ bytes) c.put_u32-in-Write.ensures.items
+    (then_put c.put_u32-in-Write.new.out.items offset bytes c.put_u64-in-Write.ensures.items c.put_data.ensures.items))

@@ -12,9 +12,9 @@ pub overflow_cast-entry_length : goal.overflow_cast-entry_length
 overflow_cast-entry_length c =
     omega (arith, c.entry_length.ensures, entry_small (stat_in c.args.stat.now) (is_entry (stat_in c.args.stat.now) c.requires.fits))
 
-pub put_two-requires : goal.put_two-requires
+pub put_u16-requires : goal.put_u16-requires
 unfolding bytes_of_field
-put_two-requires c =
+put_u16-requires c =
     let v = stat_in c.args.stat.now in
     omega (arith, c.requires.room, ap length (boxed_is v), length-append (bytes_of_field Two (length (stat_entry v))) (stat_entry v))
 
@@ -30,14 +30,14 @@ put_entry-requires-clause-room c =
       c.requires.room,
       ap length (boxed_is v),
       length-append (bytes_of_field Two (length (stat_entry v))) (stat_entry v),
-      c.put_two.ensures.len,
-      c.put_two.ensures.capacity,
+      c.put_u16.ensures.len,
+      c.put_u16.ensures.capacity,
     )
 
 pub returns-clause-items : goal.returns-clause-items
 returns-clause-items c =
     let v = stat_in c.args.stat.now in
-    let first : c.put_two.new.out.items ≡ c.args.out.now.items ++ bytes_of_field Two (length (stat_entry v)) =
-    c.put_two.ensures.items ∙ ap (λ (n : ℕ). c.args.out.now.items ++ bytes_of_field Two n) c.entry_length.ensures in
+    let first : c.put_u16.new.out.items ≡ c.args.out.now.items ++ bytes_of_field Two (length (stat_entry v)) =
+    c.put_u16.ensures.items ∙ ap (λ (n : ℕ). c.args.out.now.items ++ bytes_of_field Two n) c.entry_length.ensures in
     then_put c.args.out.now.items (bytes_of_field Two (length (stat_entry v))) (stat_entry v) first c.put_entry.ensures.items ∙ ap
     (λ (z : List ℕ). c.args.out.now.items ++ z) (sym (boxed_is v))

@@ -15,11 +15,11 @@ returns-clause-items c =
     let f = bytes_of_field Four s.mode ++ e in
     let g = bytes_of_field qid_shape (qid_of s.qid) ++ f in
     let h = bytes_of_field Four s.dev ++ g in
-    then_put c.args.out.now.items (bytes_of_field Two s.kind) h c.put_two.ensures.items
-    (then_put c.put_two.new.out.items (bytes_of_field Four s.dev) g c.put_four.ensures.items
-    (then_put c.put_four.new.out.items (bytes_of_field qid_shape (qid_of s.qid)) f c.put_qid.ensures.items
-    (then_put c.put_qid.new.out.items (bytes_of_field Four s.mode) e c.put_four-2.ensures.items
-    (then_put c.put_four-2.new.out.items (bytes_of_field Four s.atime) d c.put_four-3.ensures.items
-    (then_put c.put_four-3.new.out.items (bytes_of_field Four s.mtime) b c.put_four-4.ensures.items
-    (then_put c.put_four-4.new.out.items (bytes_of_field Eight s.length) a c.put_eight.ensures.items
+    then_put c.args.out.now.items (bytes_of_field Two s.kind) h c.put_u16.ensures.items
+    (then_put c.put_u16.new.out.items (bytes_of_field Four s.dev) g c.put_u32.ensures.items
+    (then_put c.put_u32.new.out.items (bytes_of_field qid_shape (qid_of s.qid)) f c.put_qid.ensures.items
+    (then_put c.put_qid.new.out.items (bytes_of_field Four s.mode) e c.put_u32-2.ensures.items
+    (then_put c.put_u32-2.new.out.items (bytes_of_field Four s.atime) d c.put_u32-3.ensures.items
+    (then_put c.put_u32-3.new.out.items (bytes_of_field Four s.mtime) b c.put_u32-4.ensures.items
+    (then_put c.put_u32-4.new.out.items (bytes_of_field Eight s.length) a c.put_u64.ensures.items
     c.put_stat_texts.ensures.items))))))

@@ -16,6 +16,6 @@ returns-in-Some g c =
     (λ j. slice_get (sym c.deref.ensures.value j) (sym c.pass.view_is j).number) ∙ h in
     let both =
     fits_where_counted _ i.tree _ i.opens.items i.journal.items i.passes.items c.self.invariant.0 p c.in-Some.counts.now there in (
-      λ yes. along Fits c.args.self.now _ p p (sym c.self.view_is) refl (both.0 (c.tallies.ensures.0 yes)),
-      λ fits. c.tallies.ensures.1 (both.1 (along Fits _ c.args.self.now p p c.self.view_is refl fits)),
+      λ yes. along Fits c.args.self.now _ p p (sym c.self.view_is) refl (both.0 (c.are_counts_of.ensures.0 yes)),
+      λ fits. c.are_counts_of.ensures.1 (both.1 (along Fits _ c.args.self.now p p c.self.view_is refl fits)),
     )

@@ -54,20 +54,22 @@ pub insert_both_answers-requires-clause-old : goal.insert_both_answers-requires-
 insert_both_answers-requires-clause-old g c =
     let one = get nat_eq c.copy_up.new.nodes in
     let after = unseen g.L.TreeRead.tree c.deref.ensures c.copy_up.ensures.same c.self.invariant c.self.view_is in
-    subst (λ v. layered_lookup (g.L.TreeRead.tree v) one c.in-Some.directory c.in_ok-said.said ≡ Some c.args.number) (sym c.deref.ensures)
+    subst (λ v. layered_lookup (g.L.TreeRead.tree v) one c.in-Some.directory c.in_ok-old_answer.old_answer ≡ Some c.args.number)
+    (sym c.deref.ensures)
     (own_found (g.L.TreeRead.tree (arc_value c.self.inside.lower)) one _ _ after.held _ after.view c.args.number c.requires.not_root
     c.requires.there
-    c.in-Some.directory c.in-Some.ensures c.in_ok-said.said
-    (ap Some (c.in_ok-said.ensures ∙ c.in_ok-old.ensures) ∙ c.in-Some-name_of.ensures))
+    c.in-Some.directory c.in-Some.ensures c.in_ok-old_answer.old_answer
+    (ap Some (c.in_ok-old_answer.ensures ∙ c.in_ok-old.ensures) ∙ c.in-Some-name_of.ensures))
 
 pub insert_both_answers-requires-clause-new : goal.insert_both_answers-requires-clause-new
 insert_both_answers-requires-clause-new g c =
     let one = get nat_eq c.copy_up.new.nodes in
     let after = unseen g.L.TreeRead.tree c.deref.ensures c.copy_up.ensures.same c.self.invariant c.self.view_is in
     let free-above = subst (λ o. IfSome o (λ u. number_in c.args.self.now u c.args.name ≡ None)) (sym c.in-Some.ensures) c.requires.free in
-    subst (λ v. layered_lookup (g.L.TreeRead.tree v) one c.in-Some.directory c.in_ok-free.free ≡ None) (sym c.deref.ensures)
-    (found_is (g.L.TreeRead.tree (arc_value c.self.inside.lower)) one _ _ after.held _ after.view c.in-Some.directory c.in_ok-free.free ∙ ap
-    (number_in c.args.self.now c.in-Some.directory) c.in_ok-free.ensures ∙ free-above)
+    subst (λ v. layered_lookup (g.L.TreeRead.tree v) one c.in-Some.directory c.in_ok-new_answer.new_answer ≡ None) (sym c.deref.ensures)
+    (found_is (g.L.TreeRead.tree (arc_value c.self.inside.lower)) one _ _ after.held _ after.view c.in-Some.directory
+    c.in_ok-new_answer.new_answer ∙ ap
+    (number_in c.args.self.now c.in-Some.directory) c.in_ok-new_answer.ensures ∙ free-above)
 
 pub invariant_of-self-in_err-insert_both_answers : goal.invariant_of-self-in_err-insert_both_answers
 invariant_of-self-in_err-insert_both_answers g c =
@@ -132,8 +134,8 @@ move_name-requires-clause-said g c =
           c.requires.not_root
           c.requires.there c.in-Some.directory c.in-Some.ensures c.in_ok-old.old (ap Some c.in_ok-old.ensures ∙ c.in-Some-name_of.ensures)
           (sym e)) ∙ s.1,
-      subst (λ x. IsSome (own_in s.0.body x)) (c.in_ok-said.ensures ∙ sym c.as_str.ensures.value) s.2,
-      subst (λ x. IsSome (own_in s.0.body x)) c.in_ok-free.ensures s.3,
+      subst (λ x. IsSome (own_in s.0.body x)) (c.in_ok-old_answer.ensures ∙ sym c.as_str.ensures.value) s.2,
+      subst (λ x. IsSome (own_in s.0.body x)) c.in_ok-new_answer.ensures s.3,
     )
 
 pub invariant_of-self-2 : goal.invariant_of-self-2
@@ -155,9 +157,9 @@ invariant_of-self-2 g c =
     c.requires.file))) (
       s.0,
       s.1,
-      subst (λ x. IsSome (own_in s.0.body x)) (c.in_ok-said.ensures ∙ sym c.as_str.ensures.value) s.2,
+      subst (λ x. IsSome (own_in s.0.body x)) (c.in_ok-old_answer.ensures ∙ sym c.as_str.ensures.value) s.2,
       subst
-          (λ x. IsSome (own_in s.0.body x)) c.in_ok-free.ensures s.3,
+          (λ x. IsSome (own_in s.0.body x)) c.in_ok-new_answer.ensures s.3,
     )
     c.move_name.ensures
 
@@ -180,8 +182,8 @@ returns-clause-ok g c =
     c.requires.file))) (
       s.0,
       s.1,
-      subst (λ x. IsSome (own_in s.0.body x)) (c.in_ok-said.ensures ∙ sym c.as_str.ensures.value) s.2,
+      subst (λ x. IsSome (own_in s.0.body x)) (c.in_ok-old_answer.ensures ∙ sym c.as_str.ensures.value) s.2,
       subst
-          (λ x. IsSome (own_in s.0.body x)) c.in_ok-free.ensures s.3,
+          (λ x. IsSome (own_in s.0.body x)) c.in_ok-new_answer.ensures s.3,
     )
     c.move_name.ensures

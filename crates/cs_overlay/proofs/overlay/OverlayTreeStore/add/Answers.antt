@@ -35,6 +35,9 @@ returns-in_err-make_room-clause-err g c =
     let after = unseen g.L.TreeRead.tree c.deref.ensures c.make_room.ensures.same c.self.invariant c.self.view_is in
     rw p.1 after.view
 
+pub insert_answer-requires : goal.insert_answer-requires
+insert_answer-requires g c = c.in_ok-make_room.ensures.there
+
 pub invariant_of-self-in_err-insert_answer : goal.invariant_of-self-in_err-insert_answer
 invariant_of-self-in_err-insert_answer g c =
     let one = get nat_eq c.make_room.new.nodes in
@@ -52,8 +55,8 @@ returns-in_err-insert_answer-clause-err g c =
     (same_alike (g.L.TreeRead.tree (arc_value c.self.inside.lower)) one (get nat_eq c.insert_answer.new.nodes)
     c.in_err-insert_answer.ensures.err) _ _ after.view)
 
-pub stamp_node-requires : goal.stamp_node-requires
-stamp_node-requires g c =
+pub stamp_directory-requires : goal.stamp_directory-requires
+stamp_directory-requires g c =
     let one = get nat_eq c.make_room.new.nodes in
     let after = unseen g.L.TreeRead.tree c.deref.ensures c.make_room.ensures.same c.self.invariant c.self.view_is in
     stamps_said (g.L.TreeRead.tree (arc_value c.self.inside.lower)) one (get nat_eq c.insert_answer.new.nodes) c.args.directory
@@ -65,7 +68,7 @@ pub invariant_of-self-2 : goal.invariant_of-self-2
 invariant_of-self-2 g c =
     let one = get nat_eq c.make_room.new.nodes in
     let after = unseen g.L.TreeRead.tree c.deref.ensures c.make_room.ensures.same c.self.invariant c.self.view_is in
-    subst (IsOver (g.L.TreeRead.tree (arc_value c.self.inside.lower)) (get nat_eq c.put.new.nodes) (c.self.inside.greatest + 1 + 1))
+    subst (IsOver (g.L.TreeRead.tree (arc_value c.self.inside.lower)) (get nat_eq c.set_entry.new.nodes) (c.self.inside.greatest + 1 + 1))
     (sym c.in-Some.ensures.1)
     (over_added (g.L.TreeRead.tree (arc_value c.self.inside.lower)) one _ _ after.held _ after.view c.args.directory c.requires.directory
     c.args.name
@@ -73,10 +76,10 @@ invariant_of-self-2 g c =
     c.in_ok-group.group
     (ap Some c.in_ok-group.ensures ∙ ap (option_map (λ (m : MetadataBuf). m.group)) c.in-Some-record.ensures.value ∙ group_lent
     (record_numbered c.args.self.now c.args.directory)) c.in_ok-node.node c.in_ok-node.ensures
-    (get nat_eq c.insert_answer.new.nodes) (get nat_eq c.stamp_node.new.nodes) (get nat_eq c.put.new.nodes)
+    (get nat_eq c.insert_answer.new.nodes) (get nat_eq c.stamp_directory.new.nodes) (get nat_eq c.set_entry.new.nodes)
     (subst (λ k. SameNodes (step_at one c.args.directory (λ d. with_answer d k (Some (c.self.inside.greatest + 1))))
-    (get nat_eq c.insert_answer.new.nodes)) c.in_ok-key.ensures c.in_ok-insert_answer.ensures.ok) c.stamp_node.ensures.step
-    c.put.ensures)
+    (get nat_eq c.insert_answer.new.nodes)) c.in_ok-key.ensures c.in_ok-insert_answer.ensures.ok) c.stamp_directory.ensures.step
+    c.set_entry.ensures)
 
 pub returns-clause-number : goal.returns-clause-number
 returns-clause-number g c =
@@ -92,7 +95,7 @@ returns-clause-ok g c =
     c.in_ok-group.group
     (ap Some c.in_ok-group.ensures ∙ ap (option_map (λ (m : MetadataBuf). m.group)) c.in-Some-record.ensures.value ∙ group_lent
     (record_numbered c.args.self.now c.args.directory)) c.in_ok-node.node c.in_ok-node.ensures
-    (get nat_eq c.insert_answer.new.nodes) (get nat_eq c.stamp_node.new.nodes) (get nat_eq c.put.new.nodes)
+    (get nat_eq c.insert_answer.new.nodes) (get nat_eq c.stamp_directory.new.nodes) (get nat_eq c.set_entry.new.nodes)
     (subst (λ k. SameNodes (step_at one c.args.directory (λ d. with_answer d k (Some (c.self.inside.greatest + 1))))
-    (get nat_eq c.insert_answer.new.nodes)) c.in_ok-key.ensures c.in_ok-insert_answer.ensures.ok) c.stamp_node.ensures.step
-    c.put.ensures
+    (get nat_eq c.insert_answer.new.nodes)) c.in_ok-key.ensures c.in_ok-insert_answer.ensures.ok) c.stamp_directory.ensures.step
+    c.set_entry.ensures

@@ -31,6 +31,9 @@ pub invariant_of-self : goal.invariant_of-self
 invariant_of-self g c =
     (unseen g.L.TreeRead.tree c.deref.ensures c.make_room.ensures.same c.self.invariant c.self.view_is).held
 
+pub insert_answer-requires : goal.insert_answer-requires
+insert_answer-requires g c = c.in_ok-make_room.ensures.there
+
 pub invariant_of-self-in_err-insert_answer : goal.invariant_of-self-in_err-insert_answer
 invariant_of-self-in_err-insert_answer g c =
     let one = get nat_eq c.make_room.new.nodes in
@@ -39,8 +42,8 @@ invariant_of-self-in_err-insert_answer g c =
     (same_alike (g.L.TreeRead.tree (arc_value c.self.inside.lower)) one (get nat_eq c.insert_answer.new.nodes)
     c.in_err-insert_answer.ensures.err) _ _ after.held
 
-pub stamp_node-requires : goal.stamp_node-requires
-stamp_node-requires g c =
+pub stamp_directory-requires : goal.stamp_directory-requires
+stamp_directory-requires g c =
     let one = get nat_eq c.make_room.new.nodes in
     let after = unseen g.L.TreeRead.tree c.deref.ensures c.make_room.ensures.same c.self.invariant c.self.view_is in
     stamps_said (g.L.TreeRead.tree (arc_value c.self.inside.lower)) one (get nat_eq c.insert_answer.new.nodes) c.in-Some.directory
@@ -55,8 +58,8 @@ overflow_sub-self g c =
     some_count (g.L.TreeRead.tree (arc_value c.self.inside.lower)) one _ _ after.held _ after.view c.args.number c.requires.not_root
     c.requires.there
     c.in-Some.directory c.in-Some.ensures c.in_ok-name.name (ap Some c.in_ok-name.ensures ∙ c.in-Some-name_of.ensures) c.args.stamp
-    c.requires.empty c.in_ok-make_room.ensures.there (get nat_eq c.insert_answer.new.nodes) (get nat_eq c.stamp_node.new.nodes)
-    (get nat_eq c.put.new.nodes) c.in_ok-insert_answer.ensures.ok c.stamp_node.ensures.step c.put.ensures
+    c.requires.empty c.in_ok-make_room.ensures.there (get nat_eq c.insert_answer.new.nodes) (get nat_eq c.stamp_directory.new.nodes)
+    (get nat_eq c.set_entry.new.nodes) c.in_ok-insert_answer.ensures.ok c.stamp_directory.ensures.step c.set_entry.ensures
 
 pub invariant_of-self-2 : goal.invariant_of-self-2
 invariant_of-self-2 g c =
@@ -65,8 +68,8 @@ invariant_of-self-2 g c =
     over_removed (g.L.TreeRead.tree (arc_value c.self.inside.lower)) one _ _ after.held _ after.view c.args.number c.requires.not_root
     c.requires.there
     c.in-Some.directory c.in-Some.ensures c.in_ok-name.name (ap Some c.in_ok-name.ensures ∙ c.in-Some-name_of.ensures) c.args.stamp
-    c.requires.empty c.in_ok-make_room.ensures.there (get nat_eq c.insert_answer.new.nodes) (get nat_eq c.stamp_node.new.nodes)
-    (get nat_eq c.put.new.nodes) c.in_ok-insert_answer.ensures.ok c.stamp_node.ensures.step c.put.ensures
+    c.requires.empty c.in_ok-make_room.ensures.there (get nat_eq c.insert_answer.new.nodes) (get nat_eq c.stamp_directory.new.nodes)
+    (get nat_eq c.set_entry.new.nodes) c.in_ok-insert_answer.ensures.ok c.stamp_directory.ensures.step c.set_entry.ensures
 
 pub returns-clause-ok : goal.returns-clause-ok
 returns-clause-ok g c =
@@ -75,5 +78,5 @@ returns-clause-ok g c =
     tree_removed (g.L.TreeRead.tree (arc_value c.self.inside.lower)) one _ _ after.held _ after.view c.args.number c.requires.not_root
     c.requires.there
     c.in-Some.directory c.in-Some.ensures c.in_ok-name.name (ap Some c.in_ok-name.ensures ∙ c.in-Some-name_of.ensures) c.args.stamp
-    c.requires.empty c.in_ok-make_room.ensures.there (get nat_eq c.insert_answer.new.nodes) (get nat_eq c.stamp_node.new.nodes)
-    (get nat_eq c.put.new.nodes) c.in_ok-insert_answer.ensures.ok c.stamp_node.ensures.step c.put.ensures
+    c.requires.empty c.in_ok-make_room.ensures.there (get nat_eq c.insert_answer.new.nodes) (get nat_eq c.stamp_directory.new.nodes)
+    (get nat_eq c.set_entry.new.nodes) c.in_ok-insert_answer.ensures.ok c.stamp_directory.ensures.step c.set_entry.ensures

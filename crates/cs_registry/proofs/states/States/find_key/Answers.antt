@@ -16,12 +16,12 @@ returns-in_default-clause-finds g c =
 pub make_run-requires-clause-admitted : goal.make_run-requires-clause-admitted
 make_run-requires-clause-admitted g c =
     let there = sym (ap option_copied c.in-Some.is) ∙ (rw (c.deref.ensures.value, c.number.ensures) at c.published_state.ensures) in
-    is_admitted c.self.invariant c.args.key.number c.in-Some.lower.now there
+    is_admitted c.self.invariant c.args.key.number c.in-Some.state.now there
 
 pub returns-in-Some-get_index_of-clause-finds : goal.returns-in-Some-get_index_of-clause-finds
 returns-in-Some-get_index_of-clause-finds g c =
     let there = sym (ap option_copied c.in-Some.is) ∙ (rw (c.deref.ensures.value, c.number.ensures) at c.published_state.ensures) in
-    let published = published_is c.self.inside.states.items c.args.key.number (Some c.in-Some.lower.now) there in
+    let published = published_is c.self.inside.states.items c.args.key.number (Some c.in-Some.state.now) there in
     rw (← c.self.view_is)
     (finds_again g.H.Held.is_fresh _ c.args.key published c.in-Some-get_index_of.place (sym c.in-Some-get_index_of.ensures.index)
     c.count_find.result c.count_find.new.runs.entries c.count_find.ensures.ok c.count_find.ensures.err)
@@ -29,21 +29,21 @@ returns-in-Some-get_index_of-clause-finds g c =
 pub returns-in-None-clause-finds : goal.returns-in-None-clause-finds
 returns-in-None-clause-finds g c =
     let there = sym (ap option_copied c.in-Some.is) ∙ (rw (c.deref.ensures.value, c.number.ensures) at c.published_state.ensures) in
-    let published = published_is c.self.inside.states.items c.args.key.number (Some c.in-Some.lower.now) there in
+    let published = published_is c.self.inside.states.items c.args.key.number (Some c.in-Some.state.now) there in
     rw (← c.self.view_is)
     (finds_full g.H.Held.is_fresh _ c.args.key published (sym c.in-None.ensures.index) (omega (arith, c.len.ensures.len)))
 
 pub returns-after-make_run-clause-finds : goal.returns-after-make_run-clause-finds
 returns-after-make_run-clause-finds g c =
     let there = sym (ap option_copied c.in-Some.is) ∙ (rw (c.deref.ensures.value, c.number.ensures) at c.published_state.ensures) in
-    let published = published_is c.self.inside.states.items c.args.key.number (Some c.in-Some.lower.now) there in
+    let published = published_is c.self.inside.states.items c.args.key.number (Some c.in-Some.state.now) there in
     let none : place_of c.args.key c.self.inside.runs.entries ≡ None = sym c.in-None.ensures.index in
     let few : length c.self.inside.runs.entries < RUNS = omega (arith, c.len.ensures.len) in
     rw (← c.self.view_is) (elim c.match-make_run.branch [
       | in-Ok w ↦ rw w.result-is
           (let made = w.in-Ok.ensures.made in
           finds_new g.H.Held.is_fresh _ c.args.key published none few w.in-Ok.place c.make_run.new.runs.entries made.1.0 made.0 made.1.2
-          (arc_value c.in-Some.lower.now, state_is c.self.invariant c.args.key.number c.in-Some.lower.now there, made.1.1))
+          (arc_value c.in-Some.state.now, state_is c.self.invariant c.args.key.number c.in-Some.state.now there, made.1.1))
       | in-Err w ↦ rw w.result-is
           (finds_short g.H.Held.is_fresh _ c.args.key published none few c.make_run.new.runs.entries w.in-Err.ensures.err)
     ])

@@ -5,7 +5,7 @@ use Rattle.cs_run.proofs.opens.Opens.release.Goals as goal
 
 pub invariant_of-self : goal.invariant_of-self
 invariant_of-self c =
-    without_one c.self.inside.blocks.items c.take_out.new.blocks.items c.self.inside.count c.in_ok-place.place.block c.in_ok-place.place.at
-    c.self.invariant
-    (subst (λ (blocks : List Block). HasOpen blocks c.in_ok-place.place.block c.in_ok-place.place.at) c.as_slice.ensures.value
-    c.in_ok-place.ensures.has_open) c.take_out.ensures.opens c.take_out.ensures.filled
+    without_one c.self.inside.blocks.items c.remove_open.new.blocks.items c.self.inside.count c.in_ok-place.place.block_index
+    c.in_ok-place.place.at c.self.invariant
+    (subst (λ (blocks : List Block). HasOpen blocks c.in_ok-place.place.block_index c.in_ok-place.place.at) c.as_slice.ensures.value
+    c.in_ok-place.ensures.has_open) c.remove_open.ensures.opens c.remove_open.ensures.filled

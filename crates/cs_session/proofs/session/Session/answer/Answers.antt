@@ -11,7 +11,7 @@ returns-in-Call-clause-answered g c =
     _ c.call_step.ensures.takes refl)
 
 pub returns-in-Version-clause-fits : goal.returns-in-Version-clause-fits
-returns-in-Version-clause-fits g c = λ _. c.version.ensures.plain c.args.self.now.msize
+returns-in-Version-clause-fits g c = λ _. c.answer_version.ensures.plain c.args.self.now.msize
 
 pub returns-in-Clunk-clause-fits : goal.returns-in-Clunk-clause-fits
-returns-in-Clunk-clause-fits g c = λ _. c.clunk.ensures.plain c.args.self.now.msize
+returns-in-Clunk-clause-fits g c = λ _. c.answer_clunk.ensures.plain c.args.self.now.msize

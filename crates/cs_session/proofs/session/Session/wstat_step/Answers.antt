@@ -6,10 +6,10 @@ use Rattle.cs_session.proofs.session.Session.wstat_step.Goals as goal
 pub returns-in-Err-clause-takes : goal.returns-in-Err-clause-takes
 returns-in-Err-clause-takes g c =
     refuses g.P.Port.gives c.args.now (call.Wstat c.args.message) c.args.self.now _ c.self.view_is c.args.port.now _
-    c.is_some-awaits.ensures c.in-Err.reply c.in-Err.ensures.decided _ (search rules)
+    c.is_some-awaits_attach.ensures c.in-Err.reply c.in-Err.ensures.decided _ (search rules)
 
 pub returns-clause-takes : goal.returns-clause-takes
 returns-clause-takes g c =
-    calls g.P.Port.gives c.args.now (call.Wstat c.args.message) c.args.self.now _ c.self.view_is c.args.port.now _ c.is_some-awaits.ensures
-    _ c.in-Ok.ensures.decided c.put-answer.result _ c.put-answer.ensures.given _ _
+    calls g.P.Port.gives c.args.now (call.Wstat c.args.message) c.args.self.now _ c.self.view_is c.args.port.now _
+    c.is_some-awaits_attach.ensures _ c.in-Ok.ensures.decided c.ask-answer.result _ c.ask-answer.ensures.given _ _
     (both _ _ _ c.self.inside.fids.fids c.wstat_reply.ensures.value refl) _ (search rules)

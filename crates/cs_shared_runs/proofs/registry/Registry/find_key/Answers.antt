@@ -15,7 +15,7 @@ returns-clause-finds g c =
     rw (← c.self.view_is) (record {
       told = Ok c.in_ok-place.place;
       found = c.in_ok-place.ensures.finds;
-      handle = elim c.match-again.branch [
+      handle = elim c.match-try_clone.branch [
         | in-Ok w ↦ rw w.result-is (c.held_at.ensures ∙ ap Some (sym w.in-Ok.ensures))
         | in-Err w ↦ rw w.result-is refl
       ];
@@ -26,7 +26,7 @@ returns-clause-key g c =
     let left =
     found_of_server g.S.ServerBrand.is_scene c.self.inside.states c.find_key.new.self c.self.invariant c.args.key c.in_ok-place.place
     c.in_ok-place.ensures.finds in
-    elim c.match-again.branch [
+    elim c.match-try_clone.branch [
       | in-Ok w ↦ rw w.result-is
           (w.in-Ok.ensures ∙ found_key c.find_key.new.self.runs c.in_ok-place.place left.keyed c.args.key c.held_at.result.now
           c.in_ok-place.ensures.found.here c.held_at.ensures)

@@ -23,18 +23,19 @@ unreachable-requires c =
     (c.in_default.ensures.value ∙
     (directory_there (get nat_eq c.self.inside.nodes) _ c.self.invariant _ c.self.view_is c.args.directory c.requires.directory).1)))
 
-pub grow-requires : goal.grow-requires
-grow-requires c = subst IsSome c.in-Some.ensures.value refl
+pub add_node-requires : goal.add_node-requires
+add_node-requires c = subst IsSome c.in-Some.ensures.value refl
 
 pub invariant_of-self : goal.invariant_of-self
 invariant_of-self c =
     subst (λ v. IsHeld v (c.self.inside.greatest + 1))
-    (one_table (get nat_eq c.self.inside.nodes) (get nat_eq c.grow.new.nodes) c.in_err-grow.ensures.err) c.self.invariant
+    (one_table (get nat_eq c.self.inside.nodes) (get nat_eq c.add_node.new.nodes) c.in_err-add_node.ensures.err) c.self.invariant
 
-pub returns-in_err-grow-clause-err : goal.returns-in_err-grow-clause-err
-returns-in_err-grow-clause-err c = let p = err_from_is_err_and c.from_residual-in_err-grow.result c.from_residual-in_err-grow.ensures.1 in
+pub returns-in_err-add_node-clause-err : goal.returns-in_err-add_node-clause-err
+returns-in_err-add_node-clause-err c =
+    let p = err_from_is_err_and c.from_residual-in_err-add_node.result c.from_residual-in_err-add_node.ensures.1 in
     rw p.1 (ap (λ v. tree_of (model_nodes v) (c.self.inside.greatest + 1))
-    (sym (one_table (get nat_eq c.self.inside.nodes) (get nat_eq c.grow.new.nodes) c.in_err-grow.ensures.err)) ∙ c.self.view_is)
+    (sym (one_table (get nat_eq c.self.inside.nodes) (get nat_eq c.add_node.new.nodes) c.in_err-add_node.ensures.err)) ∙ c.self.view_is)
 
 pub stamp_node-requires : goal.stamp_node-requires
 stamp_node-requires c =
@@ -43,7 +44,8 @@ stamp_node-requires c =
     c.requires.directory c.args.name c.args.new c.args.stamp c.requires.free c.in_ok-file.file
     (c.in_ok-file.ensures ∙ ap (λ g. new_record (c.self.inside.greatest + 1) g c.args.new c.args.stamp) c.in_ok-group.ensures)
     c.of-node.result c.of-node.ensures
-    (string_bytes c.in_ok-key.key) (c.in_ok-key.ensures.cases ∙ c.as_string.ensures) (get nat_eq c.grow.new.nodes) c.in_ok-grow.ensures.ok
+    (string_bytes c.in_ok-key.key) (c.in_ok-key.ensures.cases ∙ c.as_string.ensures)
+    (get nat_eq c.add_node.new.nodes) c.in_ok-add_node.ensures.ok
     c.requires.vers
 
 pub invariant_of-self-2 : goal.invariant_of-self-2
@@ -53,7 +55,8 @@ invariant_of-self-2 c =
     c.requires.directory c.args.name c.args.new c.args.stamp c.requires.free c.in_ok-file.file
     (c.in_ok-file.ensures ∙ ap (λ g. new_record (c.self.inside.greatest + 1) g c.args.new c.args.stamp) c.in_ok-group.ensures)
     c.of-node.result c.of-node.ensures
-    (string_bytes c.in_ok-key.key) (c.in_ok-key.ensures.cases ∙ c.as_string.ensures) (get nat_eq c.grow.new.nodes) c.in_ok-grow.ensures.ok
+    (string_bytes c.in_ok-key.key) (c.in_ok-key.ensures.cases ∙ c.as_string.ensures)
+    (get nat_eq c.add_node.new.nodes) c.in_ok-add_node.ensures.ok
     (get nat_eq c.stamp_node.new.nodes) c.stamp_node.ensures
 
 pub returns-clause-number : goal.returns-clause-number
@@ -66,5 +69,6 @@ returns-clause-ok c =
     c.requires.directory c.args.name c.args.new c.args.stamp c.requires.free c.in_ok-file.file
     (c.in_ok-file.ensures ∙ ap (λ g. new_record (c.self.inside.greatest + 1) g c.args.new c.args.stamp) c.in_ok-group.ensures)
     c.of-node.result c.of-node.ensures
-    (string_bytes c.in_ok-key.key) (c.in_ok-key.ensures.cases ∙ c.as_string.ensures) (get nat_eq c.grow.new.nodes) c.in_ok-grow.ensures.ok
+    (string_bytes c.in_ok-key.key) (c.in_ok-key.ensures.cases ∙ c.as_string.ensures)
+    (get nat_eq c.add_node.new.nodes) c.in_ok-add_node.ensures.ok
     (get nat_eq c.stamp_node.new.nodes) c.stamp_node.ensures

@@ -5,8 +5,8 @@ use Rattle.cs_users.specs.Rows.{Row, AreNamed}
 use Rattle.cs_users.proofs.Places.{unknown_before}
 use Rattle.cs_users.proofs.rows.Rows.try_clone.Goals as goal
 
-pub with-requires : goal.with-requires
-with-requires c =
+pub with_row-requires : goal.with_row-requires
+with_row-requires c =
     let items = c.deref-row-items.result.now in
     let i = c.loop-row.row-index in
     ap (λ (rows : List Row). is_known rows c.in_ok-try_clone.field-0.name) c.loop-row.invariant

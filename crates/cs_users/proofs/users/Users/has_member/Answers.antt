@@ -7,17 +7,18 @@ index-requires c =
     let long = kept_long c.self.inside.rows c.self.inside.groups.items c.self.invariant c.args.self.now c.self.view_is in
     omega (arith, long, c.requires.group, c.self.inside.groups.ok)
 
-pub has-requires-clause-ascending : goal.has-requires-clause-ascending
-has-requires-clause-ascending c =
+pub contains-requires-clause-ascending : goal.contains-requires-clause-ascending
+contains-requires-clause-ascending c =
     increasing_kept c.self.inside.rows c.self.inside.groups.items c.self.invariant c.args.self.now c.self.view_is c.args.group
     c.index.result.now c.requires.group c.index.ensures
 
-pub has-requires-clause-marked : goal.has-requires-clause-marked
-has-requires-clause-marked c =
+pub contains-requires-clause-marked : goal.contains-requires-clause-marked
+contains-requires-clause-marked c =
     marked_kept c.self.inside.rows c.self.inside.groups.items c.self.invariant c.args.self.now c.self.view_is c.args.group
     c.index.result.now c.requires.group c.index.ensures c.args.user c.requires.user
 
 pub returns : goal.returns
 returns c =
-    c.has.ensures ∙ member_kept c.self.inside.rows c.self.inside.groups.items c.self.invariant c.args.self.now c.self.view_is c.args.group
+    c.contains.ensures
+    ∙ member_kept c.self.inside.rows c.self.inside.groups.items c.self.invariant c.args.self.now c.self.view_is c.args.group
     c.index.result.now c.requires.group c.index.ensures c.args.user c.requires.user

@@ -7,11 +7,11 @@ use Rattle.cs_wire.proofs.message.RMessage.fits.Goals as goal
 pub returns-in-Some : goal.returns-in-Some
 returns-in-Some c =
     fits_when (r_view c.args.self.now) c.in-Some.length
-    (sym (r_size_is c.args.self.now) ∙ ap (sum_if_both (header_size c.args.self.now.tag)) (sym c.of_reply.ensures.size) ∙ sym
+    (sym (r_size_is c.args.self.now) ∙ ap (sum_if_both (header_size c.args.self.now.tag)) (sym c.size_of_reply_fields.ensures.size) ∙ sym
     c.size_with_header.ensures.size ∙ c.in-Some.is)
 
 pub returns-in-None : goal.returns-in-None
 returns-in-None c =
     fits_never (r_view c.args.self.now)
-    (sym (r_size_is c.args.self.now) ∙ ap (sum_if_both (header_size c.args.self.now.tag)) (sym c.of_reply.ensures.size) ∙ sym
+    (sym (r_size_is c.args.self.now) ∙ ap (sum_if_both (header_size c.args.self.now.tag)) (sym c.size_of_reply_fields.ensures.size) ∙ sym
     c.size_with_header.ensures.size ∙ c.in-None.is)

@@ -8,14 +8,14 @@ use Rattle.cs_wire.proofs.message.RMessage.spelled_length.Goals as goal
 pub unwrap-requires : goal.unwrap-requires
 unwrap-requires c =
     let is : c.size_with_header.result ≡ Some (length (spelling (r_view c.args.self.now))) =
-    sym (sym (r_size_is c.args.self.now) ∙ ap (sum_if_both (header_size c.args.self.now.tag)) (sym c.of_reply.ensures.size) ∙ sym
-    c.size_with_header.ensures.size) ∙ fits_some (r_view c.args.self.now) c.requires in
+    sym (sym (r_size_is c.args.self.now) ∙ ap (sum_if_both (header_size c.args.self.now.tag)) (sym c.size_of_reply_fields.ensures.size)
+    ∙ sym c.size_with_header.ensures.size) ∙ fits_some (r_view c.args.self.now) c.requires in
     subst (λ r. IsSome r) (sym is) refl
 
 pub returns : goal.returns
 returns c =
     let is : c.size_with_header.result ≡ Some (length (spelling (r_view c.args.self.now))) =
-    sym (sym (r_size_is c.args.self.now) ∙ ap (sum_if_both (header_size c.args.self.now.tag)) (sym c.of_reply.ensures.size) ∙ sym
-    c.size_with_header.ensures.size) ∙ fits_some (r_view c.args.self.now) c.requires in
+    sym (sym (r_size_is c.args.self.now) ∙ ap (sum_if_both (header_size c.args.self.now.tag)) (sym c.size_of_reply_fields.ensures.size)
+    ∙ sym c.size_with_header.ensures.size) ∙ fits_some (r_view c.args.self.now) c.requires in
     let same : Some c.unwrap.result ≡ Some (length (spelling (r_view c.args.self.now))) = sym c.unwrap.ensures ∙ is in
     cc

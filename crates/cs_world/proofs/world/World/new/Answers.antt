@@ -6,4 +6,5 @@ pub new-requires : goal.new-requires
 new-requires c = λ state is its. can_grow state is
 
 pub returns-clause-consistent : goal.returns-clause-consistent
-returns-clause-consistent c = by_new _ _ c.in_ok-states.states c.in_ok-blanks.field-0.items c.in_ok-states.ensures c.in_ok-blanks.ensures
+returns-clause-consistent c =
+    by_new _ _ c.in_ok-states.states c.in_ok-empty_sessions.field-0.items c.in_ok-states.ensures c.in_ok-empty_sessions.ensures

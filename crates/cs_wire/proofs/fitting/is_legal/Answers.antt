@@ -1,9 +1,0 @@
-use Rattle.std.proofs.Common.{sym, ap, ◌∙◌}
-use Rattle.std.specs.List.{list_any}
-use Rattle.std.specs.Prelude.{◌==◌}
-use Rattle.cs_wire.proofs.Texts.{text_is}
-use Rattle.cs_wire.proofs.fitting.is_legal.Goals as goal
-
-pub returns : goal.returns
-returns c =
-    sym (text_is c.args.text.now c.has_nul.result c.utf8.text (c.has_nul.ensures ∙ ap (list_any (λ b. b == 0)) c.as_bytes.ensures.value))

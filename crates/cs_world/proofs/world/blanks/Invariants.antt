@@ -1,6 +1,0 @@
-use Rattle.std.proofs.Common.{◌≡◌, None, replicate}
-use Rattle.cs_session.specs.Sessions.{empty_session}
-use Rattle.cs_world.proofs.world.blanks.Given as goal
-
-abbrev pub invariant-loop : goal.invariant-loop
-invariant-loop l = l.sessions.items ≡ replicate l.counter (empty_session None)

@@ -1,0 +1,106 @@
+"""strace's log as it is read, and what is kept of it."""
+
+import sys
+import unittest
+
+from crashfs_tools import arguments
+from crashfs_tools.directory import Scan
+from crashfs_tools.pipe_lines import PipeLines
+from crashfs_tools.session import Beginning, Session
+from crashfs_tools.strace_log import LogError, read_log
+from crashfs_tools.trace import Header
+from crashfs_tools.translate import Translator
+
+from .support import numbers
+
+LARGE = 'ab' * 40_000
+
+
+def new_session():
+    return Session(Beginning('/d', 0o022, 'u', 'u'), Scan(Header('u', 'u', 0o755)),
+                   lambda path: False)
+
+
+def written(word, name='pwrite64'):
+    """The second word of a call that writes, as it is kept."""
+    return read_log([f'7 {name}(3</d/f>, {word}, 5, 0) = 5\n']).calls[0].word(1)
+
+
+class Words(unittest.TestCase):
+
+    def test_arguments_end_at_commas_outside_of_texts_and_brackets(self):
+        for text, words in (
+                ('3</d>, "a,b)", [{x="(", y=1}, 2], A|B', ['3</d>', '"a,b)"', '[{x="(", y=1}, 2]',
+                                                           'A|B']),
+                ('"a"..., 9', ['"a"...', '9']),
+                ('"a, 9', ['"a, 9']),
+                ('', [''])):
+            self.assertEqual(arguments.split(text), words)
+
+    def test_only_texts_by_numbers_are_read(self):
+        self.assertEqual(arguments.from_numbers('\\x61\\x00\\xff'), b'a\0\xff')
+        self.assertEqual(arguments.from_numbers(''), b'')
+        for text in ('\\x6', '\\x61\\x', '61', 'abcd', '/x61', '\\y61', '\\x6g', '\\x6é'):
+            with self.assertRaises(ValueError, msg=text):
+                arguments.from_numbers(text)
+
+    def test_what_is_written_is_kept_in_the_room_that_it_needs(self):
+        piece = numbers(LARGE)
+        for name in ('write', 'pwrite64'):
+            word = written(f'"{piece}"', name)
+            self.assertEqual(arguments.data(word), LARGE.encode())
+            self.assertLess(sys.getsizeof(word), len(LARGE) + 200)
+        vector = written(f'[{{iov_base="{piece}", iov_len=80000}}, {{iov_base="{numbers("z")}"}}]',
+                         'writev')
+        self.assertEqual(arguments.vector(vector), LARGE.encode() + b'z')
+        self.assertLess(sys.getsizeof(vector), len(LARGE) + 200)
+
+    def test_what_has_no_bytes_in_the_log_stays_as_it_is(self):
+        for word in ('0x7ffd', '"\\x61"...', '[{iov_base="\\x61"..., iov_len=9}]', '"\\x6"'):
+            self.assertEqual(written(word), word)
+        self.assertEqual(arguments.data(written('""')), b'')
+
+    def test_a_text_that_is_not_by_numbers_is_reported(self):
+        log = read_log(['7 write(1<pipe:[7]>, "abc", 3) = 3\n'])
+        with self.assertRaises(LogError):
+            Translator(new_session(), log).run()
+
+    def test_the_trace_has_what_the_log_had(self):
+        file = f'3<{numbers("/d/f")}>'
+        log = read_log([f'7 openat(AT_FDCWD<{numbers("/d")}>, "{numbers("f")}", O_RDWR|O_CREAT, '
+                        f'0666) = {file}\n',
+                        f'7 pwrite64({file}, "{numbers(LARGE)}", 80000, 0) = 80000\n'])
+        session = new_session()
+        Translator(session, log).run()
+        self.assertEqual(session.trace.operations[1].data, LARGE.encode())
+        self.assertEqual([len(call.words) for call in log.calls], [4, 0])
+
+
+class Lines(unittest.TestCase):
+
+    def test_lines_come_whole_however_they_are_cut(self):
+        text = b'a\n\n' + b'b' * 9 + b'\nc\nd'
+        for size in range(1, len(text) + 1):
+            lines = PipeLines(-1)
+            for at in range(0, len(text), size):
+                lines.take(text[at:at + size])
+            lines.take(b'')
+            self.assertEqual(list(lines.ready), ['a\n', '\n', 'b' * 9 + '\n', 'c\n', 'd'])
+            self.assertTrue(lines.has_ended)
+
+    def test_a_pipe_that_ends_after_a_line_has_no_more(self):
+        lines = PipeLines(-1)
+        lines.take(b'a\n')
+        lines.take(b'')
+        self.assertEqual(list(lines.ready), ['a\n'])
+
+    def test_a_call_that_is_cut_in_two_is_one(self):
+        log = read_log(['7 read(0x3 <unfinished ...>\n', '8 close(4) = 0\n',
+                        '7 <... read resumed>, 0x7ffc, 0x2) = 0x2\n'])
+        self.assertEqual([(call.process, call.name, call.words, call.begin, call.end)
+                          for call in log.calls],
+                         [(8, 'close', ['4'], 2, 2), (7, 'read', ['0x3', '0x7ffc', '0x2'], 1, 3)])
+
+
+if __name__ == '__main__':
+    unittest.main()
