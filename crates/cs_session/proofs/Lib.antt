@@ -5,4 +5,5 @@ pub mod Maps
 pub mod Marking
 pub mod Turns
 pub mod OfFids
+pub mod OnWire
 pub mod OwnRules

@@ -13,7 +13,9 @@ use Rattle.cs_session.specs.Calls.{call_after, call_decision}
 use Rattle.cs_session.specs.Marks.{Ample, NoOwn}
 use Rattle.cs_session.specs.Questions.{Question, PortAnswer, AttachAnswer, CallAnswer}
 use Rattle.cs_session.specs.Sessions.{SessionState, with_fids_left, with_fids, with_awaited}
-use Rattle.cs_session.specs.Steps.{Step, CallStep, first_move_by, first_move_of, reply_and_session, IsStepTaken}
+use Rattle.cs_session.specs.declared.message.TableStep.{TableStep}
+use Rattle.cs_session.specs.Steps.{Step, CallStep, Table, first_move_by, first_move_of, reply_and_session, IsStepTaken}
+use Rattle.cs_session.specs.TableSteps.{table_stepped}
 
 module _ {P : Type 0} (gives : P → Question → PortAnswer → P → Type 0) (now : ℕ) (x : Step) (s t : SessionState) (same : t ≡ s) (p : P)
     (j : Bool → Result Question Reply) (is : (refused : Bool) → first_move_by now t x refused ≡ first_move_of t (j refused)) where
@@ -38,6 +40,11 @@ module _ {P : Type 0} (gives : P → Question → PortAnswer → P → Type 0) (
       → IsStepTaken gives now s p x reply s' p'
   leads q e answer p' g reply fids left a goes s' leaves_them =
       asks q e (CallAnswer answer) p' g reply s' (rw leaves_them (ap (with_fids_left t) a ∙ sym goes))
+
+-- a step of the table asks nothing
+pub table_taken : {P : Type 0} (gives : P → Question → PortAnswer → P → Type 0) (now : ℕ) (s s' : SessionState) (p : P) (x : TableStep)
+    (reply : Reply) → (reply, s') ≡ table_stepped s x → IsStepTaken gives now s p (Table x) reply s' p
+table_taken gives now s s' p x reply is = record { mark = Ample; takes = (ap (λ o. o.0) is, ap (λ o. o.1) is, refl) }
 
 -- a reply, and the fids that are left
 pub both : (reply reply' : Reply) (fids fids' : FidMap) → reply ≡ reply' → fids ≡ fids'

@@ -138,7 +138,14 @@ version_named false = codes "unknown"
 abbrev pub error_reply : ℕ → List ℕ → Spelled replies
 error_reply tag text = record { kind = rk.Error; tag = tag; fields = text }
 
--- a find and the end of a connection have no reply of their own on the wire
+-- a reply that has a form on the wire: neither that of a find nor that of a connection's end, which
+-- no message has
+abbrev pub IsOnWire : Reply → Type 0
+IsOnWire r.Found = ⊥
+IsOnWire r.Closed = ⊥
+IsOnWire reply = Unit {0}
+
+-- the reply as a message on the wire; one that isn't on the wire is taken as S5
 abbrev pub wire_of : ℕ → Reply → Spelled replies
 wire_of tag (r.Version msize spoken) =
     record { kind = rk.Version; tag = tag; fields = (msize, version_named spoken) }

@@ -49,7 +49,7 @@ impl Session {
         ensures fits { ReplyFits self.old.msize result }
         ensures idle { self.new.awaited ≡ None }
     {
-        match self.find_step(alloc, port, now, message) {
+        match self.find_step(alloc, port, message) {
             Reply::Found => self.attach_step(alloc, port, now),
             reply => reply,
         }
@@ -67,7 +67,7 @@ impl Session {
         if self.is_open(fid) {
             return self.close_step(alloc, port, now, fid);
         }
-        self.table_step(port, now, TableStep::Clunk(fid))
+        self.table_step(TableStep::Clunk(fid))
     }
 
     /// Answers a version: closes every open fid, the least number first, and frees all fids. Then
@@ -88,7 +88,7 @@ impl Session {
         ensures idle { self.new.awaited ≡ None }
     {
         self.close_all(alloc, port, now);
-        self.table_step(port, now, TableStep::Version { msize, version })
+        self.table_step(TableStep::Version { msize, version })
     }
 
     /// Ends the connection: closes every open fid, the least number first, and then frees all fids
@@ -100,7 +100,7 @@ impl Session {
         ensures ended { self.new ≡ empty_session None }
     {
         self.close_all(alloc, port, now);
-        let _closed = self.table_step(port, now, TableStep::HangUp);
+        let _closed = self.table_step(TableStep::HangUp);
     }
 
     /// Answers a message by its steps. The reply is that of the last step that was taken: what it

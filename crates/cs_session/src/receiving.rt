@@ -9,7 +9,8 @@ ghost use Rattle.cs_permit.specs.Sent.{sent_of};
 ghost use Rattle.cs_permit.specs.Sizes.{IsQid, IsShown};
 ghost use Rattle.cs_session.specs.declared.message.CallMessage.TheVariants as call;
 ghost use Rattle.cs_session.specs.Ready.{IsAgreed};
-ghost use Rattle.cs_session.specs.Receiving.{IsReceived, IsReplied, IsSpelled, IsUnread};
+ghost use Rattle.cs_session.specs.Receiving.{IsOnWire, IsReceived, IsReplied, IsSpelled};
+ghost use Rattle.cs_session.specs.Receiving.{IsUnread};
 ghost use Rattle.cs_session.specs.Receiving.{error_reply, rules_before_decoding, message_in};
 ghost use Rattle.cs_session.specs.Receiving.{needs_no_session, wire_of, version_named, tag_in};
 ghost use Rattle.cs_session.specs.Sizes.{FitsIn, FitsWithin, ReplyFits, room_of};
@@ -217,8 +218,10 @@ fn qid_in_range(qid: Qid) -> Qid
     }
 }
 
-/// The body of the message that a reply is on the wire. It takes no memory.
+/// The body of the message that a reply is on the wire. It takes no memory. Found and Closed aren't
+/// on the wire: no message's last step replies so.
 fn body_of(reply: Reply) -> RBody
+    requires { IsOnWire reply }
     ensures value { (tag : ℕ) → r_view (record { tag = tag; body = result }) ≡ wire_of tag reply }
     ensures fits { (msize : Option ℕ) → ForSome msize IsAgreed → ReplyFits msize reply
         → FitsIn (room_of msize) result }
@@ -255,9 +258,8 @@ fn body_of(reply: Reply) -> RBody
         Reply::Flush => RBody::Flush,
         Reply::Error(rule) => error_body(rule_text(rule)),
         Reply::Memory => error_body(memory_text()),
-        // no message ends with these
-        Reply::Found => error_body(rule_text(RuleId::S5)),
-        Reply::Closed => error_body(rule_text(RuleId::S5)),
+        Reply::Found => unreachable!(),
+        Reply::Closed => unreachable!(),
     }
 }
 
@@ -278,6 +280,7 @@ impl Session {
         ensures received { IsReceived P.gives now bytes.now self.old port.old result self.new
             port.new }
         ensures fits { ReplyFits self.old.msize result }
+        ensures on_wire { IsOnWire result }
         ensures idle { self.new.awaited ≡ None }
     {
         if let Some(rule) = first_rule_before_decoding(self.msize(), bytes) {
@@ -322,6 +325,7 @@ impl Session {
 fn wire_message(msize: Option<u32>, tag: u16, reply: Reply) -> RMessage
     requires agreed { ForSome msize IsAgreed }
     requires fits { ReplyFits msize reply }
+    requires on_wire { IsOnWire reply }
     ensures value { r_view result ≡ wire_of tag reply }
     ensures fits { FitsWithin (room_of msize) (r_view result) }
 {

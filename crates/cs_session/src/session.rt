@@ -1,13 +1,13 @@
 //! A connection's session and its steps. Those that make a call are in `calls`; what a whole
 //! message does is in `answering`.
-ghost use Rattle.std.specs.Prelude.{◌≡◌, ◌≢◌, ◌<◌, is_ok, is_some, IfSome, IsOk, IsSome, None};
+ghost use Rattle.std.specs.Prelude.{◌≡◌, ◌≢◌, ◌<◌, ℕ, is_ok, is_some, IfSome, IsOk, IsSome, None};
 ghost use Rattle.std.specs.FinMap.{len};
 ghost use Rattle.cs_fids.specs.Tables.{least_open, opened_in};
 ghost use Rattle.cs_session.specs.Ready.{IsAgreed};
 ghost use Rattle.cs_session.specs.Sessions.{empty_session, entry_at};
 ghost use Rattle.std.specs.Option.{ForSome};
 ghost use Rattle.cs_session.specs.Sizes.{IsPlain, ReplyFits};
-ghost use Rattle.cs_session.specs.Steps.{AttachStep, CloseStep, FindStep, IsStepTaken, Table};
+ghost use Rattle.cs_session.specs.Steps.{AttachStep, CloseStep, FindStep, IsStepTaken};
 ghost use Rattle.cs_session.specs.TableSteps.{table_stepped};
 
 mod calls;
@@ -67,17 +67,15 @@ impl Session {
     }
 
     /// Finds the run of an attach, and replies Found: the run then awaits the attach. If the find
-    /// is refused, the connection is unchanged. The moment counts for nothing; the contract, which
-    /// is that of every step, names it.
+    /// is refused, the connection is unchanged.
     pub fn find_step<P: Port>(
         &mut self,
         alloc: Global,
         port: &mut P,
-        now: u32,
         message: AttachMessage,
     ) -> Reply
-        ensures takes { IsStepTaken P.gives now self.old port.old (FindStep message) result self.new
-            port.new }
+        ensures takes { (now : ℕ) → IsStepTaken P.gives now self.old port.old (FindStep message)
+            result self.new port.new }
         ensures plain { IsPlain result }
         ensures found { result ≡ Reply.Found → IsSome self.new.awaited }
         ensures refused { result ≢ Reply.Found → self.new.awaited ≡ self.old.awaited }
@@ -156,11 +154,8 @@ impl Session {
 
     /// Changes only the connection's fids and message size, and asks the port nothing (version(5),
     /// clunk(5)). S5, and nothing changes, if a run awaits its attach, if the fid of a clunk is
-    /// open, or if any fid is open at a version or a hang-up. Port and moment count for nothing;
-    /// the contract, which is that of every step, names them.
-    pub fn table_step<P: Port>(&mut self, port: &mut P, now: u32, step: TableStep) -> Reply
-        ensures takes { IsStepTaken P.gives now self.old port.old (Table step) result self.new
-            port.new }
+    /// open, or if any fid is open at a version or a hang-up.
+    pub fn table_step(&mut self, step: TableStep) -> Reply
         ensures value { (result, self.new) ≡ table_stepped self.old step }
         ensures plain { IsPlain result }
         ensures idle { self.old.awaited ≡ None → self.new.awaited ≡ None }

@@ -1,21 +1,22 @@
 -- The paths below a directory come right after it in the order of paths.
 use Rattle.std.proofs.Common.{◌≡◌, ◌≢◌, length-append, ◌<◌, ◌||◌, ◌&&◌, Bool, true, false, not, List, [], ◌∷◌, ◌++◌, length, drop, filter}
-use Rattle.std.proofs.Common.{nat_lt, refl, sym, ap, ◌∙◌, arith}
+use Rattle.std.proofs.Common.{nat_lt, refl, sym, ap, ◌∙◌, append_assoc, arith}
 use Rattle.std.proofs.lemmas.List.{append-nil}
 use Rattle.std.proofs.lemmas.Bool.{false≢true, and_parts}
 use Rattle.std.proofs.lemmas.Bool.Decides.{nat_tests}
 use Rattle.std.proofs.lemmas.Slice.Eq.{bytes_eq-Decides, starts_is}
 use Rattle.std.specs.declared.cmp.Ordering.{Ordering}
 use Rattle.std.specs.declared.cmp.Ordering.TheVariants.{Less, Equal, Greater}
-use Rattle.std.specs.Cmp.{IsTotalOrder, nat_cmp_total, tied_itself}
+use Rattle.std.specs.Cmp.{IsTotalOrder, both_ways, nat_cmp_total, tied_itself}
 use Rattle.std.specs.Cmp.Lexicographic.{lists_total}
 use Rattle.std.specs.FinMap.{IsAntisymmetric, slice_cmp-IsAntisymmetric, nat_cmp-IsAntisymmetric}
 use Rattle.std.specs.List.{AllByRecursion, list_any, starts_with}
 use Rattle.std.specs.List.Sorted.{IsStrictlySortedBy}
 use Rattle.std.specs.Map.{keys_of}
 use Rattle.std.specs.Prelude.{if◌then◌else◌}
-use Rattle.std.specs.Ordering.{is_lt, is_gt, ordering_then, ordering_reverse}
+use Rattle.std.specs.Ordering.{is_le, is_lt, is_gt, ordering_then, ordering_reverse}
 use Rattle.cs_names.specs.Texts.{same_bytes}
+use Rattle.cs_tree_model.specs.Laws.Paths.{snoc_front}
 use Rattle.cs_tree_model.specs.Tree.{NameBytes, Path, name_cmp, path_cmp}
 use Rattle.cs_trace.specs.Below.{is_below}
 
@@ -24,6 +25,9 @@ names_total = lists_total nat_cmp_total
 
 names_exact : IsAntisymmetric name_cmp
 names_exact = slice_cmp-IsAntisymmetric nat_cmp-IsAntisymmetric
+
+paths_exact : IsAntisymmetric path_cmp
+paths_exact = slice_cmp-IsAntisymmetric names_exact
 
 abbrev IsBelow : Path → Path → Type 0
 IsBelow d q = (s : Path) × (q ≡ d ++ s)
@@ -52,6 +56,9 @@ before_below (y ∷ d) x s = ap (λ o. ordering_then o (path_cmp d (d ++ x ∷ s
 
 not_less : Less ≢ Greater
 not_less e = false≢true (ap is_gt e)
+
+not_equal : Equal ≢ Greater
+not_equal e = false≢true (ap is_gt e)
 
 is_less : (o : Ordering) → is_lt o && not false ≡ true → o ≡ Less
 is_less Less is = refl
@@ -105,6 +112,67 @@ module _ (d : Path) where
 
   not_after : (p : Path) → is_lt (path_cmp d p) && not false ≡ false → is_below d p ≡ false
   not_after p is = not_after_by p (is_below d p) refl is
+
+  -- an entry of a directory is below a path that the directory begins with
+  name_begins : (c r s : Path) (n : NameBytes) → c ++ n ∷ [] ≡ d ++ s → s ≡ r → is_below d (c ++ n ∷ []) ≡ true
+      → starts_with same_bytes c d ≡ true
+  name_begins c [] s n is none below =
+      let both : (nat_lt (length d) (length (c ++ n ∷ [])) ≡ true) × (starts_with same_bytes (c ++ n ∷ []) d ≡ true) =
+      and_parts _ _ below in
+      let more : length d < length (c ++ n ∷ []) = grind (arith, nat_tests, both.0) in
+      absurd (let same : length (c ++ n ∷ []) ≡ length d = ap length (is ∙ ap (λ t. d ++ t) none ∙ append-nil d) in omega arith)
+  name_begins c (x ∷ r) s n is some below =
+      let last = last_of x r in
+      begins_of c last.0 (snoc_front c (d ++ last.0) n last.1.0
+      (is ∙ ap (λ t. d ++ t) (some ∙ last.1.1) ∙ sym (append_assoc d last.0 (last.1.0 ∷ []))))
+    where
+      last_of : (x : NameBytes) (r : Path) → (t : Path) × ((y : NameBytes) × (x ∷ r ≡ t ++ y ∷ []))
+      last_of x [] = ([], (x, refl))
+      last_of x (y ∷ r) = let rest = last_of y r in (x ∷ rest.0, (rest.1.0, ap (λ t. x ∷ t) rest.1.1))
+
+  name_below : (c : Path) (n : NameBytes) → starts_with same_bytes c d ≡ true → is_below d (c ++ n ∷ []) ≡ true
+  name_below c n starts =
+      let rest = drop (length d) c in
+      let whole : c ++ n ∷ [] ≡ d ++ (rest ++ n ∷ []) = ap (λ t. t ++ n ∷ []) (begins c starts) ∙ append_assoc d rest (n ∷ []) in
+      let more : length d < length (c ++ n ∷ []) =
+      omega (arith, ap length (begins c starts), length-append d rest, length-append c (n ∷ [])) in
+      let longer : nat_lt (length d) (length (c ++ n ∷ [])) ≡ true = grind (arith, nat_tests, more) in
+      rw longer (begins_of (c ++ n ∷ []) (rest ++ n ∷ []) whole)
+
+  pub name-in : (n : NameBytes) → is_below d (d ++ n ∷ []) ≡ true
+  name-in n = name_below d n (begins_of d [] (sym (append-nil d)))
+
+  pub below-name : (c : Path) (n : NameBytes) → is_below d (c ++ n ∷ []) ≡ starts_with same_bytes c d
+  below-name c n = both_ways (is_below d (c ++ n ∷ [])) (starts_with same_bytes c d)
+      (λ below.
+      let both : (nat_lt (length d) (length (c ++ n ∷ [])) ≡ true) × (starts_with same_bytes (c ++ n ∷ []) d ≡ true) =
+      and_parts _ _ below in
+      let rest = drop (length d) (c ++ n ∷ []) in
+      name_begins c rest rest n (begins (c ++ n ∷ []) both.1) refl below)
+      (name_below c n)
+
+  past_not : (n : NameBytes) (q : Path) → path_cmp q (d ++ n ∷ []) ≢ Greater → path_cmp d q ≡ Less → is_below d q ≡ false → ⊥
+  past_not n q high low none =
+      let there = below_between d (n ∷ []) q low high in
+      false≢true (sym none ∙ below_of q low (begins_of q there.0 there.1))
+
+  low_of : (x : NameBytes) (q : Path) (o : Ordering) → path_cmp (d ++ x ∷ []) q ≡ o → is_le o ≡ true → path_cmp d q ≡ Less
+  low_of x q Less is after = (lists_total names_total).trans d (d ++ x ∷ []) q (before_below d x []) is
+  low_of x q Equal is after = ap (path_cmp d) (sym (paths_exact (d ++ x ∷ []) q is)) ∙ before_below d x []
+  low_of x q Greater is after = absurd (false≢true after)
+
+  past_by : (n : NameBytes) (q : Path) (o : Ordering) → path_cmp q (d ++ n ∷ []) ≡ o → path_cmp d q ≡ Less → is_below d q ≡ false
+      → ordering_reverse o ≡ Less
+  past_by n q Less is low none = absurd (past_not n q (λ g. not_less (sym is ∙ g)) low none)
+  past_by n q Equal is low none = absurd (past_not n q (λ g. not_equal (sym is ∙ g)) low none)
+  past_by n q Greater is low none = refl
+
+  -- what comes after an entry of the directory, and isn't below the directory, comes after all its entries
+  pub past-entries : (x n : NameBytes) (q : Path) → is_le (path_cmp (d ++ x ∷ []) q) ≡ true → is_below d q ≡ false
+      → path_cmp (d ++ n ∷ []) q ≡ Less
+  past-entries x n q after none =
+      (lists_total names_total).antisymm (d ++ n ∷ []) q
+      ∙ past_by n q (path_cmp q (d ++ n ∷ [])) refl (low_of x q (path_cmp (d ++ x ∷ []) q) refl after) none
 
   module _ {X : Type 0} where
     -- whether an entry comes after the path

@@ -1,6 +1,10 @@
+pub mod Around
 pub mod Beneath
 pub mod FirstFaults
+pub mod InDirectory
 pub mod LineByLine
+pub mod Named
+pub mod Numbered
 pub mod Past
 pub mod Resolved
 pub mod Sound
@@ -9,6 +13,7 @@ pub mod SoundSteps
 pub mod Spelling
 pub mod Started
 pub mod Trees
+pub mod Unions
 pub mod Views
 pub mod Whole
 pub mod Within

@@ -1,32 +1,38 @@
--- The tree that lines make: one map as long as nothing changed.
-use Rattle.std.proofs.Common.{◌≡◌, ◌≢◌, true, false, ⊎_elim, cond, T, ◌||◌, List, [], ◌∷◌, Option, None, Some, option_map, refl, sym, ap}
-use Rattle.std.proofs.Common.{subst, ◌∙◌}
+-- The tree that lines make, from the parts that it is kept in.
+use Rattle.std.proofs.Common.{◌≡◌, ◌≢◌, Bool, true, false, ⊎_elim, cond, ◌||◌, List, [], ◌∷◌, Option, None, Some, option_map, refl, sym, ap}
+use Rattle.std.proofs.Common.{◌∙◌}
 use Rattle.std.proofs.lemmas.Bool.{false≢true}
-use Rattle.std.specs.FinMap.{empty, entries, entries_sorted, find, get, get-empty, get-entries, get-insert, insert, is_sorted, same_map}
-use Rattle.std.specs.FinMap.Entries.{below_all}
+use Rattle.std.specs.FinMap.{empty, entries, get, get-empty, get-remove, insert, remove, same_map}
 use Rattle.std.specs.List.{list_any}
-use Rattle.std.specs.Option.{is_some}
-use Rattle.std.specs.Cmp.{tied_itself}
-use Rattle.std.specs.Ordering.{eq_by_cmp, is_lt}
+use Rattle.std.specs.Option.{is_some, option_or}
+use Rattle.std.specs.Ordering.{eq_by_cmp}
 use Rattle.cs_names.specs.Paths.{path_eq, path_ties}
 use Rattle.cs_tree_model.specs.Laws.Paths.{path_cases, path_exact, path_total}
 use Rattle.cs_tree_model.specs.Maps.Changes.{get-insert_other}
 use Rattle.cs_tree_model.specs.Maps.Values.{entries-map_values, get-map_values, map_entries, map_values}
 use Rattle.cs_tree_model.specs.Tree.{Path, path_cmp}
-use Rattle.cs_tree_model.specs.Maps.Orders.{both_first, both_second}
 use Rattle.cs_trace.specs.Below.{has_below, is_below}
 use Rattle.cs_trace.specs.Entries.{Entries, node_of}
 use Rattle.cs_trace.specs.Operations.{Paths}
-use Rattle.cs_trace.specs.Trees.{Tree, empty_tree, nodes_by, with_start}
+use Rattle.cs_trace.specs.Trees.{Tree, empty_tree, tree_of, with_start}
+use Rattle.cs_trace.specs.Unions.{union}
 use Rattle.cs_trace.specs.declared.entry.StartFile.{StartFile}
 use Rattle.cs_trace.specs.declared.operation.Node.{Node}
 use Rattle.cs_trace.specs.declared.operation.Node.TheVariants.{Directory}
 use Rattle.cs_trace.proofs.Sound.{map_values-insert}
+use Rattle.cs_trace.proofs.Unions.{any-union, get-union, is_some-union, remove-absent, union-empty, union-insert, union-move, union-remove}
+use Rattle.cs_trace.proofs.Unions.{union-replace}
 
 pub same_path : (p q : Path) → path_eq p q ≡ true → p ≡ q
 same_path p q is = ⊎_elim
     (λ (one : (eq_by_cmp path_cmp p q ≡ true) × (p ≡ q)). one.1)
     (λ (two : (eq_by_cmp path_cmp p q ≡ false) × (p ≢ q)). absurd (false≢true (sym two.0 ∙ sym (path_ties p q) ∙ is)))
+    (path_cases p q)
+
+pub same_path_test : (p q : Path) → p ≡ q → path_eq p q ≡ true
+same_path_test p q is = ⊎_elim
+    (λ (one : (eq_by_cmp path_cmp p q ≡ true) × (p ≡ q)). path_ties p q ∙ one.0)
+    (λ (two : (eq_by_cmp path_cmp p q ≡ false) × (p ≢ q)). absurd (two.1 is))
     (path_cases p q)
 
 pub map_values-empty : map_values {R = path_cmp} node_of empty ≡ empty
@@ -42,68 +48,83 @@ module _ (d : Path) where
   pub has_below-start : (m : Entries) → list_any (λ e. is_below d e.0) (entries m) ≡ has_below (map_values node_of m) d
   has_below-start m = sym (ap (list_any (λ e. is_below d e.0)) (entries-map_values path_cmp node_of m) ∙ any_same (entries m))
 
--- these entries too, one after another
-abbrev pub with_all : Paths → List (Path × StartFile) → Paths
-with_all m [] = m
-with_all m (e ∷ es) = with_all (insert m e.0 (node_of e.1)) es
+pub is_some-map : {A B : Type 0} (f : A → B) (o : Option A) → is_some (option_map f o) ≡ is_some o
+is_some-map f None = refl
+is_some-map f (Some x) = refl
 
-abbrev or_else : Option Node → Option Node → Option Node
-or_else None other = other
-or_else (Some node) other = Some node
+none_maps : (b : Bool) (o : Option StartFile) → option_map node_of (cond b None o) ≡ cond b None (option_map node_of o)
+none_maps true o = refl
+none_maps false o = refl
 
-find_later : (q : Path) (es : List (Path × StartFile)) → T (below_all path_cmp q es) → find path_cmp q es ≡ None
-find_later q [] all = refl
-find_later q (e ∷ es) all = ⊎_elim
-    (λ (one : (eq_by_cmp path_cmp q e.0 ≡ true) × (q ≡ e.0)).
-    absurd (subst (λ o. T (is_lt o)) (tied_itself path_total q) (subst (λ p. T (is_lt (path_cmp q p))) (sym one.1) (both_first _ _ all))))
-    (λ (two : (eq_by_cmp path_cmp q e.0 ≡ false) × (q ≢ e.0)). ap (λ b. cond b (Some e.1) (find path_cmp q es)) two.0
-    ∙ find_later q es (both_second _ _ all))
-    (path_cases q e.0)
-
-get-with_all : (m : Paths) (es : List (Path × StartFile)) (q : Path) → T (is_sorted path_cmp es)
-    → get (with_all m es) q ≡ or_else (option_map node_of (find path_cmp q es)) (get m q)
-get-with_all m [] q sorted = refl
-get-with_all m (e ∷ es) q sorted =
-    get-with_all (insert m e.0 (node_of e.1)) es q (both_second _ _ sorted)
-    ∙ ap (or_else (option_map node_of (find path_cmp q es))) (get-insert path_total m e.0 (node_of e.1) q)
-    ∙ ⊎_elim
-    (λ (one : (eq_by_cmp path_cmp q e.0 ≡ true) × (q ≡ e.0)).
-    let none : find path_cmp q es ≡ None = find_later q es (subst (λ p. T (below_all path_cmp p es)) (sym one.1) (both_first _ _ sorted)) in
-    rw (one.0, none) refl)
-    (λ (two : (eq_by_cmp path_cmp q e.0 ≡ false) × (q ≢ e.0)). rw two.0 refl)
-    (path_cases q e.0)
-
--- all entries of a map
-pub with_all-entries : (m : Entries) → with_all empty (entries m) ≡ map_values node_of m
-with_all-entries m = same_map path_total path_exact _ _ (λ q.
-    get-with_all empty (entries m) q (entries_sorted m)
-    ∙ ap (or_else (option_map node_of (find path_cmp q (entries m)))) (get-empty path_cmp q)
-    ∙ alone (option_map node_of (find path_cmp q (entries m)))
-    ∙ ap (option_map node_of) (sym (get-entries m q))
-    ∙ sym (get-map_values path_cmp node_of m q))
-  where
-    alone : (o : Option Node) → or_else o None ≡ o
-    alone None = refl
-    alone (Some node) = refl
-
-abbrev pub viewed : Entries → Option Paths → Tree
-viewed start changed = record { start = start; nodes = nodes_by start changed }
+pub map_values-remove : (m : Entries) (p : Path) → map_values node_of (remove m p) ≡ remove (map_values node_of m) p
+map_values-remove m p = same_map path_total path_exact _ _ (λ q.
+    get-map_values path_cmp node_of (remove m p) q
+    ∙ ap (option_map node_of) (get-remove path_total m p q)
+    ∙ none_maps (eq_by_cmp path_cmp q p) (get m q)
+    ∙ ap (cond (eq_by_cmp path_cmp q p) None) (sym (get-map_values path_cmp node_of m q))
+    ∙ sym (get-remove path_total (map_values node_of m) p q))
 
 abbrev with_nodes : Entries → Paths → Tree
 with_nodes start nodes = record { start = start; nodes = nodes }
 
-pub bare-view : (m : Entries) → m ≡ empty → viewed m None ≡ empty_tree
-bare-view m is = ap (λ start. viewed start None) is ∙ ap (with_nodes empty) map_values-empty
+pub tree-empty : (k g : Entries) (s : Paths) → k ≡ empty → g ≡ empty → s ≡ empty → tree_of k g s ≡ empty_tree
+tree-empty k g s no_kept no_gone no_placed = λ i. with_nodes
+    (((λ j. union (no_kept j) (no_gone j)) ∙ union-empty) i)
+    (((λ j. union (no_placed j) (map_values node_of (no_kept j))) ∙ ap (union empty) map_values-empty ∙ union-empty) i)
 
-pub start-view : (s t : Entries) (p : Path) (e : StartFile) → t ≡ insert s p e → viewed t None ≡ with_start (viewed s None) p e
-start-view s t p e is = ap (λ start. viewed start None) is ∙ ap (with_nodes (insert s p e)) (map_values-insert s p e)
+-- what is there now
+pub get-nodes : (k g : Entries) (s : Paths) (q : Path)
+    → get (tree_of k g s).nodes q ≡ option_or (get s q) (option_map node_of (get k q))
+get-nodes k g s q = get-union s (map_values node_of k) q ∙ ap (option_or (get s q)) (get-map_values path_cmp node_of k q)
+
+pub stands-nodes : (k g : Entries) (s : Paths) (q : Path)
+    → is_some (get (tree_of k g s).nodes q) ≡ (is_some (get s q) || is_some (get k q))
+stands-nodes k g s q =
+    is_some-union s (map_values node_of k) q
+    ∙ ap (λ b. is_some (get s q) || b) (ap is_some (get-map_values path_cmp node_of k q) ∙ is_some-map node_of (get k q))
+
+pub below-union : (s m : Entries) (d : Path)
+    → has_below (map_values node_of (union s m)) d ≡ (has_below (map_values node_of s) d || list_any (λ e. is_below d e.0) (entries m))
+below-union s m d =
+    sym (has_below-start d (union s m))
+    ∙ any-union (is_below d) s m
+    ∙ ap (λ b. b || list_any (λ e. is_below d e.0) (entries m)) (has_below-start d s)
+
+pub below-nodes : (k g : Entries) (s : Paths) (d : Path)
+    → has_below (tree_of k g s).nodes d ≡ (has_below s d || has_below (map_values node_of k) d)
+below-nodes k g s d = any-union (is_below d) s (map_values node_of k)
+
+-- an entry more at the start
+pub start-tree : (k t g : Entries) (s u : Paths) (p : Path) (e : StartFile) → t ≡ insert k p e → u ≡ remove s p
+    → tree_of t g u ≡ with_start (tree_of k g s) p e
+start-tree k t g s u p e is gone = λ i. with_nodes
+    ((ap (λ m. union m g) is ∙ union-insert k g p e) i)
+    (((λ j. union (gone j) (map_values node_of (is j)))
+    ∙ ap (union (remove s p)) (map_values-insert k p e)
+    ∙ union-replace s (map_values node_of k) p (node_of e)) i)
+
+-- something at a path in place of what was there
+pub insert-nodes : (k g : Entries) (s u : Paths) (p : Path) (node : Node) → u ≡ insert s p node
+    → (tree_of k g u).nodes ≡ insert (tree_of k g s).nodes p node
+insert-nodes k g s u p node is = ap (λ m. union m (map_values node_of k)) is ∙ union-insert s (map_values node_of k) p node
+
+-- nothing at a path
+pub remove-nodes : (k t g h : Entries) (s u : Paths) (p : Path) → t ≡ remove k p → u ≡ remove s p
+    → (tree_of t h u).nodes ≡ remove (tree_of k g s).nodes p
+remove-nodes k t g h s u p is gone =
+    (λ i. union (gone i) (map_values node_of (is i)))
+    ∙ ap (union (remove s p)) (map_values-remove k p)
+    ∙ union-remove s (map_values node_of k) p
+
+pub remove-nothing : (k t g : Entries) (p : Path) → t ≡ remove k p → get k p ≡ None → union t g ≡ union k g
+remove-nothing k t g p is none = ap (λ m. union m g) (is ∙ remove-absent k g p none)
+
+pub remove-entry : (k t g h : Entries) (p : Path) (e : StartFile) → t ≡ remove k p → get k p ≡ Some e → h ≡ insert g p e
+    → union t h ≡ union k g
+remove-entry k t g h p e is there added = (λ i. union (is i) (added i)) ∙ union-move k g p e there
 
 -- a directory stands after something came to a path where nothing stood
 pub still_stands : (m : Paths) (p d : Path) (node : Node) → is_some (get m p) ≡ false → get m d ≡ Some Directory
     → get (insert m p node) d ≡ Some Directory
 still_stands m p d node free stands =
     get-insert_other path_total path_exact m d p node (λ same. false≢true (sym free ∙ ap is_some (ap (get m) (sym same) ∙ stands))) ∙ stands
-
-pub is_some-map : {A B : Type 0} (f : A → B) (o : Option A) → is_some (option_map f o) ≡ is_some o
-is_some-map f None = refl
-is_some-map f (Some x) = refl

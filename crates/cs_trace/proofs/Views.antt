@@ -62,6 +62,9 @@ module _ {X : Type 0} where
   no_length [] e = refl
   no_length (x ∷ es) e = absurd (omega arith)
 
+  pub entries-empty : entries (empty {X = X} {R = path_cmp}) ≡ []
+  entries-empty = no_length _ (sym (len-entries (empty {X = X} {R = path_cmp})) ∙ len-empty path_cmp X)
+
   put_front : (es : List (Path × X)) (k : Path) (v : X) → IsStrictlySortedBy path_cmp (k ∷ keys_of es) → put path_cmp k v es ≡ (k, v) ∷ es
   unfolding IsStrictlySortedBy
   put_front [] k v sorted = refl
@@ -70,7 +73,7 @@ module _ {X : Type 0} where
   -- entries in order are those of their map
   pub entries-keyed : (es : List (Path × X)) → IsStrictlySortedBy path_cmp (keys_of es) → entries (from_entries {R = path_cmp} es) ≡ es
   unfolding IsStrictlySortedBy
-  entries-keyed [] sorted = no_length _ (sym (len-entries (empty {X = X} {R = path_cmp})) ∙ len-empty path_cmp X)
+  entries-keyed [] sorted = entries-empty
   entries-keyed (e ∷ es) sorted =
       entries-insert path_total (from_entries es) e.0 e.1 ∙ ap (put path_cmp e.0 e.1) (entries-keyed es sorted.1)
       ∙ put_front es e.0 e.1 sorted

@@ -1,9 +1,9 @@
 -- What is at each path at the start.
-use Rattle.std.specs.Prelude.{ℕ, ◌+◌, List, Option, None, Some, length, map, refl}
+use Rattle.std.specs.Prelude.{ℕ, ◌+◌, ◌++◌, List, Option, None, Some, length, map, refl}
 use Rattle.std.specs.Coded.{Coded, code_by, coded×, coded_ℕ, coded_list, coded_option}
 use Rattle.std.specs.FinMap.{FinMap, code, entries}
-use Rattle.cs_tree_model.specs.Fresh.{listing}
-use Rattle.cs_tree_model.specs.Maps.Values.{map_values}
+use Rattle.cs_tree_model.specs.Fresh.{listing, with_numbers_from}
+use Rattle.cs_tree_model.specs.Maps.Values.{map_entries, map_values}
 use Rattle.cs_tree_model.specs.Tree.{Path, path_cmp}
 use Rattle.cs_tree_model.specs.declared.mode.TheConstants.{DMDIR}
 use Rattle.cs_tree_model.specs.declared.record.Record.{Record}
@@ -72,3 +72,11 @@ records_in m = listing (map_values record_of m)
 -- what each of them is, in the same order
 abbrev pub nodes_in : Entries → List Node
 nodes_in m = map (λ e. node_of e.1) (entries m)
+
+-- these records, and the records of the entries, with the next numbers
+abbrev pub with_records : List (Path × Record) → List (Path × StartFile) → List (Path × Record)
+with_records rs es = rs ++ with_numbers_from (length rs) (map_entries record_of es)
+
+-- these nodes, and those of the entries
+abbrev pub with_nodes : List Node → List (Path × StartFile) → List Node
+with_nodes ns es = ns ++ map (λ e. node_of e.1) es

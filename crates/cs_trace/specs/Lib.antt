@@ -8,6 +8,8 @@ pub mod Kept
 pub mod Names
 pub mod Operations
 pub mod Outcomes
+pub mod Siblings
 pub mod States
 pub mod Traces
 pub mod Trees
+pub mod Unions

@@ -1,5 +1,5 @@
 -- The tree that lines make: what was at each path at the start, and what is there now.
-use Rattle.std.specs.Prelude.{Option, None, Some, refl}
+use Rattle.std.specs.Prelude.{refl}
 use Rattle.std.specs.Coded.{Coded, code_by, coded×}
 use Rattle.std.specs.FinMap.{empty, insert}
 use Rattle.cs_tree_model.specs.Maps.Values.{map_values}
@@ -7,6 +7,7 @@ use Rattle.cs_tree_model.specs.Tree.{Path}
 use Rattle.cs_trace.specs.Below.{paths_code}
 use Rattle.cs_trace.specs.Entries.{Entries, entries_code, node_of}
 use Rattle.cs_trace.specs.Operations.{Paths}
+use Rattle.cs_trace.specs.Unions.{union}
 use Rattle.cs_trace.specs.declared.entry.StartFile.{StartFile}
 
 pub record Tree : Type 0 where
@@ -21,10 +22,13 @@ tree_code = code_by
     (λ p. record { start = p.0; nodes = p.1 })
     (λ _. refl)
 
--- what is at each path now; as long as nothing changed, what was there at the start
-abbrev pub nodes_by : Entries → Option Paths → Paths
-nodes_by start None = map_values node_of start
-nodes_by start (Some now) = now
+-- what is at each path, from what was at the start and is still there, what was at the start and was
+-- removed, and what operations put at other paths or over what was there
+abbrev pub tree_of : Entries → Entries → Paths → Tree
+tree_of kept gone placed = record {
+  start = union kept gone;
+  nodes = union placed (map_values node_of kept);
+}
 
 abbrev pub empty_tree : Tree
 empty_tree = record { start = empty; nodes = empty }

@@ -56,7 +56,7 @@ fn take_first(alloc: Global, state: &mut LinesSoFar, line: Line) -> Result<(), T
         result (state_of state.new) IsPastNames }
 {
     match line {
-        Line::Header(version, claims) => take_header(alloc, state, version, &claims),
+        Line::Header(version, claims) => take_header(alloc, state, version, claims),
         _ => Err(TraceFaultKind::Syntax),
     }
 }

@@ -1,5 +1,6 @@
-//! The names of users and groups in a line: checked without taking memory, and then copied.
-ghost use Rattle.std.specs.Prelude.{◌≡◌, IfOk};
+//! The names of users and groups in a line: checked without taking memory, and then moved or
+//! copied.
+ghost use Rattle.std.specs.Prelude.{◌≡◌, IfOk, string_bytes};
 ghost use Rattle.cs_trace.specs.Names.{are_set_names, are_user_names, is_user_name};
 ghost use Rattle.cs_trace_lines.specs.Said.{change_value, claims_of};
 
@@ -29,6 +30,14 @@ pub(crate) fn are_set_names(change: &Change) -> bool
         Change::Mode(_) => true,
         Change::Owner { owner, group } => is_user_name(owner) && is_user_name(group),
     }
+}
+
+/// The text as the name of a user or a group. It takes no memory. The caller has checked that it is
+/// legal; one that isn't would be an AllocError.
+pub(crate) fn user_name(text: String) -> Result<UserName, AllocError>
+    ensures { IfOk result (λ name. name ≡ string_bytes text) }
+{
+    UserName::from_text(text).map_err(|_| AllocError)
 }
 
 /// A copy of the name of a user or a group. The caller has checked that it is legal; one that isn't

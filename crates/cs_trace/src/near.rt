@@ -73,6 +73,11 @@ impl Near {
         &self.path
     }
 
+    /// Whether a text so long spells it that paths in it are compared slowly.
+    pub(crate) fn is_long(&self) -> bool {
+        self.text.len() >= 64
+    }
+
     /// The path that the text spells, if it is the text of the directory, a `/` and a legal name;
     /// only that name is checked. None for any other text, which may still spell a path.
     pub(crate) fn entry<'a>(&self, text: &'a str) -> Option<PathText<'a>>

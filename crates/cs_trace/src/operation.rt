@@ -5,7 +5,7 @@ ghost use Rattle.cs_trace.specs.Judging.{rights_after};
 ghost use Rattle.cs_trace.specs.Names.{rights_of};
 ghost use Rattle.cs_trace_lines.specs.Said.{change_value, claims_of};
 
-use crate::names::keep_user_name;
+use crate::names::{keep_user_name, user_name};
 use cs_names::{Bytes, Path, UserName};
 use cs_trace_lines::{Change, Claims};
 use std::alloc::{AllocError, Global};
@@ -121,13 +121,13 @@ pub enum Operation {
 }
 
 impl Rights {
-    /// The rights that a line claims, copied. The caller has checked its names.
-    pub(crate) fn of_claims(alloc: Global, claims: &Claims) -> Result<Rights, AllocError>
-        ensures { IfOk result (λ rights. rights ≡ rights_of (claims_of claims.now)) }
+    /// The rights that a line claims, whose names are moved. The caller has checked the names.
+    pub(crate) fn of_claims(claims: Claims) -> Result<Rights, AllocError>
+        ensures { IfOk result (λ rights. rights ≡ rights_of (claims_of claims)) }
     {
         Ok(Rights {
-            owner: keep_user_name(alloc, &claims.owner)?,
-            group: keep_user_name(alloc, &claims.group)?,
+            owner: user_name(claims.owner)?,
+            group: user_name(claims.group)?,
             permissions: claims.permissions,
         })
     }

@@ -67,13 +67,13 @@ fn creat(
     alloc: Global,
     state: &LinesSoFar,
     path: &PathText<'_>,
-    claims: &Claims,
+    claims: Claims,
 ) -> Result<Operation, TraceFaultKind>
     requires short { AreShort state.now.tree.nodes }
     requires few { length state.now.sizes.items < 2 ^ 32 }
     ensures { Gives
         (creat state.now.tree.nodes state.now.made (length state.now.sizes.items)
-        path.now (claims_of claims.now))
+        path.now (claims_of claims))
         result IsPastNames }
 {
     let path = path.keep_or(alloc, TraceFaultKind::NoParent)?;
@@ -83,7 +83,7 @@ fn creat(
         return Err(TraceFaultKind::TooLarge);
     }
     let file = state.sizes.len() as u32;
-    let rights = Rights::of_claims(alloc, claims)?;
+    let rights = Rights::of_claims(claims)?;
     Ok(Operation::Creat { path, file, rights })
 }
 
@@ -95,10 +95,10 @@ fn mkdir(
     tree: &Tree,
     made: usize,
     path: &PathText<'_>,
-    claims: &Claims,
+    claims: Claims,
 ) -> Result<Operation, TraceFaultKind>
     requires { AreShort tree.now.nodes }
-    ensures { Gives (mkdir tree.now.nodes made path.now (claims_of claims.now)) result IsPastNames }
+    ensures { Gives (mkdir tree.now.nodes made path.now (claims_of claims)) result IsPastNames }
 {
     let path = path.keep_or(alloc, TraceFaultKind::NoParent)?;
     let above = Path::of(alloc, &path.names().parent())?;
@@ -106,7 +106,7 @@ fn mkdir(
     if is_too_much(made, path.names().len()) {
         return Err(TraceFaultKind::TooLarge);
     }
-    let rights = Rights::of_claims(alloc, claims)?;
+    let rights = Rights::of_claims(claims)?;
     Ok(Operation::Mkdir { path, rights })
 }
 
@@ -333,10 +333,10 @@ pub(crate) fn resolve(
     let tree = &state.tree;
     match line {
         OperationLine::Creat { path, claims } => {
-            creat(alloc, state, &new_path(&path, &claims)?, &claims)
+            creat(alloc, state, &new_path(&path, &claims)?, claims)
         }
         OperationLine::Mkdir { path, claims } => {
-            mkdir(alloc, tree, state.made, &new_path(&path, &claims)?, &claims)
+            mkdir(alloc, tree, state.made, &new_path(&path, &claims)?, claims)
         }
         OperationLine::Link { from, to } => {
             link(

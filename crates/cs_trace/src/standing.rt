@@ -1,5 +1,5 @@
-//! What is at each path after the lines so far, while a trace is read. What was there at the start,
-//! with bytes and rights, is in `entries`.
+//! What operations put at paths, while a trace is read. What was there at the start, with bytes and
+//! rights, is in `entries`.
 ghost use Rattle.std.specs.Prelude.{◌≡◌, IfOk, OnOk};
 ghost use Rattle.std.specs.FinMap as map;
 ghost use Rattle.std.specs.Option.{is_some};
@@ -12,7 +12,8 @@ use std::collections::BTreeMap;
 use std::marker::Model;
 use std::ops::Bound;
 
-/// The file or directory at each path now. Contracts see a finite map, in the order of paths.
+/// The file or directory that operations put at each path. Contracts see a finite map, in the order
+/// of paths.
 #[derive(Drop)]
 pub(crate) struct Standing {
     by_path: BTreeMap<Path, Node>,
@@ -73,10 +74,11 @@ impl Standing {
         Ok(before.is_some())
     }
 
-    /// Removes what is at the path, if anything is.
-    pub(crate) fn remove(&mut self, path: &Path)
-        ensures { self.new ≡ map.remove self.old path.now }
+    /// Removes what is at the path, and returns whether anything was.
+    pub(crate) fn remove(&mut self, path: &Path) -> bool
+        ensures stood { result ≡ is_some (map.get self.old path.now) }
+        ensures state { self.new ≡ map.remove self.old path.now }
     {
-        self.by_path.remove(path);
+        self.by_path.remove(path).is_some()
     }
 }

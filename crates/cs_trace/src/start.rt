@@ -45,18 +45,17 @@ fn size_of(content: &Option<Vec<u8>>) -> u64
 }
 
 /// The entry of a new file with this content and the next number, or of a directory if the content
-/// is None. The names in the claims are copied.
+/// is None. The names in the claims are moved.
 fn keep_entry(
-    alloc: Global,
     state: &LinesSoFar,
-    claims: &Claims,
+    claims: Claims,
     content: Option<Vec<u8>>,
 ) -> Result<StartFile, AllocError>
     requires { length state.now.sizes.items < 2 ^ 32 }
     ensures { IfOk result (λ entry. entry ≡ entry_for (state_of state.now)
-        (claims_of claims.now) (option_map (λ bytes. bytes.items) content)) }
+        (claims_of claims) (option_map (λ bytes. bytes.items) content)) }
 {
-    let rights = Rights::of_claims(alloc, claims)?;
+    let rights = Rights::of_claims(claims)?;
     Ok(match content {
         None => StartFile {
             number: 0,
@@ -114,7 +113,7 @@ fn find_above(
     text: &PathText<'_>,
 ) -> Result<Near, TraceFaultKind>
     requires { text.now ≡ path.now }
-    ensures same { tree.new ≡ tree.old }
+    ensures same { OnOk result (tree.new ≡ tree.old) }
     ensures above { IfOk result (λ above. above ≡ parent_path path.now) }
     ensures stands { IfOk result (λ above. map.get tree.old.nodes above ≡ Some Directory) }
     ensures fault { IfErr result (λ kind. kind ≢ Memory
@@ -127,7 +126,10 @@ fn find_above(
     match tree.get(above.path()) {
         None => Err(TraceFaultKind::NoParent),
         Some(Node::File(_)) => Err(TraceFaultKind::NotDir),
-        Some(Node::Directory) => Ok(above),
+        Some(Node::Directory) => {
+            tree.gather(alloc, &above)?;
+            Ok(above)
+        }
     }
 }
 
@@ -140,7 +142,7 @@ fn start_in(
     path: Path,
     names: usize,
     above: Near,
-    claims: &Claims,
+    claims: Claims,
     content: Option<Vec<u8>>,
 ) -> Result<(), TraceFaultKind>
     requires bounded { IsBounded (state_of state.old) }
@@ -148,7 +150,7 @@ fn start_in(
     requires above { above ≡ parent_path path }
     requires stands { map.get state.old.tree.nodes above ≡ Some Directory }
     ensures { Leaves
-        (start_at (state_of state.old) path (claims_of claims.now)
+        (start_at (state_of state.old) path (claims_of claims)
         (option_map (λ bytes. bytes.items) content))
         result (state_of state.new) IsPastNames }
 {
@@ -158,7 +160,7 @@ fn start_in(
             Some(_) => TraceFaultKind::Exists,
         });
     }
-    let entry = keep_entry(alloc, state, claims, content)?;
+    let entry = keep_entry(state, claims, content)?;
     let stood = put_entry(alloc, state, path, entry)?;
     if stood {
         return Err(TraceFaultKind::Exists);
@@ -193,12 +195,12 @@ fn add_entry(
     alloc: Global,
     state: &mut LinesSoFar,
     text: &PathText<'_>,
-    claims: &Claims,
+    claims: Claims,
     content: Option<Vec<u8>>,
 ) -> Result<(), TraceFaultKind>
     requires { IsBounded (state_of state.old) }
     ensures { Leaves
-        (start_at (state_of state.old) text.now (claims_of claims.now)
+        (start_at (state_of state.old) text.now (claims_of claims)
         (option_map (λ bytes. bytes.items) content))
         result (state_of state.new) IsPastNames }
 {
@@ -224,7 +226,7 @@ pub(crate) fn take_start(
         content,
     } = line;
     let text = start_path(&state.tree, &path, &claims)?;
-    add_entry(alloc, state, &text, &claims, content)
+    add_entry(alloc, state, &text, claims, content)
 }
 
 /// The file that was at the path at the start. Nothing there is Missing, and a directory is
@@ -312,18 +314,18 @@ pub(crate) fn take_header(
     alloc: Global,
     state: &mut LinesSoFar,
     version: Version,
-    claims: &Claims,
+    claims: Claims,
 ) -> Result<(), TraceFaultKind>
     requires { IsBounded (state_of state.old) }
     ensures { Leaves
-        (first_step (state_of state.old) (Header version (claims_of claims.now)))
+        (first_step (state_of state.old) (Header version (claims_of claims)))
         result (state_of state.new) IsOk }
 {
-    if !are_user_names(claims) {
+    if !are_user_names(&claims) {
         return Err(TraceFaultKind::BadName);
     }
     state.version = version;
-    let root = keep_entry(alloc, state, claims, None)?;
+    let root = keep_entry(state, claims, None)?;
     put_entry(alloc, state, Path::root(alloc), root)?;
     Ok(())
 }

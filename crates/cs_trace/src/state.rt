@@ -45,7 +45,7 @@ fn rename(alloc: Global, tree: &mut Tree, from: &Path, to: &Path) -> Result<(), 
         return Ok(());
     };
     tree.remove(alloc, from)?;
-    tree.insert(alloc, to.try_clone(alloc)?, node)
+    tree.insert(to.try_clone(alloc)?, node)
 }
 
 /// Applies the operation to what is at each path; the start stays as it is.
@@ -55,14 +55,10 @@ fn move_paths(alloc: Global, tree: &mut Tree, operation: &Operation) -> Result<(
 {
     match operation {
         Operation::Creat { path, file, .. } => {
-            tree.insert(alloc, path.try_clone(alloc)?, Node::File(*file))
+            tree.insert(path.try_clone(alloc)?, Node::File(*file))
         }
-        Operation::Mkdir { path, .. } => {
-            tree.insert(alloc, path.try_clone(alloc)?, Node::Directory)
-        }
-        Operation::Link { path, file } => {
-            tree.insert(alloc, path.try_clone(alloc)?, Node::File(*file))
-        }
+        Operation::Mkdir { path, .. } => { tree.insert(path.try_clone(alloc)?, Node::Directory) }
+        Operation::Link { path, file } => { tree.insert(path.try_clone(alloc)?, Node::File(*file)) }
         Operation::Unlink { path } | Operation::Rmdir { path } => tree.remove(alloc, path),
         Operation::Rename { from, to } => rename(alloc, tree, from, to),
         Operation::Write { .. }

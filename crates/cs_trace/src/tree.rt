@@ -21,14 +21,16 @@ use cs_tree_model::Record;
 use std::alloc::{AllocError, Global};
 use std::marker::Model;
 
-/// What is at each path. Contracts see two finite maps: one of the start, and one of now. As long
-/// as they are the same, only the first is kept.
+/// What is at each path. Contracts see two finite maps: one of the start, and one of now. An
+/// operation copies nothing of the start: it moves what it removes.
 #[derive(Drop)]
 pub(crate) struct Tree {
-    /// The files and directories at the start.
-    start: Entries,
-    /// What is at each path now; None until the first operation that changes that.
-    changed: Option<Standing>,
+    /// The files and directories at the start, but for those in `gone`.
+    kept: Entries,
+    /// Those at the start that operations removed.
+    gone: Entries,
+    /// What operations put at a path, perhaps over what was there at the start.
+    placed: Standing,
     /// The directory of the last start line, which is there: most often the next line's, too.
     near: Option<Near>,
 }
@@ -43,13 +45,10 @@ impl Model for Tree {
 
     ghost coded = { model.tree_code };
 
-    ghost view = { λ tree. record {
-      start = tree.start;
-      nodes = model.nodes_by tree.start tree.changed;
-    } };
+    ghost view = { λ tree. model.tree_of tree.kept tree.gone tree.placed };
 
     ghost invariant = { λ tree. IfSome tree.near (λ near.
-        map.get (model.nodes_by tree.start tree.changed) near ≡ Some Directory) };
+        map.get (model.tree_of tree.kept tree.gone tree.placed).nodes near ≡ Some Directory) };
 }
 
 impl Tree {
@@ -58,8 +57,9 @@ impl Tree {
         ensures { result ≡ empty_tree }
     {
         Tree {
-            start: Entries::new(alloc),
-            changed: None,
+            kept: Entries::new(alloc),
+            gone: Entries::new(alloc),
+            placed: Standing::new(alloc),
             near: None,
         }
     }
@@ -68,9 +68,9 @@ impl Tree {
     pub(crate) fn get(&self, path: &Path) -> Option<Node>
         ensures { result ≡ map.get self.now.nodes path.now }
     {
-        match &self.changed {
-            Some(changed) => changed.get(path),
-            None => self.start.get(path),
+        match self.placed.get(path) {
+            Some(node) => Some(node),
+            None => self.kept.get(path),
         }
     }
 
@@ -78,17 +78,17 @@ impl Tree {
     pub(crate) fn start_entry(&self, path: &Path) -> Option<&StartFile>
         ensures { option_map (λ entry. entry.now) result ≡ map.get self.now.start path.now }
     {
-        self.start.entry(path)
+        match self.kept.entry(path) {
+            Some(entry) => Some(entry),
+            None => self.gone.entry(path),
+        }
     }
 
     /// Whether something is below the path now. It takes no memory.
     pub(crate) fn has_below(&self, path: &Path) -> bool
         ensures { result ≡ has_below self.now.nodes path.now }
     {
-        match &self.changed {
-            Some(changed) => changed.has_below(path),
-            None => self.start.has_below(path),
-        }
+        self.placed.has_below(path) || self.kept.has_below(path)
     }
 
     /// The path of an entry that the text spells, if its directory is that of the last start line;
@@ -126,6 +126,18 @@ impl Tree {
         self.near = Some(directory);
     }
 
+    /// Makes it faster to add start lines in the directory, if its path is long. After an error, the
+    /// trace is given up.
+    pub(crate) fn gather(&mut self, alloc: Global, directory: &Near) -> Result<(), AllocError>
+        ensures { OnOk result (self.new ≡ self.old) }
+    {
+        self.near = None;
+        if directory.is_long() {
+            self.kept.gather(alloc, directory.path())?;
+        }
+        Ok(())
+    }
+
     /// Puts the entry at the path, both at the start and now, and returns whether it replaced
     /// another now. After an error, the trace is given up.
     pub(crate) fn insert_start(
@@ -138,33 +150,19 @@ impl Tree {
         ensures state { OnOk result (self.new ≡ with_start self.old path entry) }
     {
         self.near = None;
-        match &mut self.changed {
-            None => Ok(self.start.insert(path, entry)?),
-            Some(changed) => {
-                let stood = changed.insert(path.try_clone(alloc)?, entry.node())?;
-                self.start.insert(path, entry)?;
-                Ok(stood)
-            }
-        }
+        let was_placed = self.placed.remove(&path);
+        let was_kept = self.kept.insert(alloc, path, entry)?;
+        Ok(was_placed || was_kept)
     }
 
     /// Puts the node at the path now; the start stays as it is. After an error, the trace is given
     /// up.
-    pub(crate) fn insert(&mut self, alloc: Global, path: Path, node: Node) -> Result<(), AllocError>
+    pub(crate) fn insert(&mut self, path: Path, node: Node) -> Result<(), AllocError>
         ensures start { OnOk result (self.new.start ≡ self.old.start) }
         ensures nodes { OnOk result (self.new.nodes ≡ map.insert self.old.nodes path node) }
     {
         self.near = None;
-        match &mut self.changed {
-            Some(changed) => {
-                changed.insert(path, node)?;
-            }
-            None => {
-                let mut changed = self.start.nodes(alloc)?;
-                changed.insert(path, node)?;
-                self.changed = Some(changed);
-            }
-        }
+        self.placed.insert(path, node)?;
         Ok(())
     }
 
@@ -175,15 +173,14 @@ impl Tree {
         ensures nodes { OnOk result (self.new.nodes ≡ map.remove self.old.nodes path.now) }
     {
         self.near = None;
-        match &mut self.changed {
-            Some(changed) => changed.remove(path),
-            None => {
-                let mut changed = self.start.nodes(alloc)?;
-                changed.remove(path);
-                self.changed = Some(changed);
+        self.placed.remove(path);
+        match self.kept.remove(path) {
+            None => Ok(()),
+            Some(entry) => {
+                self.gone.insert(alloc, path.try_clone(alloc)?, entry)?;
+                Ok(())
             }
         }
-        Ok(())
     }
 
     /// A record of each entry of the start, in the order of their paths and numbered from 0; and,
@@ -195,6 +192,6 @@ impl Tree {
         ensures records { IfOk result (λ parts. parts.0.items ≡ records_in self.start) }
         ensures nodes { IfOk result (λ parts. parts.1.items ≡ nodes_in self.start) }
     {
-        self.start.into_parts(alloc)
+        self.kept.with_others(alloc, self.gone)?.into_parts(alloc)
     }
 }

@@ -85,8 +85,8 @@ pub fn steps_are_judged()
 {}
 
 /// The reply to a message, and to a hang-up, is that of the last of some steps of the world, all of
-/// that connection at that moment, taken one after the other; or no step was taken. To take two
-/// lists of steps, one after the other, is to take them as one list.
+/// that connection at that moment, taken one after the other; or no step was taken. Two lists of
+/// steps, one after the other, are taken as one list is.
 pub fn messages_are_steps()
     ensures message { (world : World) (conn now : ℕ) → conn < CONNECTIONS →
         conn < length world.connections → AreRepliedBySteps world conn now }

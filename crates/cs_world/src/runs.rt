@@ -72,7 +72,7 @@ impl Port for Runs {
     ghost gives = { λ old question answer new. IsGiven old question answer new };
 
     /// Finds the run of that name in the registry, which makes it at the first find, and returns
-    /// its place. Unpublished if the name can't be a run's.
+    /// its place. Unpublished if the name can't be a run's. After an error nothing has changed.
     fn find(&mut self, alloc: Global, name: &TreeName) -> Result<u32, FindFault> {
         let Some(key) = RunKey::of_tree_name(name) else {
             return Err(FindFault::Unpublished);
@@ -81,7 +81,7 @@ impl Port for Runs {
     }
 
     /// Attaches a user to the run at the place `run`. The place of the new pass is its number in
-    /// the run. Foreign if there is no run at that place.
+    /// the run. Foreign if there is no run at that place. After an error nothing has changed.
     fn attach(
         &mut self,
         alloc: Global,

@@ -18,10 +18,10 @@ pub(crate) fn take_session_step<P: Port>(
         runs.new }
 {
     match step {
-        ConnectionStep::Find(message) => session.find_step(alloc, runs, now, message),
+        ConnectionStep::Find(message) => session.find_step(alloc, runs, message),
         ConnectionStep::Attach => session.attach_step(alloc, runs, now),
         ConnectionStep::Call(message) => session.call_step(alloc, runs, now, message),
         ConnectionStep::Close(fid) => session.close_step(alloc, runs, now, fid),
-        ConnectionStep::Table(change) => session.table_step(runs, now, change),
+        ConnectionStep::Table(change) => session.table_step(change),
     }
 }

@@ -101,12 +101,13 @@ impl Port for WatchedRuns {
 
     ghost gives = { λ old question answer new. IsWatched old question answer new };
 
-    /// Finds as the runs do. Nothing is noted.
+    /// Finds as the runs do. Nothing is noted. After an error nothing has changed.
     fn find(&mut self, alloc: Global, name: &TreeName) -> Result<u32, FindFault> {
         self.runs.find(alloc, name)
     }
 
-    /// Attaches as the runs do, and notes the attach if the run is that of the key.
+    /// Attaches as the runs do, and notes the attach if the run is that of the key. After an error
+    /// the runs are unchanged, but if the run is that of the key, `is_short` is set.
     fn attach(
         &mut self,
         alloc: Global,

@@ -38,13 +38,18 @@ impl Session {
     {
         let awaits_attach = self.awaited.is_some();
         let (fid, newfid) = (message.fid, message.newfid);
-        match decide_walk(awaits_attach, self.msize, &mut self.fids, now, message) {
-            Err(reply) => reply,
-            Ok((question, from)) => {
-                let answer = question.ask(alloc, port);
-                settle_walk(&mut self.fids, fid, newfid, from, answer)
-            }
-        }
+        let (question, from) = match decide_walk(
+            awaits_attach,
+            self.msize,
+            &mut self.fids,
+            now,
+            message,
+        ) {
+            Ok(asked) => asked,
+            Err(reply) => return reply,
+        };
+        let answer = question.ask(alloc, port);
+        settle_walk(&mut self.fids, fid, newfid, from, answer)
     }
 
     /// Opens a fid. If it is refused, no fid changes.
@@ -62,13 +67,12 @@ impl Session {
         ensures awaited { self.new.awaited ≡ self.old.awaited }
     {
         let awaits_attach = self.awaited.is_some();
-        match decide_open(awaits_attach, self.msize, &self.fids, now, message) {
-            Err(reply) => reply,
-            Ok(question) => {
-                let answer = question.ask(alloc, port);
-                settle_open(&mut self.fids, message.fid, message.mode, answer)
-            }
-        }
+        let question = match decide_open(awaits_attach, self.msize, &self.fids, now, message) {
+            Ok(question) => question,
+            Err(reply) => return reply,
+        };
+        let answer = question.ask(alloc, port);
+        settle_open(&mut self.fids, message.fid, message.mode, answer)
     }
 
     /// Makes a file in the fid's directory. The fid is then that of the new file, and open. If it
@@ -87,13 +91,12 @@ impl Session {
     {
         let awaits_attach = self.awaited.is_some();
         let (fid, mode) = (message.fid, message.mode);
-        match decide_create(awaits_attach, self.msize, &self.fids, now, message) {
-            Err(reply) => reply,
-            Ok(question) => {
-                let answer = question.ask(alloc, port);
-                settle_create(&mut self.fids, fid, mode, answer)
-            }
-        }
+        let question = match decide_create(awaits_attach, self.msize, &self.fids, now, message) {
+            Ok(question) => question,
+            Err(reply) => return reply,
+        };
+        let answer = question.ask(alloc, port);
+        settle_create(&mut self.fids, fid, mode, answer)
     }
 
     /// Reads from an open fid, at most as many bytes as a reply holds. After a read of a directory
@@ -112,13 +115,12 @@ impl Session {
         ensures awaited { self.new.awaited ≡ self.old.awaited }
     {
         let awaits_attach = self.awaited.is_some();
-        match decide_read(awaits_attach, self.msize, &self.fids, now, message) {
-            Err(reply) => reply,
-            Ok(question) => {
-                let answer = question.ask(alloc, port);
-                settle_read(&mut self.fids, message.fid, answer)
-            }
-        }
+        let question = match decide_read(awaits_attach, self.msize, &self.fids, now, message) {
+            Ok(question) => question,
+            Err(reply) => return reply,
+        };
+        let answer = question.ask(alloc, port);
+        settle_read(&mut self.fids, message.fid, answer)
     }
 
     /// Writes to an open fid. No fid changes.

@@ -217,7 +217,7 @@ open 1 => Open(Qid { kind: 0, vers: 4, path: 3 })
 ",
     );
     let message = attaching(rt, rt.alloc(), 4);
-    expect_reply(rt, session.find_step(rt.alloc(), port, 1, message), "Found");
+    expect_reply(rt, session.find_step(rt.alloc(), port, message), "Found");
     session
 }
 
@@ -230,7 +230,7 @@ fn takes_no_other_step_while_an_attach_is_awaited(rt: HostRuntime) {
     expect_reply(&rt, stat, "Error(S5)");
     let close = session.close_step(rt.alloc(), &mut port, 1, 1);
     expect_reply(&rt, close, "Error(S5)");
-    let table = session.table_step(&mut port, 1, TableStep::HangUp);
+    let table = session.table_step(TableStep::HangUp);
     expect_reply(&rt, table, "Error(S5)");
     let attached = session.attach_step(rt.alloc(), &mut port, 1);
     expect_reply(&rt, attached, "Attach(Qid { kind: 0, vers: 4, path: 3 })");

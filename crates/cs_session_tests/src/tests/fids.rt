@@ -51,7 +51,7 @@ fn expect_entry(rt: &impl Abort, entry: &FidEntry, number: u64) {
 /// An entry that is walked to and one that is open have the same run, pass, file and user, and each
 /// is only what it is.
 #[test]
-fn tells_of_an_entry_whatever_its_state(rt: HostRuntime) {
+fn has_the_fields_of_an_entry_whatever_its_state(rt: HostRuntime) {
     let walked = FidEntry::Walked(fid_of(&rt, 3));
     expect_entry(&rt, &walked, 3);
     assert!(rt; walked.as_walked().is_some() && walked.as_opened().is_none());
@@ -110,7 +110,7 @@ fn expect_not_open(rt: &impl Abort, table: &mut FidTable, fid: u32, fault: FidFa
 
 /// Number 0 is Unknown and fid 1 is NotOpen, to lend and to go on reading.
 #[test]
-fn refuses_to_read_on_where_no_fid_is_open(rt: HostRuntime) {
+fn refuses_to_read_on_if_no_fid_is_open(rt: HostRuntime) {
     let mut table = table_of_two(&rt);
     expect_not_open(&rt, &mut table, 0, FidFault::Unknown);
     expect_not_open(&rt, &mut table, 1, FidFault::NotOpen);
@@ -132,7 +132,7 @@ fn takes_a_fid_in_any_state_once(rt: HostRuntime) {
 
 /// A fid of file 30 put at 1 is InUse and comes back; 1 is still the fid of file 10.
 #[test]
-fn gives_a_fid_back_where_its_number_is_taken(rt: HostRuntime) {
+fn gives_a_fid_back_if_its_number_is_taken(rt: HostRuntime) {
     let mut table = table_of_two(&rt);
     let walked = fid_of(&rt, 30);
     table.reserve().expect(&rt, "room");

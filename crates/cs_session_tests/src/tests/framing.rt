@@ -109,7 +109,7 @@ fn expect_fault(rt: &(impl Abort + AllocGlobal), size: &[u8], fault: FrameFault)
 
 /// A size of 6 is Undersize and one of 65,537 Oversize, and again after more bytes.
 #[test]
-fn a_size_that_no_message_has_is_told_again(rt: HostRuntime) {
+fn a_size_that_no_message_has_is_reported_again(rt: HostRuntime) {
     expect_fault(&rt, b"\x06\0\0\0", FrameFault::Undersize);
     expect_fault(&rt, b"\x01\0\x01\0", FrameFault::Oversize);
 }

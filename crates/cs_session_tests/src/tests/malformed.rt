@@ -79,7 +79,7 @@ fn expect_faulty(rt: &(impl Abort + AllocGlobal), faulty: &Faulty) {
 /// Seven messages: of no type, that end too soon, with a NUL in a text, 17 names, a byte too many,
 /// or sizes that don't agree. Each of them is S2 in a session.
 #[test]
-fn a_malformed_message_is_told_in_a_session(rt: HostRuntime) {
+fn a_malformed_message_is_refused_in_a_session(rt: HostRuntime) {
     for faulty in &FAULTS {
         expect_faulty(&rt, faulty);
     }

@@ -196,7 +196,7 @@ fn expect_fault(rt: &(impl Abort + AllocGlobal), faulty: &Faulty) {
 /// Type 106; a wrong size; a text that runs past the end; a NUL; 17 names; a byte too many; 6
 /// bytes; a write with one byte less than its count, and one more. Each has its fault.
 #[test]
-fn the_first_fault_is_told(rt: HostRuntime) {
+fn the_first_fault_is_reported(rt: HostRuntime) {
     for faulty in &FAULTS {
         expect_fault(&rt, faulty);
     }
@@ -244,7 +244,7 @@ fn expect_reply_fault(rt: &(impl Abort + AllocGlobal), faulty: &Faulty) {
 /// end; a stat with a text that runs past it, a NUL, a byte left in it, a byte after it, and bytes
 /// that are missing.
 #[test]
-fn the_first_fault_of_a_reply_is_told(rt: HostRuntime) {
+fn the_first_fault_of_a_reply_is_reported(rt: HostRuntime) {
     for faulty in &REPLY_FAULTS {
         expect_reply_fault(&rt, faulty);
     }
@@ -304,7 +304,7 @@ const STAT_FAULTS: [Faulty; 12] = [
 /// one that runs past; with a byte left in it, and after it; and with a stat that runs past the
 /// message.
 #[test]
-fn the_first_fault_of_a_stat_is_told(rt: HostRuntime) {
+fn the_first_fault_of_a_stat_is_reported(rt: HostRuntime) {
     for faulty in &STAT_FAULTS {
         expect_fault(&rt, faulty);
     }

@@ -1,3 +1,4 @@
+//! Operations of traces, and their faults.
 use super::faults::{Faulty, OPERATION_FAULTS};
 use super::lines::{CREAT_Q, CREAT_X, HEADER, MKDIR_D, START, long_line, text_after};
 use super::shown::show_line;

@@ -22,7 +22,7 @@ fn profile_of(rt: &impl Abort, alloc: Global, header: &str) -> Profile {
 
 /// The profile of a header of version 1, and of two of version 2.
 #[test]
-fn a_header_tells_the_profile(rt: HostRuntime) {
+fn a_header_names_the_profile(rt: HostRuntime) {
     let alloc = rt.alloc();
     assert_eq!(rt; profile_of(&rt, alloc, FIRST), Profile::Blocks);
     assert_eq!(rt; profile_of(&rt, alloc, BLOCKS), Profile::Blocks);

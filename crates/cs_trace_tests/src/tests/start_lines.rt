@@ -1,3 +1,4 @@
+//! Headers and start lines of traces, and their faults.
 use super::faults::{Faulty, START_FAULTS};
 use super::lines::{DIRECTORY, FILE, HEADER, long_line};
 use cs_names::Path;
@@ -64,9 +65,9 @@ const SHUFFLED_SHOWN: &str = "\
 6 /p ann staff ann 0 0 0 800001e8 None
 ";
 
-/// The start tree from lines in another order, with keys in another order and
-/// hexadecimal digits of both cases: the numbers are those of the paths. Version and times are 0,
-/// muid is the owner, and directories have DMDIR.
+/// The start tree from lines in another order, with keys in another order and hexadecimal digits of
+/// both cases: the numbers are those of the paths. Version and times are 0, muid is the owner, and
+/// directories have DMDIR.
 #[test]
 fn records_have_the_numbers_of_their_paths_in_order(rt: HostRuntime) {
     has_records(&rt, rt.alloc(), SHUFFLED, SHUFFLED_SHOWN);
@@ -95,7 +96,7 @@ const BLANKS_BETWEEN: [&str; 7] = ["", HEADER, " ", DIRECTORY, FILE, "", ""];
 const DIRECTORY_TWICE: [&str; 5] = ["", HEADER, " \t", DIRECTORY, DIRECTORY];
 
 /// Blank lines are skipped and counted. A text of none but these is Syntax at line 1. `trace line
-/// 5: Exists`; a lack of memory prints `out of memory`, without a line.
+/// 5: Exists`; a fault of memory prints `out of memory`, without a line.
 #[test]
 fn lines_of_blanks_are_skipped_and_counted(rt: HostRuntime) {
     let alloc = rt.alloc();

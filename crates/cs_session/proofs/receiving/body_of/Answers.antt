@@ -68,9 +68,3 @@ returns-in-Error-clause-fits c = λ msize _ _. c.error_body.ensures.fits msize
 
 pub returns-in-Memory-clause-fits : goal.returns-in-Memory-clause-fits
 returns-in-Memory-clause-fits c = λ msize _ _. c.error_body-in-Memory.ensures.fits msize
-
-pub returns-in-Found-clause-fits : goal.returns-in-Found-clause-fits
-returns-in-Found-clause-fits c = λ msize _ _. c.error_body-in-Found.ensures.fits msize
-
-pub returns-in-Closed-clause-fits : goal.returns-in-Closed-clause-fits
-returns-in-Closed-clause-fits c = λ msize _ _. c.error_body-in-Closed.ensures.fits msize

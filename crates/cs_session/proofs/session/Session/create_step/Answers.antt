@@ -8,8 +8,8 @@ returns-in-Err-clause-takes g c =
     refuses g.P.Port.gives c.args.now (call.Create c.args.message) c.args.self.now _ c.self.view_is c.args.port.now _
     c.is_some-awaits_attach.ensures c.in-Err.reply c.in-Err.ensures.decided _ (search rules)
 
-pub returns-in-Ok-clause-takes : goal.returns-in-Ok-clause-takes
-returns-in-Ok-clause-takes g c =
+pub returns-clause-takes : goal.returns-clause-takes
+returns-clause-takes g c =
     calls g.P.Port.gives c.args.now (call.Create c.args.message) c.args.self.now _ c.self.view_is c.args.port.now _
     c.is_some-awaits_attach.ensures
     _ c.in-Ok.ensures.decided c.ask-answer.result _ c.ask-answer.ensures.given _ _ c.settle_create.ensures.value _ (search rules)

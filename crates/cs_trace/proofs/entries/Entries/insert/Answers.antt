@@ -1,18 +1,96 @@
-use Rattle.std.proofs.Common.{ap, ◌∙◌}
+use Rattle.std.proofs.Common.{ap, sym, subst, ◌∙◌}
 use Rattle.std.specs.FinMap as map
 use Rattle.std.specs.Option.{is_some}
-use Rattle.cs_trace.proofs.Views.{get-keyed, insert-keyed}
+use Rattle.cs_tree_model.specs.Tree.{path_cmp}
+use Rattle.cs_trace.specs.Siblings.{AreApart, AreElsewhere, with_siblings}
+use Rattle.cs_trace.specs.Unions.{union}
+use Rattle.cs_trace.proofs.Around.{either, elsewhere-insert, if_ok, on_ok}
+use Rattle.cs_trace.proofs.Unions.{some-first, some-second, union-insert, union-insert_second}
 use Rattle.cs_trace.proofs.entries.Entries.insert.Goals as goal
 
-pub returns : goal.returns
-returns c =
-    let es = c.self.inside.by_path.entries in
-    record {
-      stood =
-          c.is_some.ensures
-          ∙ ap is_some (c.in_ok-before.ensures.old ∙ get-keyed es c.args.path ∙ ap (λ m. map.get m c.args.path) c.self.view_is);
-      state =
-          ap map.from_entries c.in_ok-before.ensures.entries
-          ∙ insert-keyed es c.args.path c.args.entry
-          ∙ ap (λ m. map.insert m c.args.path c.args.entry) c.self.view_is;
-    }
+-- ---- no siblings
+
+pub returns-in-None-clause-stood : goal.returns-in-None-clause-stood
+returns-in-None-clause-stood c =
+    let m = map.from_entries {R = path_cmp} c.self.inside.by_path.entries in
+    let p = c.args.path in
+    if_ok c.insert_other.result
+    (λ stood is. is ∙ ap is_some (ap (λ o. map.get (with_siblings o m) p) (sym c.in-None.is) ∙ ap (λ m. map.get m p) c.self.view_is))
+    c.insert_other.ensures.stood
+
+pub returns-in-None-clause-state : goal.returns-in-None-clause-state
+returns-in-None-clause-state c =
+    let m = map.from_entries {R = path_cmp} c.self.inside.by_path.entries in
+    let k = map.from_entries {R = path_cmp} c.insert_other.new.by_path.entries in
+    let e = c.args.entry in
+    let p = c.args.path in
+    on_ok c.insert_other.result
+    (λ is.
+    ap (λ o. with_siblings o k) c.in-None.is ∙ is
+    ∙ ap (λ l. map.insert l p e) (ap (λ o. with_siblings o m) (sym c.in-None.is) ∙ c.self.view_is))
+    c.insert_other.ensures.state
+
+-- ---- one of the siblings
+
+pub returns-then-is_at-clause-stood : goal.returns-then-is_at-clause-stood
+returns-then-is_at-clause-stood c =
+    let m = map.from_entries {R = path_cmp} c.self.inside.by_path.entries in
+    let s = c.in-Some.siblings in
+    let p = c.args.path in
+    let apart : AreElsewhere s m = subst (λ o. AreApart o m) c.in-Some.is c.self.invariant in
+    let here = c.is_at.ensures.there c.if-is_at.true in
+    if_ok c.insert.result
+    (λ stood is.
+    is ∙ some-first s.entries m p (ap (map.get m) here.1 ∙ apart here.0)
+    ∙ ap is_some (ap (λ o. map.get (with_siblings o m) p) (sym c.in-Some.is) ∙ ap (λ m. map.get m p) c.self.view_is))
+    c.insert.ensures.stood
+
+pub returns-then-is_at-clause-state : goal.returns-then-is_at-clause-state
+returns-then-is_at-clause-state c =
+    let m = map.from_entries {R = path_cmp} c.self.inside.by_path.entries in
+    let s = c.in-Some.siblings in
+    let e = c.args.entry in
+    let p = c.args.path in
+    on_ok c.insert.result
+    (λ is.
+    ap (λ t. union t m) is
+    ∙ union-insert s.entries m p e
+    ∙ ap (λ l. map.insert l p e) (ap (λ o. with_siblings o m) (sym c.in-Some.is) ∙ c.self.view_is))
+    c.insert.ensures.state
+
+-- ---- another entry, beside siblings
+
+pub invariant_of-self-else-is_at : goal.invariant_of-self-else-is_at
+invariant_of-self-else-is_at c =
+    let m = map.from_entries {R = path_cmp} c.self.inside.by_path.entries in
+    let k = map.from_entries {R = path_cmp} c.insert_other-else-is_at.new.by_path.entries in
+    let s = c.in-Some.siblings in
+    let apart : AreElsewhere s m = subst (λ o. AreApart o m) c.in-Some.is c.self.invariant in
+    either (AreElsewhere s k) c.insert_other-else-is_at.result
+    c.insert_other-else-is_at.ensures.state c.insert_other-else-is_at.ensures.err
+    (λ is. elsewhere-insert s m k c.args.path c.args.entry is (c.is_at.ensures.elsewhere c.if-is_at.false) apart)
+    (λ is. subst (λ es. AreElsewhere s (map.from_entries {R = path_cmp} es)) (sym is) apart)
+
+pub returns-else-is_at-clause-stood : goal.returns-else-is_at-clause-stood
+returns-else-is_at-clause-stood c =
+    let m = map.from_entries {R = path_cmp} c.self.inside.by_path.entries in
+    let s = c.in-Some.siblings in
+    let p = c.args.path in
+    if_ok c.insert_other-else-is_at.result
+    (λ stood is.
+    is ∙ some-second s.entries m p (c.is_at.ensures.none c.if-is_at.false)
+    ∙ ap is_some (ap (λ o. map.get (with_siblings o m) p) (sym c.in-Some.is) ∙ ap (λ m. map.get m p) c.self.view_is))
+    c.insert_other-else-is_at.ensures.stood
+
+pub returns-else-is_at-clause-state : goal.returns-else-is_at-clause-state
+returns-else-is_at-clause-state c =
+    let m = map.from_entries {R = path_cmp} c.self.inside.by_path.entries in
+    let s = c.in-Some.siblings in
+    let e = c.args.entry in
+    let p = c.args.path in
+    on_ok c.insert_other-else-is_at.result
+    (λ is.
+    ap (union s.entries) is
+    ∙ union-insert_second s.entries m p e (c.is_at.ensures.none c.if-is_at.false)
+    ∙ ap (λ l. map.insert l p e) (ap (λ o. with_siblings o m) (sym c.in-Some.is) ∙ c.self.view_is))
+    c.insert_other-else-is_at.ensures.state

@@ -1,27 +1,32 @@
-use Rattle.std.proofs.Common.{ap, sym, ◌∙◌}
+use Rattle.std.proofs.Common.{◌||◌, ap, sym, ◌∙◌}
 use Rattle.std.specs.FinMap as map
 use Rattle.std.specs.Option.{is_some}
-use Rattle.cs_tree_model.specs.Maps.Values.{get-map_values}
-use Rattle.cs_tree_model.specs.Tree.{path_cmp}
-use Rattle.cs_trace.specs.Entries.{node_of}
-use Rattle.cs_trace.specs.Trees.{Tree, nodes_by, with_start}
-use Rattle.cs_trace.proofs.Trees.{is_some-map, start-view, viewed}
+use Rattle.cs_trace.specs.Trees.{Tree, with_start}
+use Rattle.cs_trace.proofs.Trees.{stands-nodes, start-tree}
 use Rattle.cs_trace.proofs.tree.Tree.insert_start.Goals as goal
+use Rattle.cs_trace.proofs.tree.Tree.insert_start.Goals.{then-was_placed, else-was_placed}
 
-pub returns-in_ok-insert-in-None : goal.returns-in_ok-insert-in-None
-returns-in_ok-insert-in-None c =
-    let start = c.self.inside.start in
-    record {
-      stood =
-          c.in_ok-insert-in-None.ensures.stood
-          ∙ sym (is_some-map node_of (map.get start c.args.path))
-          ∙ ap is_some
-          (sym (get-map_values path_cmp node_of start c.args.path)
-          ∙ ap (λ changed. map.get (nodes_by start changed) c.args.path) (sym c.in-None.is)
-          ∙ ap (λ (t : Tree). map.get t.nodes c.args.path) c.self.view_is);
-      state =
-          ap (viewed c.insert.new.self) c.in-None.is
-          ∙ start-view start c.insert.new.self c.args.path c.args.entry c.in_ok-insert-in-None.ensures.state
-          ∙ ap (λ changed. with_start (viewed start changed) c.args.path c.args.entry) (sym c.in-None.is)
-          ∙ ap (λ t. with_start t c.args.path c.args.entry) c.self.view_is;
-    }
+pub returns-clause-stood : goal.returns-clause-stood
+returns-clause-stood c =
+    let t = c.self.inside in
+    let p = c.args.path in
+    let either = sym (stands-nodes t.kept t.gone t.placed p) ∙ ap (λ (t : Tree). is_some (map.get t.nodes p)) c.self.view_is in
+    elim c.if-was_placed.branch [
+      | then-was_placed w ↦
+          w.result-is
+          ∙ w.if-was_placed.true
+          ∙ ap (λ b. b || is_some (map.get t.kept p)) (sym w.if-was_placed.true ∙ c.remove-was_placed.ensures.stood)
+          ∙ either
+      | else-was_placed w ↦
+          w.result-is
+          ∙ c.in_ok-was_kept.ensures.stood
+          ∙ ap (λ b. b || is_some (map.get t.kept p)) (sym w.if-was_placed.false ∙ c.remove-was_placed.ensures.stood)
+          ∙ either
+    ]
+
+pub returns-clause-state : goal.returns-clause-state
+returns-clause-state c =
+    let t = c.self.inside in
+    start-tree t.kept c.insert.new.self t.gone t.placed c.remove-was_placed.new.self c.args.path c.args.entry
+    c.in_ok-was_kept.ensures.state c.remove-was_placed.ensures.state
+    ∙ ap (λ t. with_start t c.args.path c.args.entry) c.self.view_is

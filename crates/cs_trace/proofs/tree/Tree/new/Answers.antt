@@ -1,5 +1,5 @@
-use Rattle.cs_trace.proofs.Trees.{bare-view}
+use Rattle.cs_trace.proofs.Trees.{tree-empty}
 use Rattle.cs_trace.proofs.tree.Tree.new.Goals as goal
 
 pub returns : goal.returns
-returns c = bare-view c.new.result c.new.ensures
+returns c = tree-empty c.new.result c.new-2.result c.new-3.result c.new.ensures c.new-2.ensures c.new-3.ensures
