@@ -15,18 +15,18 @@ pub struct Wanted<'a> {
     pub picks: Option<&'a str>,
 }
 
-/// What is to be done with these states.
+/// What the command does with these states.
 #[derive(Debug, Drop)]
 pub enum Job<'a> {
-    /// To list the micro-operations and the states.
+    /// Lists the micro-operations and the states.
     List(ListOptions),
-    /// To write the trees of some states as an archive.
+    /// Writes the trees of some states as an archive.
     Tar(States),
-    /// To print the sets of a family.
+    /// Prints the sets of a family.
     Picks(Family),
-    /// To run a script from standard input.
+    /// Runs a script from standard input.
     Script,
-    /// To serve connections over TCP.
+    /// Serves connections over TCP.
     Serve(Serving<'a>),
 }
 

@@ -95,7 +95,7 @@ fn read_if<R: Files + Eprint + AllocGlobal, E: Write>(
     }
 }
 
-/// The bytes of the users file, with a line feed alone at each line's end. If the command line
+/// The bytes of the users file, with only a line feed at each line's end. If the command line
 /// names none, `serve` gets one of the trace's owners and groups, and other commands get no bytes.
 /// The error is the status, after its lines on `err`.
 fn read_users<R: Files + Eprint + AllocGlobal, E: Write>(

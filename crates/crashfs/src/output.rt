@@ -2,7 +2,7 @@
 
 use std::io::{self, ErrorKind, Write};
 
-/// A writer that keeps the last fault of its writes.
+/// A writer that keeps the last fault of its writes and flushes.
 #[derive(Drop)]
 pub struct Output<W: Drop> {
     writer: W,
@@ -44,6 +44,8 @@ impl<W: Write + Drop> Output<W> {
 }
 
 impl<W: Write + Drop> Write for Output<W> {
+    /// Writes to the writer. If that fails, an error of the same kind is returned, and the fault is
+    /// kept unless the write was only interrupted.
     fn write(&mut self, buf: &[u8]) -> io::Result<usize> {
         match self.writer.write(buf) {
             Ok(count) => Ok(count),
@@ -51,6 +53,7 @@ impl<W: Write + Drop> Write for Output<W> {
         }
     }
 
+    /// Flushes the writer, whose error is kept as one of a write is.
     fn flush(&mut self) -> io::Result<()> {
         match self.writer.flush() {
             Ok(()) => Ok(()),

@@ -52,7 +52,7 @@ impl FileContent {
     }
 
     /// Writes the piece at the offset `at`, and leaves the size. If the bytes end before `at`,
-    /// those between are zero.
+    /// those between are zero. After an error the content must not be used.
     fn overwrite(&mut self, at: usize, piece: &[u8]) -> Result<(), AllocError>
         requires { at + length piece.now ≤ FILE_BYTES }
         ensures { OnOk result (self.new ≡ overwritten at piece.now self.old) }
@@ -63,7 +63,7 @@ impl FileContent {
     }
 
     /// Applies a change of size or a write to this content, whichever file it names; any other
-    /// micro-operation changes nothing.
+    /// micro-operation changes nothing. After an error the content must not be used.
     fn apply(&mut self, op: &MicroOp) -> Result<(), AllocError>
         requires { IsSmall op.now }
         ensures { OnOk result (self.new ≡ content_after_op self.old op.now) }
@@ -82,7 +82,8 @@ impl FileContent {
     }
 
     /// Applies those members of a set that change the file of this number, in their order. The
-    /// members are the micro-operations of `ops` at these places.
+    /// members are the micro-operations of `ops` at these places. After an error the content must
+    /// not be used.
     pub fn apply_members(
         &mut self,
         file: u32,

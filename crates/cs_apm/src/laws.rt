@@ -47,6 +47,7 @@ pub fn chains_are_chains(order: &Order)
     ensures { (i j : ℕ) → (by_chain (needs_in order.now) i j ≡ true)
         ↔ ((n : ℕ) × Chain (needs_in order.now) n i j) }
 {
+    // that an order is short, and that each operation needs only earlier ones
     know(order.len());
 }
 
@@ -57,5 +58,6 @@ pub fn states_are_trees(trace: &Trace, micros: &Micros)
     ensures { (places : List ℕ) → IsAllowed (needs_of micros.now) (length micros.now.ops) places
         → IsTree (crash_state_of trace.now micros.now places) }
 {
+    // by the trace's contract the paths at the start are nested
     know(trace.operations());
 }

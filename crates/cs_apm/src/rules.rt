@@ -1,6 +1,6 @@
 //! The rules by which one micro-operation needs another, as tests of the two: `a` is the first in
-//! the trace, and `b` the second, which may need it. The searches of the other rules are in
-//! `found`.
+//! the trace, and `b` the second, which may need it. Tests of a single micro-operation are here
+//! too. The searches of the other rules are in `found`.
 ghost use Rattle.std.specs.Prelude.{◌≡◌, ◌<◌, length};
 ghost use Rattle.std.specs.List.{list_any};
 ghost use Rattle.cs_names.specs.Paths.{path_eq};

@@ -41,7 +41,8 @@ pub fn tar_of<W: Write, E: Write>(
     err: &mut E,
 ) -> u8
     ensures status { result ≤ 1 }
-    ensures archive { result ≡ 0 → WritesArchive states.now (W.contents out.old) (W.contents out.new) }
+    ensures archive { result ≡ 0
+        → WritesArchive states.now (W.contents out.old) (W.contents out.new) }
 {
     match write_and_flush(alloc, inputs, states, out) {
         Ok(()) => 0,

@@ -4,7 +4,7 @@ use crate::total::{Total, Work};
 use std::rt::Clock;
 use std::{fmt, io};
 
-/// What a figure is to be.
+/// The bound of a figure.
 #[derive(Clone, Copy)]
 pub enum Bound {
     AtMost(f64),
@@ -34,13 +34,13 @@ impl fmt::Display for Bound {
     }
 }
 
-/// A work that is to take at most so many times as long as another, each call for each call.
+/// A work that may take at most so many times as long as another, each call for each call.
 #[derive(Clone, Copy)]
 pub struct Row<'a> {
     pub what: &'a str,
     pub beside: &'a str,
     pub most: f64,
-    /// How often both are done where they are timed.
+    /// How often both are done if they are timed.
     pub rounds: u64,
 }
 
@@ -90,7 +90,7 @@ pub fn compare<A: Work, B: Work>(
     row.print(rt, &total, &beside, timed)
 }
 
-/// Prints how much was done, or where it is timed a figure of it.
+/// Prints how much was done, or if it is timed a figure of it.
 pub fn print_figure(
     rt: &impl Print,
     what: &str,

@@ -11,7 +11,7 @@ const RIGHTS: &str = r#""owner":"ann","group":"ann","mode":"755"}"#;
 /// Sixteen bytes of a file, in hexadecimal.
 const SIXTEEN: &str = "61616161616161616161616161616161";
 
-/// A trace that grows line by line. After want of memory its last line may be cut off.
+/// A trace that grows line by line. If memory runs out, its last line may be cut off.
 #[derive(Drop)]
 pub struct Text {
     text: String,
@@ -26,7 +26,7 @@ fn push_bytes(text: &mut String, bytes: u64) -> Result<(), AllocError> {
 }
 
 impl Text {
-    /// A trace of the header alone.
+    /// A trace that has only the header.
     pub fn new(alloc: Global) -> Result<Text, AllocError> {
         let text = String::from_str(alloc, HEADER)?;
         Ok(Text { text })
@@ -36,13 +36,13 @@ impl Text {
         self.text.as_str()
     }
 
-    /// The directory stands at the start.
+    /// A directory that is there at the start.
     pub fn start_dir(&mut self, path: &str) -> Result<(), AllocError> {
         let text = &mut self.text;
         write!(text, "\n{{\"start\":\"dir\",\"path\":\"{path}\",{RIGHTS}")
     }
 
-    /// The file stands at the start, with as many bytes, rounded down to sixteens.
+    /// A file that is there at the start, with as many bytes, rounded down to sixteens.
     pub fn start_file(&mut self, path: &str, bytes: u64) -> Result<(), AllocError> {
         let text = &mut self.text;
         write!(
@@ -54,13 +54,13 @@ impl Text {
         text.push_str(RIGHTS)
     }
 
-    /// The operation that takes a path alone, as fsync and unlink.
+    /// An operation that takes only a path, as fsync and unlink.
     pub fn operation(&mut self, op: &str, path: &str) -> Result<(), AllocError> {
         let text = &mut self.text;
         write!(text, "\n{{\"op\":\"{op}\",\"path\":\"{path}\"}}")
     }
 
-    /// The operation that makes a file or directory: creat or mkdir.
+    /// An operation that makes a file or directory: creat or mkdir.
     pub fn make(&mut self, op: &str, path: &str) -> Result<(), AllocError> {
         let text = &mut self.text;
         write!(text, "\n{{\"op\":\"{op}\",\"path\":\"{path}\",{RIGHTS}")
@@ -93,8 +93,8 @@ impl Text {
         )
     }
 
-    /// Files of the root that stand at the start, each with as many bytes: so many numbers from the
-    /// first on.
+    /// Files of the root that are there at the start, each with as many bytes: so many numbers from
+    /// the first on.
     pub fn start_files(
         &mut self,
         alloc: Global,

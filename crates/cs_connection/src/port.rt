@@ -59,8 +59,8 @@ impl<'r, S: ServerBrand, R: Wait> Port for SharedPort<'r, S, R> {
     ghost gives = { λ old question told new. Gives S.serves old question told new };
 
     /// Finds the run of that name in the registry, and keeps it. Unpublished if the name can't be a
-    /// run's. A find that the registry grants stays counted, even if there is no memory to keep the
-    /// run.
+    /// run's, Full also if the port has 2^32 runs already. A find that the registry grants stays
+    /// counted, even if there is no memory to keep the run.
     fn find(&mut self, alloc: Global, name: &TreeName) -> Result<u32, FindFault> {
         let Some(key) = RunKey::of_tree_name(name) else {
             return Err(FindFault::Unpublished);
@@ -75,8 +75,9 @@ impl<'r, S: ServerBrand, R: Wait> Port for SharedPort<'r, S, R> {
         }
     }
 
-    /// Attaches to the run at the place `run`, and keeps the pass. Foreign if there is no such run.
-    /// Room for the pass is made first, so after an error there is no pass.
+    /// Attaches to the run at the place `run`, and keeps the pass. Foreign if there is no such run,
+    /// Room also if the port has 2^32 passes already. Room for the pass is made first, so after an
+    /// error there is no pass.
     fn attach(
         &mut self,
         alloc: Global,

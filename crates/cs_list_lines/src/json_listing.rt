@@ -76,6 +76,7 @@ pub fn push_state_objects(
     text: &mut Vec<u8>,
 ) -> Result<(), ProgramFault> {
     for (number, recipe) in scene.plan().recipes().iter().enumerate() {
+        // the number is one of the plan's, so `says` finds it; and `firsts` is as long as the plan
         let says = scene.says(number as u32).unwrap_or(0);
         let first = firsts.get(number).copied().unwrap_or(number as u32);
         let Ok(json) = state_line(alloc, number, recipe, says, first) else {

@@ -95,6 +95,7 @@ fn push_state_lines(
         let line = StateLine {
             number,
             recipe,
+            // the number is one of the plan's, so `says` finds it
             says: scene.says(number as u32).unwrap_or(0),
             first: found_at(firsts, number),
         };

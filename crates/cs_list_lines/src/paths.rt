@@ -90,6 +90,7 @@ impl<'a> FilePaths<'a> {
                 ..
             } => self.push_made(alloc, path)?,
             MicroOp::LinkDirEntry { path, file } => {
+                // a link is of a file that is there already
                 if let Some(paths) = self.files.get_mut(*file as usize) {
                     paths.push(path)?;
                 }

@@ -127,6 +127,7 @@ impl Scene {
             return Err(MakeFault::NoSuchState);
         };
         rules_are_sentences(self.atlas.micros());
+        // by its contract the trace makes no more records than a tree may have
         know(self.atlas.trace().operations());
         let places = places_of(alloc, &self.order, recipe)?;
         let tree = self.atlas.build(alloc, &places)?;

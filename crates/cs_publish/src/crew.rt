@@ -57,6 +57,7 @@ fn work<N: Staged, R: Wait, G: Gate>(
         let made = match stage.make(alloc, ask(gate, number)) {
             Ok(state) => FromWorker::State(state),
             Err(MakeFault::Memory) => FromWorker::NoMemory,
+            // not reached: the numbers are those below the plan's length
             Err(MakeFault::NoSuchState) => continue,
         };
         if states.send(rt, made).is_err() {

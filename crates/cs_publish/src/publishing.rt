@@ -31,6 +31,7 @@ fn publish_made<H: Held, N: Staged, R: Wait>(
     requires new { states ≡ empty states.scene states.users }
     ensures { IfOk result (λ all. all ≡ all_published states.scene states.users) }
 {
+    // the label names the loop in its proof
     'missing: while states.missing() > 0 {
         let state = next_made(rt, &made)?;
         match states.publish_own(alloc, state.into_state()) {

@@ -61,6 +61,7 @@ impl RunKey {
                 number,
                 name: short_name(name),
             }),
+            // a legal name passes the check
             Err(_) => unreachable!(),
         }
     }
@@ -135,12 +136,13 @@ fn short_name(name: &str) -> ArrayString<RUN_NAME_BYTES>
 {
     match ArrayString::from(name) {
         Ok(name) => name,
+        // the name fits: a requires says so
         Err(_) => unreachable!(),
     }
 }
 
 /// Whether all bytes are decimal digits, and there are no more than a state's number may have. True
-/// of no bytes.
+/// if there are no bytes.
 fn are_few_digits(bytes: &[u8]) -> bool
     ensures { result ≡ are_few_digits bytes.now }
 {

@@ -1,5 +1,5 @@
-//! What is read as a name, a path or a users file, what a client of Linux is told, and which rule a
-//! request or a wstat fails first.
+//! What is read as a name, a path or a users file, which texts a client of Linux gets, and which
+//! rule a request or a wstat fails first.
 
 mod linux;
 mod names;

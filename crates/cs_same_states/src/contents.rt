@@ -1,7 +1,7 @@
 //! Digests of the files of a state: of their bytes and their rights. Only those blocks of a file
 //! are read that some micro-operation writes into, or ends a file in. A wrong digest costs time,
-//! never an answer, so nothing here has a contract: a file or a place out of range, or a file that
-//! isn't there, has the digest 0.
+//! never an answer, so nothing here has a contract: a file out of range, or one that isn't there,
+//! has the digest 0, and a place out of range is no member.
 use crate::changes::{Change, File, blocks_of, files_of};
 use crate::mixing::{digest_of_bytes, mix};
 use cs_names::Path;
@@ -103,6 +103,7 @@ impl FileLeft {
                 self.cuts.push(Cut { place, length })?;
             }
             Change::Write(index) => {
+                // the index is that of a block that is read, so it isn't out of range
                 if let Some(write) = self.writes.get_mut(index) {
                     *write = Some(place);
                 }
@@ -176,7 +177,8 @@ impl Contents {
     }
 
     /// The digest of the bytes and rights of a file of a state. `members` says of each
-    /// micro-operation whether the state has it. 0 if the trace has no file of that number.
+    /// micro-operation whether the state has it. 0 if the trace has no file of that number. After
+    /// an error the digests of blocks that were read stay kept.
     pub fn digest_of_file(
         &mut self,
         alloc: Global,
@@ -190,6 +192,7 @@ impl Contents {
         let size = self.block_size.bytes();
         let mut digest = mix(left.rights, left.length);
         for (index, write) in left.writes.iter().enumerate() {
+            // there are as many writes as blocks, so no index is out of range
             let block = self.blocks.get(index).copied().unwrap_or(0);
             if block <= left.length / size {
                 let end = block.saturating_add(1).saturating_mul(size);

@@ -26,7 +26,7 @@ impl Digests {
 
     /// The digest of the state of this number. `members` says of each micro-operation whether the
     /// state has it. It takes time in proportion to the paths that operations touch and the blocks
-    /// that they write. Digests of blocks are kept for later states.
+    /// that they write. Digests of blocks are kept for later states, also after an error.
     pub fn digest_of_state(
         &mut self,
         alloc: Global,

@@ -18,6 +18,7 @@ pub fn places_at(alloc: Global, scene: &Scene, number: u32) -> Result<Vec<u32>, 
         places.items) }
 {
     let Some(recipe) = scene.plan().recipe(number) else {
+        // the plan has the number: a requires says so
         unreachable!();
     };
     rules_are_sentences(scene.micros());

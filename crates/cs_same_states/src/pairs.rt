@@ -142,7 +142,7 @@ fn bytes_left(
 }
 
 /// Whether `file` after the first set has the same bytes, owner, group and permissions as `other`
-/// after the second set. All bytes are compared. False if there is no such file.
+/// after the second set. All bytes are compared. False if one of these files doesn't exist.
 pub fn are_same_files(
     alloc: Global,
     pair: &Pair<'_>,
@@ -166,7 +166,7 @@ pub fn are_same_files(
     if !are_same_owners(pair, file, other) {
         return Ok(false);
     }
-    let bytes = bytes_left(alloc, pair, pair.places, file)?;
-    let others = bytes_left(alloc, pair, pair.others, other)?;
-    Ok(bytes == others)
+    let first_bytes = bytes_left(alloc, pair, pair.places, file)?;
+    let second_bytes = bytes_left(alloc, pair, pair.others, other)?;
+    Ok(first_bytes == second_bytes)
 }

@@ -37,7 +37,8 @@ impl Parts {
     pub fn of(alloc: Global, scene: &Scene) -> Result<Parts, AllocError>
         ensures { IfOk result (AreParts scene.now.trace) }
     {
-        // broken up again, since this says that the micro-operations are legal
+        // broken up again, since this says that the micro-operations are legal; they aren't too
+        // many for the scene, so only memory can run out
         let Ok(micros) = break_up(alloc, scene.trace()) else {
             return Err(AllocError);
         };

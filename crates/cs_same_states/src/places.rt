@@ -37,7 +37,7 @@ impl Places {
     }
 
     /// Adds the paths that a file has at the start, which `starts` has by the files' numbers; none
-    /// if an operation makes the file.
+    /// if an operation makes the file. After an error the paths must not be used.
     fn add_start(
         &mut self,
         alloc: Global,

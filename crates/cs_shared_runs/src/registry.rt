@@ -109,7 +109,8 @@ impl<S: ServerBrand> Registry<S> {
     }
 
     /// Publishes a state of the only scene that may be the server's, as `publish` does but without
-    /// comparing contents. It may be refused as Twice or Memory, but never as Stranger.
+    /// comparing contents. It may be refused as Twice or Memory, never as Stranger. A refused state
+    /// is dropped, and the registry is as it was.
     pub fn publish_own(&mut self, alloc: Global, state: Published) -> Result<(), PublishFault>
         requires { IsOnly S.is_scene state.scene }
         ensures publishes { Publishes self.old state result self.new }

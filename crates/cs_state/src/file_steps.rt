@@ -1,4 +1,5 @@
-//! Which micro-operations of a trace change a file, and which of its pages.
+//! Which micro-operations of a trace change a file, and which of its pages. A file's bytes at the
+//! start are here too.
 ghost use Rattle.std.specs.Prelude.{◌≡◌, ◌+◌, ◌/◌, ◌<◌, ◌≤◌, ◌^◌, ℕ, true, None, Some, length};
 ghost use Rattle.std.specs.Prelude.{slice_get, slice_index_or, IfOk, IsSome, OnOk};
 ghost use Rattle.std.specs.BTreeMap.{get};

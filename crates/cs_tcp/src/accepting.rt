@@ -48,5 +48,6 @@ pub(crate) fn accept<R: Wait + Clock, L: OpenListener>(
         }
         thread::sleep(rt, Duration::from_millis(PAUSE_MILLISECONDS));
     }
+    // `forever` has no last item, so only a return leaves the loop
     unreachable!()
 }

@@ -78,7 +78,7 @@ impl Door {
 #[derive(Drop)]
 pub(crate) struct Entrance {
     door: Mutex<Door>,
-    /// Whether the entrance is to be closed. The thread that waits for a connection, and so has the
+    /// Whether the entrance must close. The thread that waits for a connection, and so has the
     /// lock, looks at this.
     closing: AtomicBool,
 }

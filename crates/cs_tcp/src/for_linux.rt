@@ -14,7 +14,7 @@ use std::io::{self, Read, Write};
 
 /// A stream to a client of Linux. What is read from it are requests as the client means them; what
 /// is written to it reaches the client with texts of errors that it knows. A message goes on once
-/// it is whole. If it can't be changed because out of memory, it goes on as it is. If the client
+/// it is whole. If it can't be changed because memory ran out, it goes on as it is. If the client
 /// renames a file over another, more requests are read than it sent, whose replies it doesn't get.
 #[derive(Drop)]
 pub(crate) struct LinuxStream<RW> {
@@ -22,7 +22,7 @@ pub(crate) struct LinuxStream<RW> {
     alloc: Global,
     /// What the client sent and isn't in `to_server` yet.
     requests: Framer,
-    /// What is to be read next: requests for the server.
+    /// What is read next: requests for the server.
     to_server: VecDeque<u8>,
     /// What was written, from the first reply on that isn't whole.
     replies: Framer,
@@ -193,7 +193,7 @@ impl<RW> LinuxStream<RW> {
 
 impl<RW: Read> Read for LinuxStream<RW> {
     /// Reads requests for the server. Waits for the client until there is a byte of them; 0 if it
-    /// sends no more.
+    /// sends no more. After an error, of the stream or out of memory, some requests may be missing.
     fn read(&mut self, buf: &mut [u8]) -> io::Result<usize> {
         if buf.is_empty() {
             return Ok(0);
@@ -233,6 +233,7 @@ impl<RW: Write> Write for LinuxStream<RW> {
         Ok(buf.len())
     }
 
+    /// Flushes the stream. Bytes of a reply that isn't whole yet stay here.
     fn flush(&mut self) -> io::Result<()> {
         self.stream.flush()
     }

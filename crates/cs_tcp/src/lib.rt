@@ -1,6 +1,6 @@
-//! The command `serve`: the states that a crash may leave, served over TCP, each connection in a
-//! thread of its own. What a connection is answered is cs_connection's; here are the sockets, the
-//! threads, and what is printed.
+//! The command `serve`: the states that a crash may leave, served over TCP by threads that each
+//! serve one connection at a time. What a connection is answered is cs_connection's; here are the
+//! sockets, the threads, and what is printed.
 //!
 //! Most functions have no clause: what they do happens at a socket, a file, a clock or in another
 //! thread, of which contracts say little. Tests hold them: `tests` over loopback, with real

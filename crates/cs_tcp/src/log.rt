@@ -115,7 +115,7 @@ impl<E: Write> Log<'_, E> {
         let _unheard = writer.flush();
     }
 
-    /// Prints that no more messages of a connection are printed, because out of memory.
+    /// Prints that no more messages of a connection are printed, because memory ran out.
     pub(crate) fn print_loss(&self, rt: &impl Wait, conn: u32) {
         self.print_line(rt, &format_args!("{conn} tells no more: out of memory"));
     }

@@ -19,7 +19,7 @@ pub(crate) struct LoggedStream<'a, RW, R, E> {
     messages: Framer,
     /// What was written, from the first reply on that isn't whole.
     replies: Framer,
-    /// Whether some of it was lost because out of memory. Then no more is printed.
+    /// Whether some of it was lost because memory ran out. Then no more is printed.
     lost: bool,
 }
 
@@ -112,6 +112,7 @@ impl<RW: Write, R: Wait, E: Write> Write for LoggedStream<'_, RW, R, E> {
         Ok(count)
     }
 
+    /// Flushes the stream, and prints nothing.
     fn flush(&mut self) -> io::Result<()> {
         self.stream.flush()
     }

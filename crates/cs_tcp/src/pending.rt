@@ -62,7 +62,7 @@ fn owned_if_it_matters(request: TMessage<'_>) -> Option<TMessage<'static>> {
 }
 
 /// The request that the bytes spell, if its reply matters. None of any other, and of bytes that
-/// can't be decoded, also because out of memory: that request goes on as one whose reply doesn't
+/// can't be decoded, also if memory runs out: that request goes on as one whose reply doesn't
 /// matter.
 fn decode_if_it_matters(alloc: Global, request: &[u8]) -> Option<TMessage<'static>> {
     match request_type_of(request) {
@@ -81,6 +81,7 @@ fn reply_of(alloc: Global, reply: &[u8]) -> RMessage {
     match decode_reply(alloc, reply) {
         Ok(reply) => reply,
         Err(_) => {
+            // a whole reply has at least 7 bytes
             let (low, high) = (reply.get(5).copied(), reply.get(6).copied());
             RMessage {
                 tag: u16::from_le_bytes([low.unwrap_or(0), high.unwrap_or(0)]),

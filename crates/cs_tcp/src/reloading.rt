@@ -74,13 +74,13 @@ fn load<S: ServerBrand>(
 #[derive(Drop)]
 pub(crate) struct Reloading {
     path: String,
-    /// The bytes that were last loaded, or refused with a line, with line feeds alone.
+    /// The bytes that were last loaded, or refused with a line, as `with_line_feeds` gives them.
     last: Mutex<Vec<u8>>,
 }
 
 impl Reloading {
-    /// The users file of the path, which had these bytes, with line feeds alone, when the server
-    /// was made.
+    /// The users file of the path, which had these bytes when the server was made. They are as
+    /// `with_line_feeds` gives them.
     pub(crate) fn new(alloc: Global, path: &str, bytes: &[u8]) -> Result<Reloading, AllocError> {
         Ok(Reloading {
             path: path.to_string(alloc)?,

@@ -104,7 +104,7 @@ fn print_address<W: Write>(given: &str, taken: u16, out: &mut W) -> Result<(), P
 }
 
 /// Accepts connections and serves each in a thread, and returns once all have ended. Without
-/// `ready` it also publishes the states, in a thread beside them. False if a fault was printed.
+/// `ready` it also publishes the states, in another thread. False if a fault was printed.
 fn serve_each<
     's,
     S: ServerBrand + Send + Sync + 's,

@@ -12,14 +12,14 @@ pub const GAP: usize = 1 << 18;
 /// What an open hoard leaves at least.
 const AMPLE: usize = 1 << 24;
 
-/// Blocks that are given back one after the other, where what is free lies in pieces.
+/// Blocks that are given back one after the other, if what is free is in pieces.
 const SPARES: usize = 64;
 
 const SPARE: usize = 1 << 21;
 
 /// All memory of the process but what it leaves. It holds address space and no pages, since no
-/// block is ever written. It serves in a process of one thread, on Linux with GNU's C library,
-/// where the kernel lends more memory than there is (`vm.overcommit_memory` 0 or 1).
+/// block is ever written. It serves in a process of one thread, on Linux with GNU's C library, if
+/// the kernel lends more memory than there is (`vm.overcommit_memory` 0 or 1).
 #[derive(Drop)]
 pub struct Hoard {
     /// Held as long as the hoard is there.

@@ -8,7 +8,7 @@ use std::alloc::{AllocError, Global};
 pub enum End<A> {
     /// With that answer.
     Done(A),
-    /// It told want of memory.
+    /// It ran out of memory.
     Short,
 }
 
@@ -31,7 +31,7 @@ pub trait Subject: Drop {
     /// Adds all that can be seen of the subject.
     fn tell(&mut self, alloc: Global, told: &mut String) -> Option<()>;
 
-    /// Where a call that was refused counts as made: whether that is the answer to the second call.
+    /// If a call that was refused counts as made: whether that is the answer to the second call.
     fn spent(row: &Self::Row, said: &str) -> Option<bool>;
 }
 
@@ -44,7 +44,7 @@ pub enum Look {
     AnswerAgain,
     /// What can be seen after that.
     Again,
-    /// The answer where no growth was refused.
+    /// The answer if no growth was refused.
     Answer,
     /// What can be seen after that.
     Done,
@@ -53,11 +53,11 @@ pub enum Look {
 /// Why a call is not as it should be.
 #[derive(Debug, Drop)]
 pub enum SweepFault {
-    /// The subject couldn't be made, called or told of.
+    /// The subject couldn't be made, called or described.
     Setting,
     /// An open hoard left too little memory.
     Memory,
-    /// With ample memory it tells want of memory.
+    /// With ample memory it ran out of memory.
     Short,
     /// It was refused with the whole gap free.
     Endless,

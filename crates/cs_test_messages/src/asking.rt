@@ -46,7 +46,7 @@ fn push_text(bytes: &mut Vec<u8>, width: usize, text: &str) -> Option<()> {
     bytes.extend_from_slice(text.as_bytes()).ok()
 }
 
-/// Adds names, which stand between slashes, with their count before them.
+/// Adds names, which are between slashes, with their count before them.
 fn push_names(bytes: &mut Vec<u8>, names: &str) -> Option<()> {
     if names.is_empty() {
         return push_number(bytes, 2, 0);
@@ -58,7 +58,7 @@ fn push_names(bytes: &mut Vec<u8>, names: &str) -> Option<()> {
     Some(())
 }
 
-/// A mode: octal digits, with `dir:`, `append:` or `excl:` before them where it is no plain file's
+/// A mode: octal digits, with `dir:`, `append:` or `excl:` before them if it is no plain file's
 /// (stat(5)).
 fn mode_in(mode: &str) -> Option<u64> {
     let (bit, digits) = match mode.split_once(':') {

@@ -1,6 +1,6 @@
 //! All states of a trace, made and published by workers; and what `script` does before its first
-//! line. Run by hand with the word `time`, each row tells how long its work takes, and whether it
-//! is within its bound; without it the trace is small, and it tells no time.
+//! line. Run by hand with the word `time`, each row says how long its work takes, and whether it
+//! is within its bound; without it the trace is small, and no row says a time.
 #![tactic(auto)]
 
 mod publishing;

@@ -37,7 +37,7 @@ fn published<S: ServerBrand, R: Threads + Wait + Sync>(
     Some(registry)
 }
 
-/// Publishes the states once more. How long the registry takes to be let go doesn't count.
+/// Publishes the states once more. The time to drop the registry doesn't count.
 fn time_scene<S: ServerBrand, R: Threads + Wait + Sync + Clock>(
     rt: &R,
     alloc: Global,

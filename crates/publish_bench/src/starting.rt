@@ -29,7 +29,7 @@ fn started(alloc: Global, trace: &str) -> Option<World> {
 }
 
 impl Work for Starting<'_> {
-    /// Counts the states of the world, which is kept: how long it takes to be let go doesn't count.
+    /// Counts the states of the world, which is kept: the time to drop it doesn't count.
     fn run(&mut self, alloc: Global) -> u64 {
         self.world = started(alloc, self.trace);
         match &self.world {

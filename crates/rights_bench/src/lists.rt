@@ -1,4 +1,4 @@
-//! Users files of as many lines as are wanted.
+//! Users files of as many lines as are asked for.
 
 use cs_users::Users;
 use std::alloc::{AllocError, Global};
@@ -12,7 +12,7 @@ pub struct Size {
 }
 
 impl Size {
-    /// The place of a member's line behind the group's: members stand all over the file.
+    /// The place of a member's line after the group's: members are all over the file.
     pub fn member(self, index: u64) -> u64 {
         let others = self.lines.saturating_sub(1);
         let apart = others / self.members.max(1);
@@ -20,7 +20,7 @@ impl Size {
     }
 }
 
-/// The name of the user at that place behind the group's line.
+/// The name of the user at that place after the group's line.
 pub fn name(alloc: Global, place: u64) -> Result<String, AllocError> {
     format!(in alloc; "user{place:05}")
 }

@@ -1,5 +1,5 @@
 //! Memberships and rights, timed among users of few lines and of many. Run by hand with the word
-//! `time`, each row tells how long its work takes, and whether it is within its bound.
+//! `time`, each row says how long its work takes, and whether it is within its bound.
 #![tactic(auto)]
 
 mod asking;
@@ -11,8 +11,8 @@ use cs_bench::{Row, Work, compare};
 use std::rt::Clock;
 use std::{env, io};
 
-/// A short users file, a long one, one whose group is the largest that is searched by halves, and
-/// one in which all are members of the group.
+/// A short users file, a long one, one whose group is the largest that binary search is used for,
+/// and one in which all are members of the group.
 const FEW: Size = Size {
     lines: 5,
     members: 4,
@@ -33,10 +33,10 @@ const ALL: Size = Size {
     members: 19_999,
 };
 
-/// How often a work is done where it is timed.
+/// How often a work is done if it is timed.
 const ROUNDS: u64 = 200;
 
-/// Times a work among the users of a long list, beside the same among those of a short one.
+/// Times a work among the users of a long list, and the same among those of a short one.
 fn row<W: Work + Drop>(
     rt: &(impl Clock + Print + AllocGlobal),
     what: &str,
@@ -56,7 +56,7 @@ fn row<W: Work + Drop>(
     compare(rt, &row, &mut many, &mut few, timed)
 }
 
-/// Both questions of a list of users, beside those of the short one.
+/// Both questions of a list of users, compared with those of the short one.
 fn rows(
     rt: &(impl Clock + Print + AllocGlobal),
     (size, is): (Size, &str),

@@ -1,4 +1,4 @@
-//! A server that does no work, but for keeping what is written if it is to: it answers each message
+//! A server that does no work, except that it may keep what is written: it answers each message
 //! with a fixed reply of the right type and size.
 ghost use Rattle.std.specs.Prelude.{◌≤◌, length, IfOk};
 
@@ -104,7 +104,7 @@ fn serve(alloc: Global, stream: TcpStream, keeping: Keeping) -> io::Result<()> {
     Ok(())
 }
 
-/// Accepts so many connections, and serves each in a thread of its own, to its end.
+/// Accepts so many connections, and serves each in a separate thread, to its end.
 pub fn serve_each<R: Threads + Wait + Sync>(
     rt: &R,
     alloc: Global,

@@ -6,7 +6,7 @@ use std::alloc::{AllocError, Global};
 /// Bytes of a large block: 8 MiB.
 const LARGE: usize = 8_388_608;
 
-/// Where the bytes of a message's data begin: behind its size, type, tag, fid, offset and count.
+/// Where the bytes of a message's data begin: after its size, type, tag, fid, offset and count.
 const DATA: usize = 23;
 
 /// Where the bytes of writes go.
@@ -14,9 +14,9 @@ const DATA: usize = 23;
 pub enum Keeping {
     /// Nowhere.
     Nothing,
-    /// Those of each write into a block of its own.
+    /// Those of each write into a separate block.
     Blocks,
-    /// Into blocks of 8 MiB, one behind the other.
+    /// Into blocks of 8 MiB, one after the other.
     LargeBlocks,
 }
 
@@ -74,7 +74,7 @@ impl Kept {
         Ok(())
     }
 
-    /// Puts the bytes behind those that came before, in a new block if the last has no room for
+    /// Puts the bytes after those that came before, in a new block if the last has no room for
     /// them.
     fn append(&mut self, alloc: Global, bytes: &[u8]) -> Result<(), AllocError> {
         if let Some(block) = self.blocks.last_mut() {

@@ -43,7 +43,7 @@ impl Kind {
         }
     }
 
-    /// The least part of a bare server's rate that it is to have; None if it isn't held to that
+    /// The least part of a bare server's rate that it must have; None if it isn't held to that
     /// server.
     pub fn least(self, beside: Keeping) -> Option<f64> {
         match beside {
@@ -60,7 +60,7 @@ impl Kind {
         }
     }
 
-    /// The same beside a server that forgets.
+    /// The same of the rate of a server that forgets.
     fn least_of_forgetting(self) -> Option<f64> {
         match self {
             Kind::Stats | Kind::Reads => Some(0.9),

@@ -41,7 +41,7 @@ impl Link {
         }
     }
 
-    /// Sends a message, and waits for its reply, which is to be no refusal.
+    /// Sends a message, and waits for its reply, which must be no refusal.
     pub fn ask(&mut self, message: &[u8]) -> io::Result<()> {
         self.stream.write_all(message)?;
         let wanted = message.get(4).map(|kind| kind.wrapping_add(1));

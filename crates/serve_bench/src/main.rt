@@ -1,6 +1,6 @@
-//! Measures a server over TCP beside servers that answer and do no work, but for keeping what is
-//! written. Run by hand, it is such a server, or the clients of all; without a word it tries both
-//! ends on a few messages, and tells no time.
+//! Measures a server over TCP next to servers that answer and do no work, except that they may keep
+//! what is written. Run by hand, it is such a server, or the clients of all; without a word it
+//! tries both ends on a few messages, and prints no time.
 #![tactic(auto)]
 
 mod bare;

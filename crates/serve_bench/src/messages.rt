@@ -11,7 +11,7 @@ const ROOT: u32 = 0;
 /// The fid of the client's own file, open for reading and writing.
 const OPEN: u32 = 1;
 
-/// A fid that stands on the client's own file.
+/// A fid of the client's own file.
 const FILE: u32 = 2;
 
 /// The fid that a work makes and lets go.
@@ -79,7 +79,7 @@ fn version(alloc: Global) -> Result<TBody<'static>, AllocError> {
     })
 }
 
-/// Ann comes to the run of that number of the state 0.
+/// Ann attaches to the run of that number of the state 0.
 fn attach(alloc: Global, run: u32) -> Result<TBody<'static>, AllocError> {
     Ok(TBody::Attach {
         fid: ROOT,
@@ -97,8 +97,8 @@ fn spell_all(alloc: Global, bodies: Vec<TBody<'_>>) -> io::Result<Vec<Vec<u8>>> 
     Ok(all)
 }
 
-/// What a client sends before a work: it begins a session, comes to a run, and makes a file of its
-/// own, of one block.
+/// What a client sends before a work: it begins a session, attaches to a run, and makes its own
+/// file, of one block.
 pub fn joining(alloc: Global, client: u32, run: u32) -> io::Result<Vec<Vec<u8>>> {
     let name = format!(in alloc; "c{client}")?;
     let mut bodies = Vec::new(alloc);

@@ -8,7 +8,7 @@ use std::alloc::Global;
 use std::io;
 use std::num::nearest_u64_to_f64;
 
-/// What the slowest client is to do at least, in parts of the mean.
+/// What the slowest client must do at least, in parts of the mean.
 const LEAST_OF_MEAN: f64 = 0.333;
 
 /// What part of a whole it is.
@@ -27,7 +27,7 @@ fn best(ours: &Figures, other: &Figures) -> f64 {
     part(ours, other.rates.iter().copied().max().unwrap_or(0))
 }
 
-/// The middle one of the parts that our rounds have of those beside them.
+/// The middle one of the parts that our rounds have of the other's next to them.
 fn middle(alloc: Global, ours: &Figures, other: &Figures) -> io::Result<f64> {
     let mut parts = Vec::new(alloc);
     for (rate, beside) in ours.rates.iter().zip(other.rates.iter()) {

@@ -13,9 +13,9 @@ use std::{io, mem, thread};
 pub struct Side {
     clients: Vec<Client>,
     connections: u32,
-    /// Whether each client has a run of its own.
+    /// Whether each client has a separate run.
     own_runs: bool,
-    /// The number of the next run that nobody came to.
+    /// The number of the next run to which nobody attached yet.
     next_run: u32,
     /// How many works a second all of them did in each round.
     rates: Vec<u64>,
@@ -56,7 +56,7 @@ impl Side {
         })
     }
 
-    /// All clients come to runs that nobody came to yet.
+    /// All clients attach to runs to which nobody attached yet.
     fn join(&mut self, alloc: Global, kind: Kind) -> io::Result<()> {
         for client in self.clients.iter_mut() {
             let place = if self.own_runs { client.number() } else { 0 };

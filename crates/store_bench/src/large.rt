@@ -106,7 +106,7 @@ fn change(alloc: Global, files: &mut Files) -> Option<()> {
     files.put(alloc, FILE, 0, &BLOCK)
 }
 
-/// Reads the largest file, also where it was changed, and resizes one.
+/// Reads the largest file, as it was and after a change, and resizes one.
 pub fn large_files(rt: &(impl Clock + Print + AllocGlobal), timed: bool) -> io::Result<()> {
     let alloc = rt.alloc();
     let bytes = if timed { FILE_BYTES } else { SMALL_BYTES };

@@ -1,4 +1,4 @@
-//! Traces that are read, compared with what `serde_json` alone takes to read the same lines as
+//! Traces that are read, compared with the time in which only `serde_json` reads the same lines as
 //! values.
 
 use cs_bench::{Row, Text, Work, compare};

@@ -117,7 +117,7 @@ fn owners_and_modes_are_those_of_the_state(rt: HostRuntime) {
 
 /// A state past the plan: `no such state`, status 1, and nothing is written.
 #[test]
-fn a_state_past_the_plan_is_told(rt: HostRuntime) {
+fn a_state_past_the_plan_is_reported(rt: HostRuntime) {
     let alloc = rt.alloc();
     let made = tar(alloc, TRACE, &range(&rt, alloc, 1, 2));
     assert!(rt; made.status == 1 && made.out.is_empty());

@@ -4,8 +4,8 @@ use cs_serve::Inputs;
 use std::alloc::Global;
 use std::process::Abort;
 
-/// A log is made and waited for, a record is put into it, a text is told, and another file gets a
-/// byte.
+/// A log is made and waited for, a record is put into it, a text is acknowledged, and another file
+/// gets a byte.
 const TRACE: &str = r#"{"trace":1,"owner":"kv","group":"kv","mode":"750"}
 {"start":"file","path":"/t","owner":"kv","group":"kv","mode":"640","bytes":""}
 {"op":"creat","path":"/log","owner":"kv","group":"kv","mode":"640"}
@@ -19,7 +19,7 @@ const TRACE: &str = r#"{"trace":1,"owner":"kv","group":"kv","mode":"750"}
 /// Each has the entry of the log, which was waited for; the text has the log's record too.
 const LOST: &[u8] = b"[0]\n[0,1]\n[0,2]\n[0,3]\n[0,4]\n[0,1,2,5]\n";
 
-/// Until the second fsync has ended both files may lose their changes, and then `/t` alone.
+/// Until the second fsync has ended both files may lose their changes, and then only `/t`.
 const FILES: &[u8] = b"[0]\n[0,1,2]\n[0,3]\n[0,3,4]\n[0,1,2,5]\n";
 
 /// A file's mode is set before the file is moved and waited for, and that of the root meanwhile.
@@ -32,7 +32,7 @@ const MODES: &str = r#"{"trace":2,"profile":"blocks","owner":"kv","group":"kv","
 {"op":"say","text":"b"}
 "#;
 
-/// Until the fsync has ended the file may lose its mode, also where it was moved; the root's stays.
+/// Until the fsync has ended the file may lose its mode, also if it was moved; the root's stays.
 const MODES_LOST: &[u8] = b"[0]\n[0,2]\n[0,2,3]\n";
 
 /// The lines of a family, and the status.
@@ -65,9 +65,9 @@ fn families_of_a_small_store(rt: HostRuntime) {
     expect_picks(&rt, rt.alloc(), TRACE, Family::Files, FILES);
 }
 
-/// A file's mode is set, the root's too, the file is moved, waited for, and a text is told:
-/// `--files` gives `[0]`, `[0,2]` and `[0,2,3]`, in which the file stands at its new path with its
-/// old mode, and the root has its new one.
+/// A file's mode is set, the root's too, the file is moved, waited for, and a text is acknowledged:
+/// `--files` gives `[0]`, `[0,2]` and `[0,2,3]`, in which the file is at its new path with its old
+/// mode, and the root has its new one.
 #[test]
 fn a_file_may_lose_its_mode(rt: HostRuntime) {
     expect_picks(&rt, rt.alloc(), MODES, Family::Files, MODES_LOST);

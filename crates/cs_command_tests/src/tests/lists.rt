@@ -74,7 +74,7 @@ const GIVEN_AWAY: &str = r#"{"trace":2,"profile":"blocks","owner":"kv","group":"
 {"op":"chmod","path":"/","mode":"700"}
 "#;
 
-/// Of line 3 there is nothing, and a directory's path stands before the line.
+/// Of line 3 there is nothing, and a directory's path comes before the line.
 const GIVEN_AWAY_LISTED: &str = "\
 op 0 create_dir_entry /a file line 2
 op 1 set_attr file 0 600 kv kv line 4 /a
@@ -123,17 +123,17 @@ const NEITHER: ListOptions = ListOptions {
 /// The worked trace, with holes: each operation's line and path, and for each state the first with
 /// an equal tree.
 #[test]
-fn tells_lines_and_first_states(rt: HostRuntime) {
+fn prints_lines_and_first_states(rt: HostRuntime) {
     let (out, status) = listed(rt.alloc(), STORE, Some(LINES_AND_SAME));
     assert_eq!(rt; status, 0);
     assert_eq!(rt; std::str::from_utf8(&out).ok(), Some(LISTED));
 }
 
 /// A chmod that changes nothing, one that does, a rename, a chown, and a chmod of the root: of the
-/// first there is nothing, the others have their lines, and the two of the file the path at which
-/// it then stands.
+/// first there is nothing, the others have their lines, and the two of the file the path that it
+/// then has.
 #[test]
-fn tells_where_a_file_was_whose_rights_are_set(rt: HostRuntime) {
+fn prints_the_path_of_a_file_whose_rights_are_set(rt: HostRuntime) {
     let (out, status) = listed(rt.alloc(), GIVEN_AWAY, Some(LINES));
     assert_eq!(rt; status, 0);
     assert!(rt; out.starts_with(GIVEN_AWAY_LISTED.as_bytes()));
@@ -141,7 +141,7 @@ fn tells_where_a_file_was_whose_rights_are_set(rt: HostRuntime) {
 
 /// With no option it is what `list` prints.
 #[test]
-fn tells_no_more_than_is_asked_for(rt: HostRuntime) {
+fn prints_no_more_than_is_asked_for(rt: HostRuntime) {
     let (out, status) = listed(rt.alloc(), STORE, Some(NEITHER));
     let (plain, _) = listed(rt.alloc(), STORE, None);
     assert_eq!(rt; status, 0);

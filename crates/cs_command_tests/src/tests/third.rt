@@ -105,7 +105,7 @@ fn expect_replies(rt: &(impl Abort + AllocGlobal), trace: &str, script: &str, re
 }
 
 /// State 8 of nine prefixes has `/b` with `hioo`; state 16, which lacks the file that was made, has
-/// the root alone; and a set that keeps a write behind a `say` that it lacks is refused.
+/// only the root; and a set that keeps a write after a `say` that it lacks is refused.
 #[test]
 fn tar_has_the_states_with_the_acknowledged_lines_first(rt: HostRuntime) {
     let alloc = rt.alloc();
@@ -144,8 +144,8 @@ fn tar_has_a_torn_sector(rt: HostRuntime) {
     expect_archive(&rt, &made, 3_072, &parts);
 }
 
-/// State 4 has both paths of the linked file, each as a file of its own with its byte; below its
-/// number where ranges are asked for, state 4 before state 0.
+/// State 4 has both paths of the linked file, each as a separate file with its byte; below its
+/// number if ranges are asked for, state 4 before state 0.
 #[test]
 fn tar_has_each_path_of_a_linked_file(rt: HostRuntime) {
     let alloc = rt.alloc();

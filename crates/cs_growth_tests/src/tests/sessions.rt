@@ -171,7 +171,7 @@ impl Kept {
         let port = &mut self.port;
         match given {
             Given::Attach(message) => match word {
-                Word::Find => Some(self.session.find_step(alloc, port, 7, message)),
+                Word::Find => Some(self.session.find_step(alloc, port, message)),
                 _ => self.answer(alloc, Message::Attach(message)),
             },
             Given::Call(message) => Some(self.session.call_step(alloc, port, 7, message)),

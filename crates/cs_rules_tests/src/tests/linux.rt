@@ -5,7 +5,7 @@ use cs_names::RuleId;
 use cs_wire::{RBody, RMessage};
 use std::borrow::CowStr;
 
-/// Whether the client is told the second text in place of the first.
+/// Whether the client gets the second text instead of the first.
 fn is_told_as(text: &'static str, known: &str) -> bool {
     let body = RBody::Error {
         ename: CowStr::Borrowed(text),
@@ -19,7 +19,7 @@ fn is_told_as(text: &'static str, known: &str) -> bool {
     }
 }
 
-/// A text, and what the client is told in its place.
+/// A text, and the one that the client gets instead.
 struct Told(&'static str, &'static str);
 
 const TOLD: [Told; 7] = [
@@ -32,8 +32,8 @@ const TOLD: [Told; 7] = [
     Told("K8", "Input/output error"),
 ];
 
-/// K8, C9, M5, Q12, `out of memory`, S5 and the text `K8` alone are told as seven texts of Linux's
-/// table.
+/// The client gets K8, C9, M5, Q12, `out of memory`, S5 and the bare text `K8` as seven texts of
+/// Linux's table.
 #[test]
 fn each_text_is_told_as_one_that_linux_knows(rt: HostRuntime) {
     for told in &TOLD {
@@ -49,7 +49,7 @@ fn a_rule_is_found_by_its_whole_text(rt: HostRuntime) {
     assert_eq!(rt; Errno::of(RuleId::O10).text(), "Text file busy");
 }
 
-/// Whether the client is told an Rclunk as it was.
+/// Whether the client gets an Rclunk unchanged.
 fn clunk_stays() -> bool {
     let reply = reply_to_linux(RMessage {
         tag: 9,

@@ -103,7 +103,7 @@ fn moves_a_text_into_a_name_or_gives_it_back(rt: HostRuntime) {
     assert_moved::<Run>(&rt, "A", Some(NameFault::Forbidden));
 }
 
-/// Whether the bytes are a text, which is then just them.
+/// Whether the bytes are a text, which then has exactly them.
 fn is_lent(bytes: &[u8]) -> bool {
     match as_text(bytes) {
         Some(text) => is_text(bytes) && text.as_bytes() == bytes,

@@ -292,7 +292,7 @@ const READS_AND_WRITES: [Asked; 8] = [
     Asked(Request::Write { fid: 3 }, Some(RuleId::E2)),
 ];
 
-/// A mode of an open, whether it is to read, to write and to execute, and whether it covers a read
+/// A mode of an open, whether it asks to read, to write and to execute, and whether it covers a read
 /// and a write.
 struct Mode(u8, [bool; 3], [bool; 2]);
 
@@ -322,7 +322,7 @@ fn reads_and_writes_are_covered_by_the_mode(rt: HostRuntime) {
     }
 }
 
-/// The requests that ask for a fid alone, with the rule that each fails where there is none.
+/// The requests that ask only for a fid, with the rule that each fails if there is none.
 const OTHERS: [Asked; 16] = [
     Asked(Request::Clunk { fid: 1 }, None),
     Asked(Request::Remove { fid: 1 }, None),
@@ -342,7 +342,7 @@ const OTHERS: [Asked; 16] = [
     Asked(Request::Wstat { fid: 9 }, Some(RuleId::Q1)),
 ];
 
-/// Clunk, remove, stat and wstat ask for a fid alone: N1, M1, H1, Q1.
+/// Clunk, remove, stat and wstat ask only for a fid: N1, M1, H1, Q1.
 #[test]
 fn the_other_requests_need_a_fid(rt: HostRuntime) {
     assert_rules(&rt, &small_table(&rt), &OTHERS);

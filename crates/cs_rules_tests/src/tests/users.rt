@@ -146,8 +146,8 @@ fn assert_grant(rt: &impl Abort, users: &Users, grant: &Grant) {
     assert!(rt; has == grant.5, "{:?}", grant.0);
 }
 
-/// bob writes a file of ann and staff with mode 664, and cat only reads it. With 604 bob reads it
-/// by others' bits. none has nothing of its own file with 770.
+/// bob may write a file of ann and staff with mode 664, and cat may only read it. With 604 bob may
+/// read it by others' bits. The user none may not even read its file with 770.
 #[test]
 fn bits_of_owner_and_group_add_to_those_of_others(rt: HostRuntime) {
     let users = small_users(&rt);

@@ -102,7 +102,7 @@ fn changes_nothing_by(alloc: Global, tree: &PlainTree, stat: Stat) -> Option<boo
     changes_nothing(tree, &wstat(alloc, b"none", 4, stat)?)
 }
 
-/// The same of the stat that the tree tells of `/f`.
+/// The same of the stat that the tree has of `/f`.
 fn changes_nothing_sent_back(alloc: Global, tree: &PlainTree) -> Option<bool> {
     let stat = stat_ref(tree, 4)?.to_stat(alloc).ok()?;
     changes_nothing_by(alloc, tree, stat)
@@ -195,7 +195,7 @@ fn some_fields_of_a_stat_cannot_be_changed(rt: HostRuntime) {
 /// A user, a file's number, what the user sends, and the rule that this fails first.
 struct Line(&'static [u8], u64, Fields, Option<RuleId>);
 
-/// The rule of the call that fails first, or nothing for want of memory.
+/// The rule of the call that fails first. None if memory runs out.
 fn first_of(alloc: Global, tree: &PlainTree, users: &Users, line: &Line) -> Option<Option<RuleId>> {
     let call = Call::Wstat(wstat(alloc, line.0, line.1, stat_of(alloc, &line.2)?)?);
     Some(failing_rule(&call, tree, &[], users))

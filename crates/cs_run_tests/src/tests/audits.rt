@@ -75,11 +75,11 @@ const Y: &str = "ann stat\nbob walk";
 
 const Z: &str = "bob stat\nann stat";
 
-/// In the first ann makes a stat (2), then bob (3): its audit by both passes is ok, by ann's alone
+/// In the first ann makes a stat (2), then bob (3): its audit by both passes is ok, by only ann's
 /// it is Count. In the second ann makes a stat and bob walks no names: the audit of the first by
 /// these passes is Changed(3). In the third bob makes his stat first: by these it is Missing(2).
 #[test]
-fn an_audit_tells_the_first_entry_without_its_own_receipt(rt: HostRuntime) {
+fn an_audit_reports_the_first_entry_without_its_own_receipt(rt: HostRuntime) {
     let mut x = after(&rt, X);
     assert!(rt; x.run.audit(x.passes.as_slice()) == Ok(()));
     let y = after(&rt, Y);
@@ -141,7 +141,7 @@ ann close 4";
 /// Stats, a walk, opens, writes, a remove and closes, some denied: by the journal each answer is
 /// the one that was given, and None after the last.
 #[test]
-fn a_journal_tells_each_answer_again(rt: HostRuntime) {
+fn a_journal_gives_each_answer_again(rt: HostRuntime) {
     let users = after(&rt, CALLS);
     let told = told_again(&rt, rt.alloc(), &users.run);
     assert!(rt; told.as_str() == users.told.as_str(), "{told}");
@@ -157,7 +157,7 @@ fn last_receipt(passes: &[Pass], place: usize) -> Option<&Receipt> {
 /// The last receipt of bob's pass in the first run: place 3, granted, and it is for a stat of that
 /// file.
 #[test]
-fn a_receipt_tells_its_entry(rt: HostRuntime) {
+fn a_receipt_has_the_place_of_its_entry(rt: HostRuntime) {
     let users = after(&rt, X);
     let receipt = last_receipt(users.passes.as_slice(), 1).expect(&rt, "a receipt");
     assert!(rt; receipt.place() == 3);

@@ -38,7 +38,7 @@ fn reads(rt: &impl Abort, alloc: Global, side: &Side, place: usize, bytes: &[u8]
 /// Writes fill a block of the journal's to the byte, and begin others: a replay reads their bytes
 /// again (in `blocks.rt`).
 #[test]
-fn bytes_at_the_end_of_a_block_are_told_again(rt: HostRuntime) {
+fn bytes_at_the_end_of_a_block_are_read_again(rt: HostRuntime) {
     let mut side = Side::new(&rt, rt.alloc());
     write_and_read(&rt, rt.alloc(), &mut side);
     assert!(rt; reads(&rt, rt.alloc(), &side, 5, &[1, 2, 2, 2, 3]));

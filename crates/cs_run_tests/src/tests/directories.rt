@@ -26,7 +26,7 @@ fn directory_gives_whole_entries_that_fit(rt: HostRuntime) {
 
 /// After `f` was listed it is removed and `e` made: the listing continues with `n`.
 #[test]
-fn listing_goes_on_behind_a_name_that_is_gone(rt: HostRuntime) {
+fn listing_goes_on_after_a_name_that_is_gone(rt: HostRuntime) {
     run(
         &rt,
         "\

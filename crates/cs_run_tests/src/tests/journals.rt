@@ -139,7 +139,7 @@ const OPENS: &str = "attach\nstat\nopen 0";
 /// too; none with fewer places for closes, with its last two calls the other way round, or with a
 /// write at another offset.
 #[test]
-fn a_pass_fits_where_its_last_receipt_is_the_last_entry(rt: HostRuntime) {
+fn a_pass_fits_if_its_last_receipt_is_the_last_entry(rt: HostRuntime) {
     assert!(rt; !fits(&rt, WRITES_HI, TURNED));
     assert!(rt; !fits(&rt, OPENS, WRITES_HI));
     assert!(rt; !fits(&rt, WRITES_HI, WRITES_BEHIND));

@@ -133,7 +133,7 @@ fn find(
 /// Run `x` of state 0 is A4 before the state is published, and of state 1 after it. It is found 64
 /// times at place 0, and the 65th find is A5; run `y` is found at place 1.
 #[test]
-fn a_run_is_found_64_times_and_only_where_its_state_is_published(rt: HostRuntime) {
+fn a_run_is_found_64_times_and_only_if_its_state_is_published(rt: HostRuntime) {
     let mut states = registry_of(&rt, HEADER);
     assert!(rt; find(rt.alloc(), &mut states, 0, "x") == Err(FindFault::Unpublished));
     assert!(rt; publish(rt.alloc(), &mut states, 0).is_ok());

@@ -73,7 +73,7 @@ fn expect_audit<R: thread::Threads + Wait + Sync + Abort>(
 }
 
 /// The same streams: the audit of `0/x` by the passes of all connections is ok. By those of the
-/// first two, where the second gave none, it is Count, and so by none.
+/// first two, of which the second gave none, it is Count, and so by none.
 #[test]
 fn a_run_is_audited_by_what_its_connections_gave_back(rt: HostRuntime) {
     expect_audit(&rt, rt.alloc(), 3, Ok(()));

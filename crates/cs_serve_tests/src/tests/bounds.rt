@@ -100,7 +100,7 @@ fn taken_by(alloc: Global, most: usize, interruptions: u32, writes: u32) -> Narr
 /// More writes than there are.
 const ENOUGH: u32 = 1_000;
 
-/// What a command told on standard error.
+/// Whether standard error has this fault; nothing if the status is 0.
 fn is_told(err: &[u8], status: u8, fault: &str) -> bool {
     match status {
         0 => err.is_empty() && fault.is_empty(),
@@ -208,7 +208,7 @@ fn front_of(bytes: &[u8], most: u32) -> &[u8] {
     front
 }
 
-/// The fault where these bytes are printed to an output that takes so many.
+/// The fault if these bytes are printed to an output that takes so many.
 fn fault_of(printed: &[u8], taken: u32) -> &'static str {
     if printed.len() <= taken as usize {
         ""
@@ -230,8 +230,8 @@ fn expect_list_front(rt: &(impl Abort + AllocGlobal), writes: u32) {
     expect_list(rt, out, fault_of(LIST, writes), front_of(LIST, writes));
 }
 
-/// A writer that fails behind each byte of a script's output, and of a list: what it took is the
-/// front of what would have been printed.
+/// A writer that fails after each byte of a script's output, and of a list: what it took is the
+/// beginning of what would have been printed.
 #[test]
 fn what_was_written_before_a_fault_is_the_front(rt: HostRuntime) {
     for writes in 0..=REPLIES.len() as u32 {

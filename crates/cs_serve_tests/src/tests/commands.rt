@@ -16,14 +16,14 @@ pub fn inputs_of<'a>(users: &'a [u8], trace: &'a [u8]) -> Inputs<'a> {
     }
 }
 
-/// A status, what was printed, and, after a line of `--`, what was told on standard error.
+/// A status, what was printed, and, after a line of `--`, what standard error has.
 pub fn outcome(rt: &impl Abort, alloc: Global, status: u8, out: &[u8], err: &[u8]) -> String {
     let out = std::str::from_utf8(out).expect(rt, "a value");
     let err = std::str::from_utf8(err).expect(rt, "a value");
     format!(in alloc; "status {status}\n{out}--\n{err}").expect(rt, "memory")
 }
 
-/// What `script` comes to.
+/// The outcome of `script`.
 pub fn scripted<R: Read>(rt: &impl Abort, alloc: Global, inputs: &Inputs, input: &mut R) -> String {
     let mut out: Vec<u8> = Vec::new(alloc);
     let mut err: Vec<u8> = Vec::new(alloc);
@@ -31,7 +31,7 @@ pub fn scripted<R: Read>(rt: &impl Abort, alloc: Global, inputs: &Inputs, input:
     outcome(rt, alloc, status, &out, &err)
 }
 
-/// What `list` comes to.
+/// The outcome of `list`.
 pub fn listed(rt: &impl Abort, alloc: Global, inputs: &Inputs) -> String {
     let mut out: Vec<u8> = Vec::new(alloc);
     let mut err: Vec<u8> = Vec::new(alloc);
@@ -39,19 +39,19 @@ pub fn listed(rt: &impl Abort, alloc: Global, inputs: &Inputs) -> String {
     outcome(rt, alloc, status, &out, &err)
 }
 
-/// Looks for the status 0, and for what is printed and told.
+/// Expects the status 0, and these texts on standard output and standard error.
 pub fn expect_printed(rt: &(impl Abort + AllocGlobal), outcome: String, out: &str, err: &str) {
     let wanted = format!(in rt.alloc(); "status 0\n{out}--\n{err}").expect(rt, "memory");
     assert!(rt; outcome.as_str() == wanted.as_str(), "{outcome}");
 }
 
-/// Looks for a fault, which is told in one line, for no output, and for the status 1.
+/// Expects a fault, which one line reports, no output, and the status 1.
 pub fn expect_fault(rt: &(impl Abort + AllocGlobal), outcome: String, fault: &str) {
     let wanted = format!(in rt.alloc(); "status 1\n--\ncrashfs: {fault}\n").expect(rt, "memory");
     assert!(rt; outcome.as_str() == wanted.as_str(), "{outcome}");
 }
 
-/// What is given, and the fault that is told of it.
+/// What is given, and the fault that is reported of it.
 pub struct Faulty(pub &'static str, pub &'static str);
 
 /// A header, and these two texts.
@@ -69,8 +69,8 @@ impl Read for BrokenInput {
     }
 }
 
-/// A writer that takes some bytes, and whose writes fail from then on; its flushes too, where it
-/// doesn't flush.
+/// A writer that takes `left` bytes, and whose writes fail from then on. Its flushes fail unless
+/// `flushes`.
 #[derive(Drop)]
 pub struct BrokenOutput {
     pub left: usize,

@@ -74,7 +74,7 @@ fn exclusive_file_is_open_once(rt: HostRuntime) {
 }
 
 /// ann opens `/f` with 0x41; cat takes w on the root away. ann's open with 0x40 on another
-/// connection is O9, and when the first hangs up `/f` is gone all the same.
+/// connection is O9, and when the first hangs up `/f` is still removed.
 #[test]
 fn hang_up_removes_on_close_without_asking_again(rt: HostRuntime) {
     expect(
@@ -94,8 +94,8 @@ fn hang_up_removes_on_close_without_asking_again(rt: HostRuntime) {
     );
 }
 
-/// ann reads the root: 60 bytes are G5, 61 give `d`, 62 as offset is G4, 61 give `f`, 121 give `n`
-/// alone, and so on to an empty read at 245. From 0 it begins again.
+/// ann reads the root: 60 bytes are G5, 61 give `d`, 62 as offset is G4, 61 give `f`, 121 give
+/// only `n`, and so on to an empty read at 245. From 0 it begins again.
 #[test]
 fn directory_gives_whole_entries_that_fit(rt: HostRuntime) {
     expect(

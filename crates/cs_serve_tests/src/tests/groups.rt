@@ -1,5 +1,5 @@
-//! Two groups of connections: what the first is told doesn't hang on the second, unless they find a
-//! run in common.
+//! Two groups of connections: the replies to the first don't depend on the second, unless they find
+//! a run in common.
 use crate::tests::fixture::{TRACE, push_answer, world_over};
 use cs_world::World;
 use std::alloc::Global;
@@ -91,7 +91,7 @@ fn take_turns(
     }
 }
 
-/// What the connections 0 and 1 are told, a line each time, where these do all lines, in turn.
+/// The replies to the connections 0 and 1, a line each, if these clients do all lines, in turn.
 fn told(rt: &(impl Abort + AllocGlobal), clients: &[Client]) -> String {
     let mut world = world_over(rt, rt.alloc(), TRACE);
     let mut told = String::new(rt.alloc());
@@ -125,15 +125,15 @@ const AMONG: [Client; 4] = [
 /// same in `0/y`, each before one of them: all 72 replies to the first two are the same as without
 /// the others.
 #[test]
-fn a_group_is_told_the_same_without_the_other(rt: HostRuntime) {
+fn a_group_gets_the_same_replies_without_the_other(rt: HostRuntime) {
     let alone = told(&rt, &ALONE);
     assert!(rt; told(&rt, &BESIDE).as_str() == alone.as_str());
 }
 
-/// Where the others do it in `0/x`, some of the 72 are different: the file that ann creates is
-/// there already.
+/// If the others do it in `0/x`, some of the 72 are different: the file that ann creates is there
+/// already.
 #[test]
-fn a_group_is_told_of_what_others_do_in_its_run(rt: HostRuntime) {
+fn a_group_sees_what_others_do_in_its_run(rt: HostRuntime) {
     let alone = told(&rt, &ALONE);
     assert!(rt; told(&rt, &AMONG).as_str() != alone.as_str());
 }

@@ -33,7 +33,7 @@ state 10 hole 1 4 says 0
 state 11 hole 2 4 says 0
 ";
 
-/// What it prints behind that with the picks `[3]` and `[]`.
+/// What it prints after that with the picks `[3]` and `[]`.
 const PICKS_LIST: &str = "\
 state 12 pick 3 says 0
 state 13 pick - says 0
@@ -64,7 +64,7 @@ state 3 prefix 3 says 0
 state 4 prefix 4 says 1
 ";
 
-/// What it prints behind that with holes.
+/// What it prints after that with holes.
 const HOLES_LIST: &str = "\
 state 5 hole 0 4 says 1
 state 6 hole 1 4 says 1
@@ -131,7 +131,7 @@ pub fn renamed(rt: &(impl Abort + AllocGlobal)) -> String {
     trace
 }
 
-/// A header alone: one state. A file of 5,000 bytes is made, waited for and renamed, with holes:
+/// Only a header: one state. A file of 5,000 bytes is made, waited for and renamed, with holes:
 /// five micro-operations and twelve states; with the picks `[3]` and `[]` fourteen.
 #[test]
 fn lists_the_states_of_a_file_that_is_renamed(rt: HostRuntime) {
@@ -145,7 +145,7 @@ fn lists_the_states_of_a_file_that_is_renamed(rt: HostRuntime) {
 /// A file that is moved twice, and a text: three holes, since the text needs none of them. With a
 /// sync before the text there is none.
 #[test]
-fn lists_a_hole_only_where_its_last_place_stays(rt: HostRuntime) {
+fn lists_a_hole_only_if_its_last_place_stays(rt: HostRuntime) {
     let trace = trace_of(&rt, rt.alloc(), MOVED_TWICE, SAY);
     expect_listed(&rt, trace.as_str(), "", [MOVED_LIST, HOLES_LIST]);
     let synced = format!(in rt.alloc(); "{HEADER}{MOVED_TWICE}{SYNC}{SAY}").expect(&rt, "memory");
@@ -158,9 +158,9 @@ fn expect_refused(rt: &(impl Abort + AllocGlobal), trace: &str, picks: &str, fau
 }
 
 /// The picks `[4]` and `[3,3]` aren't allowed; `[1,]` and a line of a blank are Syntax; 1,025 texts
-/// are too many micro-operations; a fault of the trace is told before one of the picks.
+/// are too many micro-operations; a fault of the trace is reported before one of the picks.
 #[test]
-fn tells_each_fault_of_a_plan(rt: HostRuntime) {
+fn reports_each_fault_of_a_plan(rt: HostRuntime) {
     let trace = renamed(&rt);
     expect_refused(&rt, trace.as_str(), "[4]", "pick 0 not allowed");
     expect_refused(&rt, trace.as_str(), "[3]\n[3,3]", "pick 1 not allowed");
@@ -204,7 +204,7 @@ fn expect_broken(rt: &(impl Abort + AllocGlobal), left: usize, flushes: bool) {
 
 /// A writer that fails at once, after ten bytes, or when it is flushed: `output failed`, status 1.
 #[test]
-fn tells_an_output_that_fails(rt: HostRuntime) {
+fn reports_an_output_that_fails(rt: HostRuntime) {
     expect_broken(&rt, 0, true);
     expect_broken(&rt, 10, true);
     expect_broken(&rt, 1_000, false);

@@ -30,7 +30,7 @@ fn find(alloc: Global, port: &mut impl Port, state: &str, run: &str) -> Result<u
 /// A run of state 1, which isn't published, is Unpublished (A4), before and after run `x` of state
 /// 0 was found 64 times; the 65th find of `x` is Full (A5), and `y` is found then.
 #[test]
-fn a_port_tells_why_a_run_is_not_found(rt: HostRuntime) {
+fn a_port_reports_why_a_run_is_not_found(rt: HostRuntime) {
     let alloc = rt.alloc();
     let server = server_of(&rt, alloc);
     let mut port = SharedPort::new(&rt, alloc, server.registry());

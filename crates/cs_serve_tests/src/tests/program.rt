@@ -49,7 +49,7 @@ const SPOKEN_TEXT: &str = r#"0 <- Tversion tag 65535 msize 8192 version "9P2000"
 /// A version and an unknown type with `verbose`: both messages and their replies as text on
 /// standard error, and nothing for a hang-up.
 #[test]
-fn tells_each_message_as_text(rt: HostRuntime) {
+fn prints_each_message_as_text(rt: HostRuntime) {
     let inputs = Inputs {
         verbose: true,
         ..inputs_of(USERS, TRACE.as_bytes())
@@ -95,7 +95,7 @@ const OPERATION_FAULTS: [Faulty; 8] = [
 /// there, of a file, and of a directory with an entry, an `unlink` of a directory, a length of
 /// 16,777,217: each fault with its line.
 #[test]
-fn tells_each_fault_of_an_operation(rt: HostRuntime) {
+fn reports_each_fault_of_an_operation(rt: HostRuntime) {
     for faulty in &OPERATION_FAULTS {
         expect_trace_fault(&rt, USERS, MADE, faulty);
     }
@@ -122,11 +122,11 @@ fn expect_users_fault(rt: &(impl Abort + AllocGlobal), users: &[u8], fault: &str
     );
 }
 
-/// `1:ann::` twice, three fields, an empty name, a name of 65 bytes behind skipped lines, a NUL, no
+/// `1:ann::` twice, three fields, an empty name, a name of 65 bytes after skipped lines, a NUL, no
 /// UTF-8: each is one line on standard error with its line number, nothing on standard output, and
 /// status 1.
 #[test]
-fn tells_each_fault_of_the_users(rt: HostRuntime) {
+fn reports_each_fault_of_the_users(rt: HostRuntime) {
     for faulty in &USERS_FAULTS {
         expect_users_fault(&rt, faulty.0.as_bytes(), faulty.1);
     }
@@ -161,11 +161,11 @@ const START_FAULTS: [Faulty; 5] = [
     ),
 ];
 
-/// BadName, UnknownOp, NoParent, Exists and NotDir of start lines, behind a line of blanks that
-/// counts; an operation; an empty trace; one that is no UTF-8. The trace is told before the users
-/// file.
+/// BadName, UnknownOp, NoParent, Exists and NotDir of start lines, after a line of blanks that
+/// counts; an operation; an empty trace; one that is no UTF-8. A fault of the trace is reported
+/// before one of the users file.
 #[test]
-fn tells_each_fault_of_the_trace(rt: HostRuntime) {
+fn reports_each_fault_of_the_trace(rt: HostRuntime) {
     for faulty in &START_FAULTS {
         expect_trace_fault(&rt, b"1:ann:", " \t\r\n", faulty);
     }
@@ -223,7 +223,7 @@ fn expect_long_fault(
 /// bits, 6 bytes, an odd digit, line 65,537, a message of 65,537 bytes. None of the lines before is
 /// run.
 #[test]
-fn tells_each_fault_of_the_script(rt: HostRuntime) {
+fn reports_each_fault_of_the_script(rt: HostRuntime) {
     for faulty in &SCRIPT_FAULTS {
         expect_script_fault(&rt, faulty.0, faulty.1);
     }
@@ -248,7 +248,7 @@ fn expect_broken(rt: &(impl Abort + AllocGlobal), left: usize) {
 /// A reader that fails is `input failed`. A writer that fails at once, in a line or after one is
 /// `output failed`.
 #[test]
-fn tells_an_input_or_an_output_that_fails(rt: HostRuntime) {
+fn reports_an_input_or_an_output_that_fails(rt: HostRuntime) {
     let inputs = inputs_of(USERS, TRACE.as_bytes());
     let broken = scripted(&rt, rt.alloc(), &inputs, &mut BrokenInput);
     expect_fault(&rt, broken, "input failed");
@@ -257,7 +257,7 @@ fn tells_an_input_or_an_output_that_fails(rt: HostRuntime) {
     expect_broken(&rt, 12);
 }
 
-/// A trace and picks, with a users file at fault, and the fault that is told.
+/// A trace and picks, with a users file at fault, and the fault that is reported.
 struct Files(&'static str, &'static str, &'static str);
 
 const FILES: [Files; 4] = [
@@ -279,10 +279,10 @@ fn expect_first_fault(rt: &(impl Abort + AllocGlobal), files: &Files) {
     );
 }
 
-/// Faults of all three files: that of the trace is told, then that of the picks, then that of the
-/// users.
+/// Faults of all three files: that of the trace is reported first, then that of the picks, then
+/// that of the users.
 #[test]
-fn tells_of_the_trace_and_then_the_picks_and_then_the_users(rt: HostRuntime) {
+fn reports_the_trace_and_then_the_picks_and_then_the_users(rt: HostRuntime) {
     for files in &FILES {
         expect_first_fault(&rt, files);
     }

@@ -1,4 +1,4 @@
-//! Users files that a script takes: runs that stand keep their users, and later ones have the new.
+//! Users files that a script takes: runs that exist keep their users, and later ones have the new.
 use crate::tests::commands::{Faulty, expect_fault, expect_printed, inputs_of, outcome, scripted};
 use crate::tests::fixture::{HEADER, TRACE, USERS};
 use cs_serve::{Inputs, script_of};
@@ -104,7 +104,7 @@ fn runs_keep_their_users_and_later_ones_have_the_new(rt: HostRuntime) {
     expect(&rt, RELOADED);
 }
 
-/// The first list stands after each that is refused, and `reload` takes digits of either case.
+/// The first list stays after each that is refused, and `reload` takes digits of either case.
 const REFUSED: &str = r#"reload FF => reload refused: users: NotText
 reload 00 => reload refused: users: NotText
 reload 0A0a313A3a3a => reload refused: users line 3: EmptyName
@@ -116,8 +116,8 @@ reload 0a => reloaded
 0 attach 2 bob 0/y => 0 Rerror tag 1 ename "A6 unknown user"
 "#;
 
-/// Users files that are refused: no UTF-8, a NUL, an empty name behind skipped lines, a name twice.
-/// bob attaches `0/x` after them. A `reload` with an empty line alone is taken: bob's attach to
+/// Users files that are refused: no UTF-8, a NUL, an empty name after skipped lines, a name twice.
+/// bob attaches to `0/x` after them. A `reload` with only an empty line is taken: bob's attach to
 /// `0/x` is granted, and to `0/y` A6.
 #[test]
 fn a_list_that_is_refused_leaves_the_one_before(rt: HostRuntime) {
@@ -143,7 +143,7 @@ fn expect_script_fault(rt: &(impl Abort + AllocGlobal), faulty: &Faulty) {
 /// Lines that are no `reload`: without a byte, half a byte, two blanks, a word more, on a
 /// connection, with a capital. None of the lines before is run.
 #[test]
-fn tells_each_fault_of_a_reload(rt: HostRuntime) {
+fn reports_each_fault_of_a_reload(rt: HostRuntime) {
     for faulty in &SCRIPT_FAULTS {
         expect_script_fault(&rt, faulty);
     }
@@ -151,7 +151,7 @@ fn tells_each_fault_of_a_reload(rt: HostRuntime) {
 
 /// With `verbose` a `reload` that is taken and one that is refused: nothing on standard error.
 #[test]
-fn a_reload_is_told_on_standard_output_alone(rt: HostRuntime) {
+fn a_reload_is_reported_only_on_standard_output(rt: HostRuntime) {
     let inputs = Inputs {
         verbose: true,
         ..inputs_of(USERS, HEADER.as_bytes())

@@ -21,7 +21,7 @@ const TRACE: &str = r#"{"trace":1,"owner":"cat","group":"staff","mode":"775"}
 
 const USERS: &[u8] = b"1:ann::\n2:bob::\n3:cat::\n4:staff:ann:ann,bob\n";
 
-/// How often a stream looks for what another is to do.
+/// How often a stream looks for what another must do.
 const TURNS: u32 = 10_000_000;
 
 pub const VERSION: &[u8] = b"\x13\0\0\0d\xff\xff\0 \0\0\x06\09P2000";
@@ -60,7 +60,7 @@ impl Clock for Standing {
     }
 }
 
-/// Whether a count comes to at least so much.
+/// Whether a count reaches at least so much.
 pub fn come(count: &AtomicU32, least: u32) -> bool {
     for _ in 0..TURNS {
         if count.load(Ordering::SeqCst) >= least {
@@ -205,7 +205,7 @@ const BOB: [&[u8]; 4] = [VERSION, BOB_TO_X, STAT, STAT];
 /// A version, and a size that no message has.
 const NOBODY: [&[u8]; 2] = [VERSION, b"\x05\0\0\0"];
 
-/// What serving three streams comes to, of which two wait for one another.
+/// The result of serving three streams, of which two wait for one another.
 pub fn served_at_once<R: thread::Threads + Wait + Sync + Abort>(
     rt: &R,
     alloc: Global,
@@ -238,7 +238,7 @@ Ok(()) 0/x 3
 /// five entries. A stream between them sends a size of 5: it is reported in its place, as
 /// Undersize.
 #[test]
-fn streams_are_served_at_once_and_told_in_their_order(rt: HostRuntime) {
+fn streams_are_served_at_once_and_reported_in_their_order(rt: HostRuntime) {
     let server = server_of(&rt, rt.alloc());
     let connections = served_at_once(&rt, rt.alloc(), &server);
     let told = told_of(&rt, rt.alloc(), &connections);
@@ -334,7 +334,7 @@ fn a_write_has_the_moment_of_its_message(rt: HostRuntime) {
     expect_last(&rt, alloc, &server, &ANN_WRITES_AND_LOOKS, WRITTEN_AT_720);
 }
 
-/// What comes of a stream without a thread: want of memory, and no pass.
+/// The result of a stream without a thread is out of memory, and it gives no pass.
 #[test]
 fn a_stream_without_a_thread_is_not_served(rt: HostRuntime) {
     let unserved: Connection<AnyScene> = Connection::unserved(rt.alloc());

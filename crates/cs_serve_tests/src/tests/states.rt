@@ -62,7 +62,7 @@ fn what_is_written_in_a_run_is_read_in_that_run_alone(rt: HostRuntime) {
     );
 }
 
-/// zed's attach to `0/y` is A6, and its run stands.
+/// zed's attach to `0/y` is A6, and its run stays.
 #[test]
 fn refused_attach_leaves_its_run(rt: HostRuntime) {
     let mut world = world_over(&rt, rt.alloc(), TRACE);

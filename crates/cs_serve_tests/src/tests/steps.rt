@@ -182,7 +182,7 @@ attach 0 7
 walk 0
 ";
 
-/// Among steps a list of dan alone is loaded, then dan attaches to `0/x` and walks: both calls are
+/// Among steps a list of only dan is loaded, then dan attaches to `0/x` and walks: both calls are
 /// of the projection on `0/x`, though the world's own list doesn't know dan.
 #[test]
 fn projection_takes_the_list_at_the_time_of_the_find(rt: HostRuntime) {
@@ -192,7 +192,7 @@ fn projection_takes_the_list_at_the_time_of_the_find(rt: HostRuntime) {
     assert!(rt; calls.lines().count() == 2);
 }
 
-/// With users ann and bob, bob attaches to `0/x`: granted; dan: A6. A list of dan alone is loaded.
+/// With users ann and bob, bob attaches to `0/x`: granted; dan: A6. A list of only dan is loaded.
 /// To `0/x`, dan: A6; bob: granted. To `0/y`, dan: granted; bob: A6.
 #[test]
 fn a_run_keeps_the_users_it_was_made_with(rt: HostRuntime) {
@@ -296,7 +296,7 @@ fn expect_attached(rt: &(impl Abort + AllocGlobal), world: &mut World, fid: u32)
     expect_in(rt, world, lines.expect(rt, "memory").as_str());
 }
 
-/// The 65th attach to `0/x` is A5. An attach to `0/y` by zed is A6, and that run stands.
+/// The 65th attach to `0/x` is A5. An attach to `0/y` by zed is A6, and that run stays.
 #[test]
 fn a_run_is_attached_to_64_times(rt: HostRuntime) {
     let mut world = new_world(&rt);

@@ -2,7 +2,7 @@
 use cs_wire::{RBody, RMessage};
 use std::process::Abort;
 
-/// The bytes of the next entry of a directory, and those behind it.
+/// The bytes of the next entry of a directory, and those after it.
 fn next_entry(entries: &[u8]) -> Option<(&[u8], &[u8])> {
     let size = u16::from_le_bytes([*entries.get(0)?, *entries.get(1)?]);
     let end = usize::from(size).saturating_add(2);
@@ -36,8 +36,8 @@ fn push_bytes(rt: &impl Abort, text: &mut String, data: &[u8]) {
     write!(text, "Rread '{data}'").expect(rt, "memory");
 }
 
-/// Adds the reply to a message in words. That to a `read` is told with its bytes, and that to a
-/// `list` with the names of the entries.
+/// Adds the reply to a message in words: to a `read` with its bytes, and to a `list` with the names
+/// of the entries.
 pub fn push_reply(rt: &impl Abort, text: &mut String, asked: &str, reply: &RMessage) {
     match &reply.body {
         RBody::Read { data } if asked.starts_with("read") => push_bytes(rt, text, data),

@@ -1,4 +1,4 @@
-//! Walks, and files that move or go while a fid stands on them.
+//! Walks, and files that are moved or removed while a fid refers to them.
 use crate::tests::fixture::expect;
 
 /// From the root, `q` and `.` as first names are K8. By `d`, `q` there is one qid, and by `f`, `..`
@@ -36,8 +36,8 @@ fn stops_at_missing_search_right(rt: HostRuntime) {
     );
 }
 
-/// `..` at the root is the root. By `d`, `s`, `z` one comes to number 3, and by no names newfid is
-/// that file too. K1 for an unknown fid, K3 for a newfid that is in use or NOFID; newfid may be
+/// `..` at the root is the root. By `d`, `s`, `z` a walk reaches number 3, and by no names newfid
+/// is that file too. K1 for an unknown fid, K3 for a newfid that is in use or NOFID; newfid may be
 /// fid.
 #[test]
 fn goes_up_from_the_root_and_clones_by_no_names(rt: HostRuntime) {

@@ -125,11 +125,11 @@ fn after<R: Wait + Abort>(
 }
 
 /// To `x`, `y` and `z` ann is attached (entry 0), and then bob (1). In `x` ann makes a stat of the
-/// root (2), then bob (3): its audit by both passes is ok, by ann's alone Count. By those of `y`,
-/// where bob walks no names (3), it is Changed(3); by those of `z`, where bob makes his stat first,
-/// Missing(2).
+/// root (2), then bob (3): its audit by both passes is ok, by only ann's Count. By those of `y`, in
+/// which bob walks no names (3), it is Changed(3); by those of `z`, in which bob makes his stat
+/// first, Missing(2).
 #[test]
-fn an_audit_of_a_shared_run_tells_the_first_entry_without_its_own_receipt(rt: HostRuntime) {
+fn an_audit_of_a_shared_run_reports_the_first_entry_without_its_own_receipt(rt: HostRuntime) {
     let alloc = rt.alloc();
     let registry = published(&rt, alloc);
     let mut x = after(&rt, alloc, &registry, "x", "ann stat\nbob stat");

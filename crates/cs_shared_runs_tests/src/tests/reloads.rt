@@ -22,7 +22,12 @@ fn is_known<R: Wait + Abort>(
     user: &str,
 ) -> bool {
     let run = find(rt, alloc, registry, name);
-    match run.attach(rt, alloc, 1, Text::copy_of(alloc, user).expect(rt, "memory")) {
+    match run.attach(
+        rt,
+        alloc,
+        1,
+        Text::copy_of(alloc, user).expect(rt, "memory"),
+    ) {
         Ok((_, Answer::Attached(_))) => true,
         Ok((_, Answer::Denied(RuleId::A6))) => false,
         _ => panic!(rt; "another answer"),

@@ -104,7 +104,7 @@ fn push_runs(rt: &impl Abort, text: &mut String, runs: &[SharedRun<AnyScene>]) {
 
 /// The runs are listed as `a` and `b`, though `b` was found first.
 #[test]
-fn runs_are_told_by_their_names(rt: HostRuntime) {
+fn runs_are_listed_by_their_names(rt: HostRuntime) {
     let alloc = rt.alloc();
     let registry = published(&rt, alloc);
     let _run = find(&rt, alloc, &registry, "b");
@@ -126,7 +126,7 @@ fn push_entries<R: Wait + Abort>(rt: &R, text: &mut String, runs: &[SharedRun<An
 /// ann attaches, opens `/f` and writes in `0/a`; bob attaches to `0/b`. By the handles that the
 /// registry lists, the first has three entries, and the second one.
 #[test]
-fn each_run_is_told_by_its_own_handle(rt: HostRuntime) {
+fn each_run_is_listed_with_its_own_handle(rt: HostRuntime) {
     let alloc = rt.alloc();
     let registry = published(&rt, alloc);
     let a = find(&rt, alloc, &registry, "a");

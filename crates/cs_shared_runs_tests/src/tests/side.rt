@@ -57,7 +57,12 @@ pub fn attach<R: Wait + Abort>(
     run: &SharedRun<AnyScene>,
     user: &str,
 ) -> Pass {
-    match run.attach(rt, alloc, 1, Text::copy_of(alloc, user).expect(rt, "memory")) {
+    match run.attach(
+        rt,
+        alloc,
+        1,
+        Text::copy_of(alloc, user).expect(rt, "memory"),
+    ) {
         Ok((pass, Answer::Attached(_))) => pass,
         _ => panic!(rt; "another answer"),
     }

@@ -128,7 +128,7 @@ state 9 pick 0,3 says 1
 /// A file is made and moved twice, and a line is acknowledged: states 5 to 7 are the holes that end
 /// with the line, and no other hole is listed. States that have the line say 1.
 #[test]
-fn a_hole_is_listed_where_its_last_place_stays(rt: HostRuntime) {
+fn a_hole_is_listed_if_its_last_place_stays(rt: HostRuntime) {
     let scene = scene_of(&rt, rt.alloc(), &TWO_MOVES, true, &[&[], &[0, 3]]);
     is_listed(&rt, rt.alloc(), &scene, THREE_HOLES);
     assert!(rt; scene.says(4) == Some(1));
@@ -153,8 +153,8 @@ fn what_a_sync_waits_for_has_no_hole(rt: HostRuntime) {
     assert!(rt; scene.plan().len() == 5);
 }
 
-/// A header alone has the list `state 0 prefix 0 says 0`, and a state 0 without a file; there is no
-/// state 1.
+/// A trace of only a header has the list `state 0 prefix 0 says 0`, and a state 0 without a file;
+/// there is no state 1.
 #[test]
 fn a_trace_without_operations_has_one_state(rt: HostRuntime) {
     let scene = scene_of(&rt, rt.alloc(), &[HEADER], true, &[]);
@@ -205,10 +205,9 @@ fn is_fault(rt: &impl Abort, alloc: Global, trace: Trace, wanted: SceneFault) {
     assert!(rt; Scene::of(alloc, trace, true, picks).err() == Some(wanted));
 }
 
-/// A plan that is too large is reported before a pick that isn't allowed; and too many micro-operations
-/// before both.
+/// A plan that is too large is reported before a pick that isn't allowed.
 #[test]
-fn a_plan_that_is_too_large_is_told_before_a_pick(rt: HostRuntime) {
+fn a_plan_that_is_too_large_is_reported_before_a_pick(rt: HostRuntime) {
     let alloc = rt.alloc();
     let fits = creats(&rt, alloc, 180);
     is_fault(&rt, alloc, fits, SceneFault::PickNotAllowed(1));
@@ -216,8 +215,8 @@ fn a_plan_that_is_too_large_is_told_before_a_pick(rt: HostRuntime) {
     is_fault(&rt, alloc, too_large, SceneFault::PlanTooLarge);
 }
 
-/// A plan that is too large is reported before a pick that isn't allowed; and too many micro-operations
-/// before both.
+/// Too many micro-operations are reported before a plan that is too large and a pick that isn't
+/// allowed.
 #[test]
 fn more_than_1024_micro_operations_make_no_scene(rt: HostRuntime) {
     let trace = creats(&rt, rt.alloc(), 1_025);
@@ -228,7 +227,7 @@ const CREAT_T: &str = r#"{"op":"creat","path":"/t","owner":"ann","group":"staff"
 
 /// The faults in words.
 #[test]
-fn faults_are_told_as_the_program_tells_them(rt: HostRuntime) {
+fn faults_are_printed_as_the_program_prints_them(rt: HostRuntime) {
     let alloc = rt.alloc();
     is_printed(&rt, alloc, SceneFault::TooMany, "too many micro-operations");
     is_printed(&rt, alloc, SceneFault::PlanTooLarge, "plan too large");

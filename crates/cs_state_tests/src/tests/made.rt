@@ -82,8 +82,8 @@ fn is_missing(rt: &impl Abort, alloc: Global, scene: &Arc<Scene>, number: u32) {
     assert!(rt; fault == Some(MakeFault::NoSuchState));
 }
 
-/// A header alone has the list `state 0 prefix 0 says 0`, and a state 0 without a file; there is no
-/// state 1.
+/// A trace of only a header has the list `state 0 prefix 0 says 0`, and a state 0 without a file;
+/// there is no state 1.
 #[test]
 fn a_state_is_one_of_the_plan(rt: HostRuntime) {
     let alloc = rt.alloc();
@@ -135,7 +135,7 @@ const PLACES: [Place; 6] = [
 ];
 
 /// The file is the only one but the root.
-fn stands_alone(rt: &impl Abort, alloc: Global, scene: &Arc<Scene>, place: &Place) {
+fn is_the_only_file(rt: &impl Abort, alloc: Global, scene: &Arc<Scene>, place: &Place) {
     let state = made(rt, alloc, scene, place.number);
     assert!(rt; number_at(rt, alloc, state.store(), place.path) == Some(1));
     assert!(rt; state.store().count() == 2);
@@ -147,7 +147,7 @@ fn a_hole_leaves_a_file_where_it_was_moved_from(rt: HostRuntime) {
     let alloc = rt.alloc();
     let scene = shared(&rt, alloc, scene_of(&rt, alloc, &TWO_MOVES, true, &[]));
     for place in &PLACES {
-        stands_alone(&rt, alloc, &scene, place);
+        is_the_only_file(&rt, alloc, &scene, place);
     }
     has_files(&rt, alloc, &scene, 5, 1);
 }
@@ -235,7 +235,7 @@ fn is_no_pick(rt: &impl Abort, alloc: Global, place: u32) {
     assert!(rt; fault == Some(SceneFault::PickNotAllowed(0)));
 }
 
-/// The bytes of `/f` in a state where it is 4,097 bytes long: `hello`, zeros, and these.
+/// The bytes of `/f` in a state in which it is 4,097 bytes long: `hello`, zeros, and these.
 fn has_grown(rt: &impl Abort, alloc: Global, scene: &Arc<Scene>, number: u32, last: &[u8; 2]) {
     let wanted = grown_before(rt, alloc, 4_095, last);
     has_bytes(rt, alloc, scene, number, "/f", &wanted);

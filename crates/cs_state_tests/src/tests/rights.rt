@@ -228,7 +228,7 @@ const STORE: &str =
 
 /// The client has its acknowledged line, and the readers may not read: the last hole.
 #[test]
-fn a_table_may_be_told_of_before_its_readers_may_read_it(rt: HostRuntime) {
+fn a_table_may_be_acknowledged_before_its_readers_may_read_it(rt: HostRuntime) {
     let alloc = rt.alloc();
     let scene = scene_of(&rt, alloc, &[BLOCKS, STORE], true, &[]);
     assert!(rt; scene.plan().len() == 21);

@@ -160,7 +160,7 @@ const ALL_EQUAL: [u32; 37] = [0; 37];
 
 /// A zero is written into each of eight blocks of zeros: all 37 states have the first one's tree.
 #[test]
-fn writes_of_what_stands_there_leave_equal_states(rt: HostRuntime) {
+fn writes_of_the_bytes_that_are_there_leave_equal_states(rt: HostRuntime) {
     let text = idle_text(&rt, rt.alloc(), 8);
     let scene = states_of(&rt, rt.alloc(), &text, true);
     expect_firsts(&rt, rt.alloc(), &scene, &ALL_EQUAL);

@@ -185,7 +185,7 @@ const WRITE_TAIL: &str = r#""}
 
 /// A file is made, written, waited for and moved to its name.
 #[test]
-fn a_move_behind_an_fsync_needs_the_file_whole(rt: HostRuntime) {
+fn a_move_after_an_fsync_needs_the_file_whole(rt: HostRuntime) {
     let alloc = rt.alloc();
     let digits = "a".repeat(alloc, 10_000).expect(&rt, "memory");
     let pieces = [WRITE_HEAD, digits.as_str(), WRITE_TAIL];

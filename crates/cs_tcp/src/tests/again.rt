@@ -9,7 +9,7 @@ use std::process::Abort;
 use std::sync::atomic::{AtomicBool, AtomicU64, Ordering};
 use std::thread;
 
-/// Standard input, which ends once it is to.
+/// Standard input, which ends once it must.
 #[derive(Drop)]
 pub struct Input<'a> {
     pub ends: &'a AtomicBool,

@@ -17,7 +17,7 @@ pub const USERS: &[u8] = b"1:ann::\n2:bob::\n3:cat::\n4:staff:ann:ann,bob\n";
 pub const TRACE: &[u8] =
     b"{\"trace\":1,\"owner\":\"cat\",\"group\":\"staff\",\"mode\":\"775\"}\n{\"start\":\"file\",\"path\":\"/f\",\"owner\":\"ann\",\"group\":\"staff\",\"mode\":\"664\",\"bytes\":\"68656c6c6f\"}\n{\"op\":\"creat\",\"path\":\"/g\",\"owner\":\"ann\",\"group\":\"staff\",\"mode\":\"644\"}\n";
 
-/// How often a thread looks for what another is to do.
+/// How often a thread looks for what another must do.
 const TURNS: u32 = 10_000_000;
 
 /// Whether this holds within TURNS looks; between two it lets other threads run.

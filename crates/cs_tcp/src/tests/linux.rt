@@ -73,7 +73,7 @@ fn a_wstat_asks_for_no_other_atime_or_muid(rt: HostRuntime) {
 /// An Rerror with K8 and an Rclunk, written in two pieces: `No such file or directory`, and the
 /// Rclunk.
 #[test]
-fn a_denial_is_told_as_an_error_of_linux(rt: HostRuntime) {
+fn a_denial_is_sent_as_an_error_of_linux(rt: HostRuntime) {
     let mut stream = LinuxStream::new(rt.alloc(), VecDeque::new(rt.alloc()));
     let (front, rest) = DENIED.split_at(9);
     write_each(&mut stream, &[front, rest]).expect(&rt, "memory");

@@ -31,9 +31,9 @@ pub fn expect_told(rt: &impl Abort, told: &Told, text: &str) {
     assert!(rt; err.contains(text), "{text}");
 }
 
-/// Two clients in threads of their own share the run `0/x`: once both have opened `/f` ann writes
+/// Two clients in separate threads share the run `0/x`: once both have opened `/f` ann writes
 /// `HI` into it, and then bob reads `HIllo`; each gives up after ten million looks at what the
-/// other is to do. The line at the end is `run 0/x entries 10 audit ok`.
+/// other must do. The line at the end is `run 0/x entries 10 audit ok`.
 #[test]
 fn two_clients_are_served_at_once_and_share_a_run(rt: HostRuntime) {
     let alloc = rt.alloc();
@@ -92,7 +92,7 @@ fn a_client_that_hangs_up_inside_a_message(rt: HostRuntime) {
 /// With a client of Linux, a walk to `/g`, which isn't made yet, is printed as `No such file or
 /// directory` over the socket, and as K8 by `--verbose`.
 #[test]
-fn a_client_of_linux_is_told_an_error_that_it_knows(rt: HostRuntime) {
+fn a_client_of_linux_gets_an_error_that_it_knows(rt: HostRuntime) {
     let alloc = rt.alloc();
     let port = AtomicU64::new(0);
     let linux = Serving {

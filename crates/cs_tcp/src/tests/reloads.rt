@@ -85,8 +85,7 @@ fn ask_later<R: Net<Stream = TcpStream> + Files + Abort>(
     add_types(rt, alloc, &mut client, later.asked, types)
 }
 
-/// What bob is answered while the file changes, and the clients beside him, by the types of the
-/// replies.
+/// The replies to bob and to the other clients while the file changes, by their types.
 fn answers<R: Net<Stream = TcpStream> + Files + Abort>(
     rt: &R,
     alloc: Global,

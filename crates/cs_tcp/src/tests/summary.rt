@@ -72,8 +72,8 @@ impl Ended {
 
 /// On a server of two states ann attaches to `1/a` and `0/x` on one connection, with a stat of
 /// each: `run 0/x entries 2 audit ok` and `run 1/a entries 2 audit ok`. Without passes both are
-/// `count`. By the passes of another server, where she walks in `0/x` and attaches to `1/a` on two
-/// connections, they are `changed 1` and `missing 1`.
+/// `count`. By the passes of another server, on which she walks in `0/x` and attaches to `1/a` on
+/// two connections, they are `changed 1` and `missing 1`.
 #[test]
 fn each_run_is_printed_with_its_own_audit(rt: HostRuntime) {
     let alloc = rt.alloc();

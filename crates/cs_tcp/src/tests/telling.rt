@@ -143,7 +143,7 @@ fn expect_told<R: Wait + Abort>(rt: &R, alloc: Global, most: usize) {
 /// version, an attach of ann to `0/x`, an attach as the same fid (A1) and a message of no type (S2)
 /// are printed as text, each with its reply, and after the second `7 attached ann to 0/x`.
 #[test]
-fn each_message_is_told_with_its_reply(rt: HostRuntime) {
+fn each_message_is_printed_with_its_reply(rt: HostRuntime) {
     expect_told(&rt, rt.alloc(), 1);
     expect_told(&rt, rt.alloc(), 30);
     expect_told(&rt, rt.alloc(), 65_536);
@@ -185,7 +185,7 @@ const NUMBERS: [u32; 6] = [0, 1, 1_023, 1_024, 1_025, 2_048];
 /// One of two states is published: as the states 1,024 and 2,048 would be begun, and before no
 /// other, `published 1 of 2` is printed, if progress is asked for.
 #[test]
-fn progress_is_told_at_every_1024th_state(rt: HostRuntime) {
+fn progress_is_printed_at_every_1024th_state(rt: HostRuntime) {
     let told = progress_before(&rt, rt.alloc(), &NUMBERS, true);
     assert!(rt; told.as_slice() == b"published 1 of 2\npublished 1 of 2\n".as_slice());
     let told = progress_before(&rt, rt.alloc(), &NUMBERS, false);
@@ -266,7 +266,7 @@ where
 /// `published 2 states` is printed with `--verbose` or on a terminal, and else nothing; of a trace
 /// with no operation `published 1 state`.
 #[test]
-fn publishing_is_told_when_it_is_asked_for(rt: HostRuntime) {
+fn publishing_is_printed_if_it_is_asked_for(rt: HostRuntime) {
     for row in &ROWS {
         expect_published(&rt, rt.alloc(), row);
     }

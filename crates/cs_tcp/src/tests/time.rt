@@ -10,7 +10,7 @@ const UNTIL: u32 = 4_102_444_800;
 
 /// The clock of the machine is after 2020, and before 2100.
 #[test]
-fn the_clock_tells_seconds_since_1970(rt: HostRuntime) {
+fn the_clock_counts_seconds_since_1970(rt: HostRuntime) {
     let now = WallClock::new(&rt).now();
     assert!(rt; now >= SINCE && now < UNTIL);
 }

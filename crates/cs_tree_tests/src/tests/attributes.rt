@@ -122,7 +122,7 @@ const TWO: &str = r#"{"op":"creat","path":"/a","owner":"ann","group":"staff","mo
 
 /// Two files are made: the second may be there alone, but with `ordered` it may not.
 #[test]
-fn entries_come_in_order_where_the_file_system_orders_them(rt: HostRuntime) {
+fn entries_come_in_order_if_the_file_system_orders_them(rt: HostRuntime) {
     let line = "1 /b 0 ann staff -644 0 0 ann 0:";
     leaves(&rt, rt.alloc(), &[BLOCKS, TWO], &[1], line);
     assert!(&rt; left_by(&rt, rt.alloc(), &[ORDERED, TWO], &[1]).is_none());

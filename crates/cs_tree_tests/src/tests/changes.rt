@@ -113,9 +113,9 @@ fn bytes_that_no_write_reached_are_zero(rt: HostRuntime) {
     cut_and_grow(&rt, rt.alloc(), over_state(&rt, rt.alloc()));
 }
 
-/// An mtime alone leaves muid; with a length it comes after the length's. A mode or a group adds to
-/// the version alone; a length that the file has is a stamp too. A name stamps the directory. All
-/// fields at once are one version more.
+/// A change of only the mtime leaves muid; with a length it comes after the length's. A mode or a
+/// group adds only to the version; a length that the file has is a stamp too. A name stamps the
+/// directory. All fields at once are one version more.
 #[test]
 fn a_change_gives_the_fields_that_it_names(rt: HostRuntime) {
     let left = Left { count: 7, last: 6 };

@@ -158,7 +158,7 @@ fn list_and_remove<T: TreeStore + Drop>(rt: &impl Abort, alloc: Global, mut tree
 /// The entry after each name, and before each bound; after `f` was removed, the next one after `f`
 /// is `n`.
 #[test]
-fn a_listing_goes_on_behind_a_name_that_is_gone(rt: HostRuntime) {
+fn a_listing_goes_on_after_a_name_that_is_gone(rt: HostRuntime) {
     list_and_remove(&rt, rt.alloc(), start_tree(&rt, rt.alloc()));
     list_and_remove(&rt, rt.alloc(), over_plain(&rt, rt.alloc()));
     list_and_remove(&rt, rt.alloc(), over_frozen(&rt, rt.alloc()));
