@@ -3,12 +3,13 @@
 from __future__ import annotations
 
 import argparse
+import io
 import os
 import shutil
 import signal
 import sys
 import tempfile
-from contextlib import contextmanager
+from contextlib import contextmanager, redirect_stdout
 from typing import Any, Dict, Iterable, Iterator, List, Tuple
 
 # How every file of text is written.
@@ -35,10 +36,12 @@ def parse(parser: argparse.ArgumentParser,
           words: List[str]) -> Tuple[argparse.Namespace, List[str]]:
     """The options and arguments before the first `--`, and COMMAND."""
     before, command = halves(words)
+    shown = io.StringIO()
     try:
-        values, more = parser.parse_known_args(before)
+        with redirect_stdout(shown):
+            values, more = parser.parse_known_args(before)
     except SystemExit:
-        print_rest(parser.prog)
+        print_shown(parser.prog, shown.getvalue())
         raise
     if more and not command and not more[0].startswith('-'):
         parser.error(f'put -- before COMMAND ({more[0]})')
@@ -47,11 +50,11 @@ def parse(parser: argparse.ArgumentParser,
     return values, command
 
 
-def print_rest(program: str) -> None:
-    """What --help prints is written now, and not as Python ends."""
+def print_shown(program: str, text: str) -> None:
+    """Prints what --help shows: argparse itself fails, or says nothing, if it can't."""
     try:
         with standard_output():
-            pass
+            print(text, end='')
     except OSError as error:
         tell(program, f'{error.filename}: {error.strerror}')
         raise SystemExit(NOT_PRINTED) from error

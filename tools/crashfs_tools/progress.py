@@ -11,6 +11,7 @@ from .runner import BAD, Outcome
 
 EVERY_SECONDS = 30.0
 TERMINAL_SECONDS = 0.1
+UNITS = ((3600, 'hour'), (60, 'minute'), (1, 'second'))
 
 
 class Progress:
@@ -53,8 +54,6 @@ class Progress:
 
 
 def duration(seconds: float) -> str:
-    for size, unit in ((3600, 'hour'), (60, 'minute')):
-        if seconds >= size:
-            count = round(seconds / size)
-            return f'{count:,} {unit}{"s" if count != 1 else ""}'
-    return f'{seconds:.0f} seconds'
+    size, unit = next((one for one in UNITS if seconds >= one[0]), UNITS[-1])
+    count = round(seconds / size)
+    return f'{count:,} {unit}{"s" if count != 1 else ""}'

@@ -134,8 +134,8 @@ class Report:
         tried = [one for one in self.recoveries if not one.fault]
         failing = sum(one.failing for one in tried)
         fails = f'{failing:,} fail{"s" if failing == 1 else ""}' if failing else 'none fails'
-        lines = [f'  {number_of(len(tried), "recovery")}: '
-                 f'{sum(one.states for one in tried):,} states of a second crash, {fails}'
+        states = number_of(sum(one.states for one in tried), 'state')
+        lines = [f'  {number_of(len(tried), "recovery")}: {states} of a second crash, {fails}'
                  .replace('recoverys', 'recoveries')]
         for group, where in seconds(tried):
             lines += self.group_lines(group, where)

@@ -35,11 +35,13 @@ class CutOff:
 
 @dataclass
 class Window:
-    """A plan, the step that it ends before, and the places in it that no sync has made durable."""
+    """A plan, the step that it ends before, and the places in it that no sync has made durable.
+    needs has what each micro-operation needs, also of those behind the end that were asked for."""
 
     planned: Planned
     end: int
     pending: List[int]
+    needs: Sequence[int]
 
 
 class Windows:
@@ -91,9 +93,11 @@ class Windows:
         """The longest window from where the steps are."""
         path = os.path.join(self.planner.guard.directory, f'window-{states}.trace')
         end = steps.end_within(self.largest)
+        longest: Sequence[int] = ()
         while True:
             text, lines = steps.trace(end)
             needs = self.probe(path + '.probe', text)
+            longest = longest or needs[:-1]
             fitting = self.fitting(needs[:-1])
             if fitting < len(needs) - 1:
                 end = steps.end_within(fitting)
@@ -107,7 +111,8 @@ class Windows:
                 continue
             operations = planned.plan.operations
             return Window(planned, end, [at for at, one in enumerate(operations)
-                                         if one.kind != 'say' and not needs[-1] >> at & 1])
+                                         if one.kind != 'say' and not needs[-1] >> at & 1],
+                          longest)
 
     def probe(self, path: str, text: str) -> Sequence[int]:
         """What each micro-operation needs, and last what one more after them would, of a file that
@@ -137,7 +142,17 @@ class Windows:
         step = next(one for one in range(last.end, -1, -1) if places[one] <= first)
         while places[step] < half:
             step += 1
-        return min(step, last.end)
+        return step if self.passes(last, step) else last.end
+
+    def passes(self, last: Window, step: int) -> bool:
+        """Whether a window from a step ends behind the last one. What it needs is what that one
+        needs, without what is durable where it begins."""
+        places = self.session.places
+        first = places[step] - last.planned.before.operations
+        needs = [mask >> first for mask in last.needs[first:]]
+        fitting = self.fitting(needs)
+        return step < last.end and (fitting == len(needs)
+                                    or places[step] + fitting >= places[last.end + 1])
 
     def go_to(self, steps: Steps, last: Window, step: int) -> None:
         """Goes to a step, with the tree that the program gives of its moment."""

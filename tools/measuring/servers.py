@@ -2,6 +2,7 @@
 
 from __future__ import annotations
 
+import itertools
 import os
 import socket
 import subprocess
@@ -20,10 +21,16 @@ def halves() -> Tuple[List[int], List[int]]:
 
 
 def free_address() -> str:
-    """An address of this machine at which nobody listened just now."""
+    """An address of this machine at which nobody listens. No other call, and no other process, has
+    the same host, so that nobody else takes the port before a server does."""
+    process = os.getpid()
+    host = f'127.{next(_HOSTS)}.{process >> 8 & 255}.{process & 255}'
     with socket.socket() as listener:
-        listener.bind(('127.0.0.1', 0))
-        return f'127.0.0.1:{listener.getsockname()[1]}'
+        listener.bind((host, 0))
+        return f'{host}:{listener.getsockname()[1]}'
+
+
+_HOSTS = itertools.cycle(range(1, 255))
 
 
 @contextmanager

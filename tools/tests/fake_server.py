@@ -1,7 +1,8 @@
 #!/usr/bin/env -S python3 -S
 """A server for the tests of `measure`: `serve .. --listen ADDR ..`, or `ADDR CONNECTIONS KEEPING`.
 
-It answers each message by its type alone, and refuses writes behind the first ten.
+It answers each message by its type alone, refuses writes behind the first ten, and keeps 16 MB for
+each connection.
 """
 
 import socketserver
@@ -9,6 +10,7 @@ import struct
 import sys
 
 WRITES = 10
+KEPT = 1 << 24
 TWRITE, RERROR = 118, 107
 
 
@@ -16,6 +18,7 @@ class Connection(socketserver.StreamRequestHandler):
     written = 0
 
     def handle(self):
+        self.kept = KEPT * b'x'
         while True:
             head = self.rfile.read(7)
             if len(head) < 7:

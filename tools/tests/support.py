@@ -11,9 +11,9 @@ import shutil
 import subprocess
 import sys
 import tempfile
-import threading
 import time
 import unittest
+from functools import lru_cache
 from pathlib import Path
 from typing import Any, Callable, Dict, List, Optional, Sequence
 
@@ -28,7 +28,8 @@ EXAMPLES = TOOLS.parent / 'examples'
 FAKE = str(TOOLS / 'crashfs_tools' / 'reading' / '__main__.py')
 # First on PATH, so that scripts are run by the Python that runs the tests.
 PYTHON_FOLDER = os.path.dirname(sys.executable)
-# How long a test waits for what has to come: so long only where a machine is overloaded.
+# How long a test, or a check of one, waits for what has to come: so long only where a machine is
+# overloaded.
 PATIENCE = 600
 PROGRESS = re.compile(r'crashfs-check: (?:micro-operations [\d,]+ to [\d,]+: )?'
                       r'[\d,]+ of [\d,]+ tried, .* left\n')
@@ -103,7 +104,7 @@ class InFolder(unittest.TestCase):
         """Starts one of the two commands, with the test's folder for what it lays down; with
         file_bytes no file may become larger, as on a disk that is full; a signal may be ignored."""
         # The standard library is all that is needed, and starts faster without `site`.
-        line = [sys.executable, '-S', str(TOOLS / command), *words]
+        line = [sys.executable, '-S', str(TOOLS / command), *patient(command, words)]
         if file_bytes is not None:
             line = ['prlimit', f'--fsize={file_bytes}', *line]
         if ignored:
@@ -127,7 +128,7 @@ class InFolder(unittest.TestCase):
             child = self.start(command, *words, path=path, file_bytes=file_bytes,
                                output=file if output else subprocess.PIPE)
         out, err = child.communicate(timeout=PATIENCE)
-        return subprocess.CompletedProcess(words, child.returncode, out, err)
+        return subprocess.CompletedProcess(words, child.returncode, out, PROGRESS.sub('', err))
 
     def wait_until(self, holds: Callable[[], bool], what: str,
                    child: Optional[subprocess.Popen] = None) -> None:
@@ -144,33 +145,37 @@ class InFolder(unittest.TestCase):
         self.assertEqual(os.listdir(self.temporary), [])
 
 
+def patient(command: str, words: Sequence[str]) -> Sequence[str]:
+    """The words, by which a check ends no COMMAND that is only slow."""
+    if command != 'crashfs-check' or '--' not in words or '--timeout' in words:
+        return words
+    return ['--timeout', str(PATIENCE), *words]
+
+
 def forked(command: str, words: Sequence[str], folder: str,
            environment: Dict[str, str]) -> subprocess.CompletedProcess:
-    """Runs one of the two commands to its end, by a forker that each thread of tests has."""
-    if not hasattr(_own, 'forker'):
-        _own.forker = subprocess.Popen(
-            [sys.executable, '-S', '-m', 'tests.forker'], cwd=TOOLS, text=True,
-            env={**os.environ, 'LC_ALL': 'C'}, stdin=subprocess.PIPE, stdout=subprocess.PIPE)
-        atexit.register(end_forker, _own.forker)
-    asked = {'command': command, 'words': words, 'folder': folder, 'environment': environment,
-             'seconds': PATIENCE}
-    print(json.dumps(asked), file=_own.forker.stdin, flush=True)
-    told = json.loads(_own.forker.stdout.readline())
+    """Runs one of the two commands to its end, by a forker that each process of tests has."""
+    asked = {'command': command, 'words': patient(command, words), 'folder': folder,
+             'environment': environment, 'seconds': PATIENCE}
+    print(json.dumps(asked), file=forker().stdin, flush=True)
+    told = json.loads(forker().stdout.readline())
     # On a machine with other work a check may take so long that it shows how far it is.
     err = PROGRESS.sub('', told['err'])
     return subprocess.CompletedProcess(words, told['status'], told['out'], err)
 
 
-def end_forker(forker: subprocess.Popen) -> None:
-    forker.communicate()
-
-
-_own = threading.local()
+@lru_cache(maxsize=None)
+def forker() -> Any:
+    started = subprocess.Popen(
+        [sys.executable, '-S', '-m', 'tests.forker'], cwd=TOOLS, text=True,
+        env={**os.environ, 'LC_ALL': 'C'}, stdin=subprocess.PIPE, stdout=subprocess.PIPE)
+    atexit.register(started.communicate)
+    return started
 
 
 def long_time() -> str:
     """Seconds for a `sleep` that is found by them: no other test, and no other run, has these."""
-    return f'300.{os.getpid()}{next(_times)}'
+    return f'300.{os.getpid():08}{next(_times):04}'
 
 
 _times = itertools.count(1)

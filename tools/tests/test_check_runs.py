@@ -211,8 +211,8 @@ class Progress(unittest.TestCase):
             'crashfs-check: part 2: 10 of 10 tried, 0 fail, about 0 seconds left'])
 
     def test_durations_are_rounded(self):
-        for seconds, shown in [(0.4, '0 seconds'), (59, '59 seconds'), (100, '2 minutes'),
-                               (3600, '1 hour'), (9000, '2 hours')]:
+        for seconds, shown in [(0.4, '0 seconds'), (1.2, '1 second'), (59, '59 seconds'),
+                               (100, '2 minutes'), (3600, '1 hour'), (9000, '2 hours')]:
             self.assertEqual(progress.duration(seconds), shown)
 
 

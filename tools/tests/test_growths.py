@@ -8,7 +8,7 @@ CRATES = pathlib.Path(__file__).parents[2] / 'crates'
 
 # the crates whose calls are run with each growth refused in its turn
 SWEPT = ['cs_tree', 'cs_overlay', 'cs_fids', 'cs_run', 'cs_journal', 'cs_registry', 'cs_session',
-         'cs_world']
+         'cs_world', 'cs_shared_runs', 'cs_connection']
 
 ROW = re.compile(r'"(cs_\w+) ([\w:]+)"')
 
@@ -23,6 +23,7 @@ BLOCK = re.compile(r'^(?:impl(?:<[^{]*?>)? (?:(\w+)(?:<[^{]*?>)? for )?(\w+)|pub
 NO_GROWTH = 'takes no memory: its faults are others'
 BY_STEP = 'a part of a step of a run, whose rows make it'
 BY_CALL = 'a law about a call of a store, whose row makes it'
+BY_LOCK = 'made under the lock of a SharedRegistry, whose rows make it'
 HANDLES = 'only more handles than there are numbers could be refused'
 
 # calls without a row, and why
@@ -47,7 +48,20 @@ EXCEPTIONS = {
     'cs_run act_wstat': BY_STEP,
     'cs_journal Run::fresh': HANDLES,
     'cs_session Session::table_step': 'has no allocator',
-    'cs_session serve_stream': 'takes its buffers once, before it reads a message',
+    'cs_session serve_stream': 'a test has no memory for its buffers, and none is read',
+    'cs_shared_runs SharedRun::fresh': 'made by a find, whose rows make it',
+    'cs_shared_runs SharedRun::try_clone': HANDLES,
+    'cs_shared_runs SharedRegistry::of': HANDLES,
+    'cs_shared_runs SharedRegistry::publish_own': 'the same as `publish`, but compares no contents',
+    'cs_shared_runs Registry::new': BY_LOCK,
+    'cs_shared_runs Registry::publish': BY_LOCK,
+    'cs_shared_runs Registry::publish_own': BY_LOCK,
+    'cs_shared_runs Registry::find_key': BY_LOCK,
+    'cs_shared_runs Registry::reload': BY_LOCK,
+    'cs_shared_runs Registry::runs': BY_LOCK,
+    'cs_connection Connection::result': 'returns the end of a stream',
+    'cs_connection GivenPasses::keep': 'drops what it has no memory for: an audit counts too few',
+    'cs_connection serve_streams': 'starts threads, and a hoard is for a process of one',
 }
 
 

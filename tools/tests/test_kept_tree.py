@@ -2,6 +2,7 @@
 
 import os
 import subprocess
+import time
 import unittest
 from unittest import mock
 
@@ -30,7 +31,7 @@ TREE = {'': folder(), 'a': file('one'), 'b': file('two', 0o600), 'd': folder(0o7
 DEEDS = [
     'echo more >> a', 'printf eno > a', 'printf xxx | dd of=b conv=notrunc 2>/dev/null',
     'cp -p a old; printf xxx > a; touch -r old a; rm old', 'mv a b', 'ln a g', 'ln -f a ../outside',
-    'rm -r d', 'rm d/c; mkdir d/c', 'rm a; ln -s b a', 'chmod 000 a', 'chmod 000 d d/e',
+    'rm -r d', 'rm d/c; mkdir d/c', 'rm a; ln -s b a', 'chmod 000 a', 'chmod 000 d/e d',
     'chmod 0 .', 'mkdir -p x/y; echo > x/y/z', 'mv d dd; mkdir d', 'chmod 4755 b',
     'cp -p a n; mv n a', 'echo > "new\nline"', 'chmod 600 d/e; chmod 755 d/e', 'mkfifo p', 'true',
 ]
@@ -141,6 +142,7 @@ class Kept(InFolder):
         kept.bring(changed)
         kept.started = os.stat(self.path('kept', 'a')).st_ctime_ns
         before = self.times()
+        time.sleep(kept_tree.TICK_SECONDS)
         kept.bring(changed)
         self.assertNotEqual(self.times()['a'], before['a'])
         self.assertEqual(self.times()['d/c'], before['d/c'])

@@ -6,12 +6,14 @@ import os
 import shutil
 import subprocess
 import sys
+import unittest
 from typing import List
 
 from measuring.memory import crowd, growth, idle, journal
 from measuring.programs import Programs
 from measuring.servers import free_address, halves, listening
 
+from .fake_server import KEPT
 from .support import FAKE as READING
 from .support import TOOLS, InFolder, needed
 
@@ -125,7 +127,8 @@ class Memory(InFolder):
         address = free_address()
         with listening([FAKE, address, '9', 'forgets']) as server:
             more, count = growth(server, lambda: fill(address))
-        self.assertGreaterEqual(more, 0)
+        # Not all: a system that lacks memory takes other pages of a server away meanwhile.
+        self.assertGreater(more, KEPT // 2)
         return count
 
     def test_connections_come_to_a_run_and_wait(self) -> None:
@@ -139,6 +142,15 @@ class Memory(InFolder):
 
     def test_writes_end_where_none_is_refused(self) -> None:
         self.assertEqual(self.grown(lambda address: journal(address, 8)), 8)
+
+
+class Addresses(unittest.TestCase):
+    def test_no_two_have_the_same_host(self) -> None:
+        hosts = [free_address().partition(':')[0] for _ in range(9)]
+        ran = subprocess.run([sys.executable, '-c', 'from measuring.servers import free_address\n'
+                              'for _ in range(9): print(free_address().partition(":")[0])'],
+                             cwd=TOOLS, check=True, capture_output=True, text=True)
+        self.assertEqual(len({*hosts, *ran.stdout.split()}), 18, ran.stdout)
 
 
 class Processors(InFolder):

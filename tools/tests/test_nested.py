@@ -6,7 +6,9 @@ import unittest
 from types import SimpleNamespace
 
 from crashfs_tools.nested import Nested
-from crashfs_tools.results import Results
+from crashfs_tools.recovery import Recovery
+from crashfs_tools.report import Report
+from crashfs_tools.results import Head, Results
 from crashfs_tools.runner import BAD, GOOD, Outcome
 
 from .support import EXAMPLES, FAKE, needs_strace
@@ -73,6 +75,20 @@ class Recoveries(InRecoveries):
         self.assertEqual(ran.returncode, 1)
         self.assertRegex(ran.stdout, ' fail .lost [0-9]+.\n')
         self.assertRegex(ran.stdout, '[0-9]+ recoveries: [0-9]+ states of a second crash, none fai')
+
+
+class Counted(unittest.TestCase):
+
+    def test_one_is_one(self):
+        for recoveries, line in [
+                ([Recovery(7, 1)], '1 recovery: 1 state of a second crash, none fails'),
+                ([Recovery(7, 1), Recovery(8, 4, 1)],
+                 '2 recoveries: 5 states of a second crash, 1 fails'),
+                ([Recovery(7, 1), Recovery(8, 1_000, 2)],
+                 '2 recoveries: 1,001 states of a second crash, 2 fail')]:
+            report = Report(Head('a', '', []))
+            report.recoveries = recoveries
+            self.assertEqual(report.lines()[1:], ['  ' + line])
 
 
 class Chosen(unittest.TestCase):

@@ -47,6 +47,11 @@ class InRecordings(InFolder):
                         'COMMAND has started', child)
         return int(self.read(name))
 
+    def make_other(self):
+        """A file that is whole as soon as it is there: COMMAND may remove it at once."""
+        other = self.write('other', 'made by the test, which strace does not follow')
+        os.rename(other, self.path('d', 'other'))
+
     def assert_gone(self, pid):
         self.wait_until(lambda: not os.path.exists(f'/proc/{pid}'), 'COMMAND has ended')
 
@@ -188,7 +193,7 @@ class Records(InRecordings):
         child = self.start('crashfs-record', '--no-say', 'd', 'out.trace', '--', 'sh', '-c',
                            'echo $$ > ../pid; until test -e other; do sleep 0.05; done')
         self.pid_of('pid', child)
-        self.write('d/other', 'made by the test, which strace does not follow')
+        self.make_other()
         _, err = child.communicate(timeout=PATIENCE)
         self.assertEqual(child.returncode, 3)
         self.assertIn('/other: it is there at the end, and the trace has it not', err)
@@ -203,7 +208,7 @@ class Records(InRecordings):
         os.link(self.path('d', 'one'), self.path('d', 'two'))
         os.mkfifo(self.path('d', 'pipe'))
         os.setxattr(self.path('d', 'old'), 'user.a', b'1')
-        self.write('d/other', 'made by the test, which strace does not follow')
+        self.make_other()
         _, err = child.communicate(timeout=PATIENCE)
         self.assertEqual(child.returncode, 3)
         for told in ['/two: it is a link to /one at the end, and not so in the trace',

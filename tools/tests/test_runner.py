@@ -9,7 +9,7 @@ from unittest import mock
 
 from crashfs_tools.runner import BAD, GOOD, NO_ANSWER, Checker, Over, Says
 
-from .support import FAKE, TOOLS, InFolder
+from .support import FAKE, PATIENCE, TOOLS, InFolder
 from .test_check_command import InStore
 
 
@@ -18,8 +18,8 @@ class Runs(InFolder):
     def checker(self, script: str, **more) -> Checker:
         os.makedirs(self.path('state'), exist_ok=True)
         says = Says(['one', 'zwölf', 'three'], self.temporary)
-        return Checker(['/bin/sh', '-c', script], more.pop('timeout', 10), dict(os.environ), says,
-                       **more)
+        return Checker(['/bin/sh', '-c', script], more.pop('timeout', PATIENCE),
+                       dict(os.environ), says, **more)
 
     def run_once(self, script: str, says: int = 0, **more):
         return self.checker(script, **more).run(7, says, self.path('state'))
@@ -46,10 +46,14 @@ class Runs(InFolder):
             self.assertEqual(self.run_once('sleep 60', timeout=0.1).result, NO_ANSWER)
 
     def test_a_slow_command_is_noticed_once_and_ended_in_time(self):
-        slow = []
-        outcome = self.run_once('echo begun; sleep 60', timeout=0.3,
-                                when_slow=lambda: slow.append(1))
-        self.assertEqual((outcome.result, outcome.output, slow), (NO_ANSWER, 'begun\n', [1]))
+        for seconds in (0.3, 3, 30, 300):
+            slow = []
+            outcome = self.run_once('echo begun; sleep 900', timeout=seconds,
+                                    when_slow=lambda: slow.append(1))
+            self.assertEqual((outcome.result, slow), (NO_ANSWER, [1]))
+            if outcome.output:  # On a machine that is loaded it may not have begun in time.
+                break
+        self.assertEqual(outcome.output, 'begun\n')
 
     def test_the_check_s_end_ends_the_command(self):
         for has_descriptors in (True, False):

@@ -14,7 +14,7 @@ from crashfs_tools.strace_log import read_log
 from crashfs_tools.trace_read import read_trace
 from crashfs_tools.while_running import Progress
 
-from .support import InFolder, as_strace, needs_strace, needs_version_3, short
+from .support import PATIENCE, InFolder, as_strace, needs_strace, needs_version_3, short
 from .test_odd import needs_compiler
 
 PROGRAM = """\
@@ -110,7 +110,7 @@ class WhileItRuns(unittest.TestCase):
         with mock.patch('sys.stderr', io.StringIO()) as out:
             out.isatty = lambda: is_terminal
             with Progress('crashfs-record', lambda: 1204, 0.01):
-                deadline = time.monotonic() + (60 if is_terminal else 0.1)
+                deadline = time.monotonic() + (PATIENCE if is_terminal else 0.1)
                 while not out.getvalue() and time.monotonic() < deadline:
                     time.sleep(0.01)
             return out.getvalue()

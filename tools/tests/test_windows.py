@@ -5,6 +5,7 @@ import os
 import re
 import unittest
 from types import SimpleNamespace
+from unittest import mock
 
 from crashfs_tools import limits
 from crashfs_tools.entry import Entry
@@ -70,7 +71,7 @@ class Reader:
         return plan_of(reading, '--holes' in options, picks)
 
     def text(self, words, _environment=None):
-        """Tests run in several threads, which have one standard output."""
+        """What the program would print."""
         options = read_options(words)
         try:
             plan = self.plan(options)
@@ -221,6 +222,20 @@ class Cuts(InWindows):
             self.assertEqual(sorted(os.listdir(self.temporary)), [name, f'{name}.picks'])
             windows += 1
         self.assertEqual(windows, 4)
+
+    def test_each_window_is_planned_once(self):
+        """Also the second: from half a window on the long write after the first has 94 states with
+        what is before it, so that with fewer it would end where the first does."""
+        text = log_of(4).replace(sync('/'), creat('/never') + creat('/big') + sync('/')
+                                 + write('/never', 3), 1)
+        text += 3 * (write('/big', 40_960) + sync('/big')) + log_of(4).partition(sync('/'))[2]
+        for states, begins in ((93, [0, 17, 28, 38]), (94, [0, 10, 28, 38])):
+            with mock.patch.object(limits, 'STATES', states), mock.patch.object(
+                    Reader, 'text', autospec=True, side_effect=Reader.text) as asked:
+                _, results = self.windows(text, 60)
+            plans = [call for call in asked.mock_calls if '--holes' in call.args[1]]
+            self.assertEqual([one.plan.begin for one in results], begins)
+            self.assertEqual(len(plans), len(results))
 
     def test_links_stay_links_over_a_cut(self):
         text = HEADER + creat('/a') + '{"op":"link","from":"/a","to":"/b"}\n'

@@ -13,7 +13,7 @@ from typing import Dict, Iterator, List, Tuple
 from crashfs_tools import VERSION
 from crashfs_tools.program import Crashfs
 
-from .support import EXAMPLES, FAKE, PATIENCE, InFolder, needed
+from .support import EXAMPLES, FAKE, PATIENCE, TOOLS, InFolder, needed
 
 TRACE = str(EXAMPLES / 'config' / 'config.trace')
 STORE = str(EXAMPLES / 'store.trace')
@@ -197,6 +197,25 @@ class WrongUsages(InFolder):
             ran = self.run_tool(command, '--version')
             self.assertEqual((ran.returncode, ran.stdout, ran.stderr),
                              (0, f'{command} {VERSION} (not a release)\n', ''))
+
+
+    def test_a_help_that_cannot_be_printed_is_a_fault(self) -> None:
+        for command in ('crashfs-record', 'crashfs-check'):
+            for words in (['-S'], ['-S', '-u']):
+                with open('/dev/full', 'w', encoding='utf-8') as full:
+                    ran = subprocess.run([sys.executable, *words, str(TOOLS / command), '--help'],
+                                         stdout=full, stderr=subprocess.PIPE, text=True)
+                self.assertEqual((ran.returncode, ran.stderr), (
+                    3, f'{command}: standard output: No space left on device\n'))
+
+    def test_a_help_that_nobody_reads_is_none(self) -> None:
+        for words in (['-S'], ['-S', '-u']):
+            reader, writer = os.pipe()
+            os.close(reader)
+            with os.fdopen(writer, 'wb') as out:
+                ran = subprocess.run([sys.executable, *words, str(TOOLS / 'crashfs-check'),
+                                      '--help'], stdout=out, stderr=subprocess.PIPE)
+            self.assertEqual((ran.returncode, ran.stderr), (0, b''))
 
 
 class Programs(InFolder):
