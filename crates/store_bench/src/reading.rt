@@ -1,5 +1,5 @@
 //! Traces that are read, compared with the time in which only `serde_json` reads the same lines as
-//! values.
+//! values: each value dropped before the next line is read, or all of them kept.
 
 use cs_bench::{Row, Text, Work, compare};
 use cs_names::limits::FILE_BYTES;
@@ -27,9 +27,15 @@ impl Work for AsTrace<'_> {
     }
 }
 
-/// Reads each line of the text as a value, and counts them.
+/// Reads each line of the text as a value, and counts the values.
 #[derive(Drop)]
 struct AsValues<'a> {
+    text: &'a str,
+}
+
+/// The same, but keeps each value until the last line is read, as a trace keeps what it read.
+#[derive(Drop)]
+struct AsKeptValues<'a> {
     text: &'a str,
 }
 
@@ -43,6 +49,21 @@ impl Work for AsValues<'_> {
             }
         }
         count
+    }
+}
+
+impl Work for AsKeptValues<'_> {
+    /// Leaves out a line that is no value. Returns 0 if it is out of memory.
+    fn run(&mut self, alloc: Global) -> u64 {
+        let mut kept = Vec::new(alloc);
+        for line in self.text.split('\n') {
+            if let Ok(value) = Value::from_str(alloc, line) {
+                if kept.push(value).is_err() {
+                    return 0;
+                }
+            }
+        }
+        kept.len() as u64
     }
 }
 
@@ -71,6 +92,9 @@ struct Sort {
     count: u64,
     most: f64,
 }
+
+/// How many times as long as a list of its values a trace may take.
+const KEPT_AT_MOST: f64 = 2.0;
 
 const SORTS: [Sort; 7] = [
     Sort {
@@ -193,7 +217,7 @@ fn text_of(alloc: Global, kind: Kind, count: u64) -> Result<Text, AllocError> {
     }
 }
 
-/// Times a trace that is read as a trace and as values.
+/// Times a trace that is read as a trace, as values, and as values that are kept.
 fn read(rt: &(impl Clock + Print + AllocGlobal), sort: Sort, timed: bool) -> io::Result<()> {
     let count = if timed {
         sort.count
@@ -207,14 +231,15 @@ fn read(rt: &(impl Clock + Print + AllocGlobal), sort: Sort, timed: bool) -> io:
         most: sort.most,
         rounds: 3,
     };
+    let kept = Row {
+        beside: "as values, kept",
+        most: KEPT_AT_MOST,
+        ..row
+    };
     let text = text.as_str();
-    compare(
-        rt,
-        &row,
-        &mut AsTrace { text },
-        &mut AsValues { text },
-        timed,
-    )
+    let mut trace = AsTrace { text };
+    compare(rt, &row, &mut trace, &mut AsValues { text }, timed)?;
+    compare(rt, &kept, &mut trace, &mut AsKeptValues { text }, timed)
 }
 
 /// Times traces of many lines, and of half as many.
