@@ -12,8 +12,9 @@ use std::alloc::{AllocError, Global};
 /// How many connections are served if the command line doesn't say.
 const CONNECTIONS: u32 = 64;
 
-/// The path of the trace: the argument, else the value of `--trace`. Exactly one of them is given.
-fn trace_of<'a>(matches: &ArgMatches<'a>) -> &'a str {
+/// The path of the trace: the argument, else the value of `--trace`. Exactly one of them is given:
+/// the command line is refused otherwise.
+fn path_of_trace<'a>(matches: &ArgMatches<'a>) -> &'a str {
     match matches.get_str("file") {
         Some(path) => path,
         None => matches.get_str("trace").unwrap_or(""),
@@ -23,7 +24,7 @@ fn trace_of<'a>(matches: &ArgMatches<'a>) -> &'a str {
 /// The trace, and which of its states the command is about.
 fn wanted_of<'a>(matches: &ArgMatches<'a>) -> Wanted<'a> {
     Wanted {
-        trace: trace_of(matches),
+        trace: path_of_trace(matches),
         holes: matches.get_flag("holes"),
         picks: matches.get_str("picks"),
     }
@@ -38,7 +39,8 @@ fn options_of(matches: &ArgMatches) -> ListOptions {
     }
 }
 
-/// The range that a text `N` or `A-B` means. None if it is neither, or if A is greater than B.
+/// The range that a text `N` or `A-B` means. None if the text is neither, if a number is greater
+/// than 4,294,967,295, or if A is greater than B.
 fn range_of(text: &str) -> Option<StateRange> {
     let (first, last) = text.split_once('-').unwrap_or((text, text));
     let first = first.parse().ok()?;
@@ -49,7 +51,8 @@ fn range_of(text: &str) -> Option<StateRange> {
     Some(StateRange { first, last })
 }
 
-/// The ranges of a text, which has a comma between each two. None if one of its parts is no range.
+/// The ranges of a text, which are separated by commas. None if one of its parts isn't a range, as
+/// the empty text isn't.
 fn ranges_of(alloc: Global, text: &str) -> Result<Option<Vec<StateRange>>, AllocError> {
     let mut ranges = Vec::new(alloc);
     for item in text.split(',') {
@@ -61,7 +64,8 @@ fn ranges_of(alloc: Global, text: &str) -> Result<Option<Vec<StateRange>>, Alloc
     Ok(Some(ranges))
 }
 
-/// The states that `tar` writes. None if the value of `--states` is no list of ranges.
+/// The states that `tar` writes. None if the value of `--states` isn't a list of ranges. (One of
+/// `--state` and `--states` is given: the command line is refused otherwise.)
 fn states_of(alloc: Global, matches: &ArgMatches) -> Result<Option<States>, AllocError> {
     let changes = matches.get_flag("changes");
     if let Some(text) = matches.get_str("states") {
@@ -95,8 +99,9 @@ fn family_of(matches: &ArgMatches) -> Family {
     }
 }
 
-/// What `serve` serves, and how. Without `--workers` there are 0 workers, which `workers_of`
-/// replaces; whether progress is printed isn't known here.
+/// What `serve` serves, and how. `--listen` is given: the command line is refused otherwise.
+/// Without `--workers` there are 0 workers, which `workers_of` replaces; whether progress is
+/// printed isn't known here.
 fn serving_of<'a>(matches: &ArgMatches<'a>) -> Serving<'a> {
     Serving {
         listen: matches.get_str("listen").unwrap_or(""),
@@ -111,13 +116,15 @@ fn serving_of<'a>(matches: &ArgMatches<'a>) -> Serving<'a> {
         },
         client: match matches.get_str("client") {
             Some("linux") => Client::Linux,
+            // `plan9`, which is also the default
             _ => Client::Plan9,
         },
         progress: false,
     }
 }
 
-/// What the command of this name does. None if the value of `--states` is no list of ranges.
+/// What the command of this name does; a name that is none of the four others is `serve`. None if
+/// the value of `--states` isn't a list of ranges.
 fn job_of<'a>(
     alloc: Global,
     name: &str,
@@ -135,8 +142,8 @@ fn job_of<'a>(
     })
 }
 
-/// The refusal of a value of `--states` that is no list of ranges, as clap prints refusals.
-fn no_list(alloc: Global, text: &str) -> Result<Error, AllocError> {
+/// The refusal of a value of `--states` that isn't a list of ranges, as clap prints refusals.
+fn refusal_of_list(alloc: Global, text: &str) -> Result<Error, AllocError> {
     let text = format!(in alloc;
         "invalid value '{text}' for '--states <LIST>': numbers N and ranges A-B, with commas"
     )?;
@@ -152,7 +159,7 @@ pub fn ask_of<'a>(alloc: Global, words: &'a [&'a str]) -> Result<Ask<'a>, Error>
     // a command line without a command was refused
     let (name, inner) = matches.subcommand().unwrap_or(("list", &matches));
     let Some(job) = job_of(alloc, name, inner)? else {
-        return Err(no_list(alloc, inner.get_str("states").unwrap_or(""))?);
+        return Err(refusal_of_list(alloc, inner.get_str("states").unwrap_or(""))?);
     };
     Ok(Ask {
         wanted: wanted_of(inner),

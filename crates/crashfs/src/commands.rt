@@ -10,10 +10,10 @@ const STATUSES: &str =
 /// The names of clients.
 const CLIENTS: [&str; 2] = ["plan9", "linux"];
 
-/// The most workers, and the most connections.
+/// The most workers, which is WORKERS of cs_names, and the most connections.
 const MOST: i64 = 64;
 
-/// An option with a value, which the help shows under this name.
+/// The option `--name` with a value, which the help shows as `shown`.
 fn value_argument<'a>(alloc: Global, name: &'a str, shown: &'a str, help: &'a str) -> Arg<'a> {
     Arg::new(alloc, name)
         .long(name)

@@ -29,8 +29,9 @@ pub fn out_of_memory(rt: &impl Eprint) -> u8
 }
 
 /// The bytes of the file at the path. Room for its size is reserved at once, and one byte for the
-/// read that finds the end. A pipe has no size: its room grows.
-fn read_bytes<R: Files + AllocGlobal>(rt: &R, path: &str) -> io::Result<Vec<u8>> {
+/// read that finds the end. If there are more bytes, as in a pipe, which has no size, the room
+/// grows.
+fn bytes_of_file<R: Files + AllocGlobal>(rt: &R, path: &str) -> io::Result<Vec<u8>> {
     let mut file = File::open(rt, path)?;
     let size = file.metadata()?.len();
     let mut bytes = Vec::new(rt.alloc());
@@ -39,8 +40,9 @@ fn read_bytes<R: Files + AllocGlobal>(rt: &R, path: &str) -> io::Result<Vec<u8>>
     Ok(bytes)
 }
 
-/// The bytes that were read of the path. If they couldn't be read, the status, after two lines on
-/// `err`: that the file can't be read, and why. If out of memory only that is printed.
+/// The bytes that were read from the file at the path. If they couldn't be read, the status, after
+/// two lines on `err`: that the file can't be read, and why. If memory ran out, only that is
+/// printed, on standard error.
 fn bytes_or_status<R: Eprint, E: Write>(
     rt: &R,
     path: &str,
@@ -69,7 +71,7 @@ fn read_input<R: Input + AllocGlobal>(rt: &R) -> io::Result<Vec<u8>> {
 
 /// The bytes of the trace, which is standard input if its path is `-`. The error is the status,
 /// after its lines on `err`.
-fn read_trace<R: Files + Input + Eprint + AllocGlobal, E: Write>(
+fn bytes_of_trace<R: Files + Input + Eprint + AllocGlobal, E: Write>(
     rt: &R,
     path: &str,
     err: &mut E,
@@ -77,20 +79,20 @@ fn read_trace<R: Files + Input + Eprint + AllocGlobal, E: Write>(
     let bytes = if path == "-" {
         read_input(rt)
     } else {
-        read_bytes(rt, path)
+        bytes_of_file(rt, path)
     };
     bytes_or_status(rt, path, bytes, err)
 }
 
-/// The bytes of the file at the path; none if there is no path. The error is the status, after its
-/// lines on `err`.
-fn read_if<R: Files + Eprint + AllocGlobal, E: Write>(
+/// The bytes of the file at the path; no bytes if `path` is None. The error is the status, after
+/// its lines on `err`.
+fn read_if_given<R: Files + Eprint + AllocGlobal, E: Write>(
     rt: &R,
     path: Option<&str>,
     err: &mut E,
 ) -> Result<Vec<u8>, u8> {
     match path {
-        Some(path) => bytes_or_status(rt, path, read_bytes(rt, path), err),
+        Some(path) => bytes_or_status(rt, path, bytes_of_file(rt, path), err),
         None => Ok(Vec::new(rt.alloc())),
     }
 }
@@ -98,14 +100,14 @@ fn read_if<R: Files + Eprint + AllocGlobal, E: Write>(
 /// The bytes of the users file, with only a line feed at each line's end. If the command line
 /// names none, `serve` gets one of the trace's owners and groups, and other commands get no bytes.
 /// The error is the status, after its lines on `err`.
-fn read_users<R: Files + Eprint + AllocGlobal, E: Write>(
+fn bytes_of_users<R: Files + Eprint + AllocGlobal, E: Write>(
     rt: &R,
     ask: &Ask,
     trace: &[u8],
     err: &mut E,
 ) -> Result<Vec<u8>, u8> {
     let made = if ask.users.is_some() || !matches!(ask.job, Job::Serve(_)) {
-        with_line_feeds(rt.alloc(), &read_if(rt, ask.users, err)?)
+        with_line_feeds(rt.alloc(), &read_if_given(rt, ask.users, err)?)
     } else {
         users_of_trace(rt.alloc(), trace)
     };
@@ -123,9 +125,9 @@ impl InputFiles {
         ask: &Ask,
         err: &mut E,
     ) -> Result<InputFiles, u8> {
-        let trace = read_trace(rt, ask.wanted.trace, err)?;
-        let picks = read_if(rt, ask.wanted.picks, err)?;
-        let users = read_users(rt, ask, &trace, err)?;
+        let trace = bytes_of_trace(rt, ask.wanted.trace, err)?;
+        let picks = read_if_given(rt, ask.wanted.picks, err)?;
+        let users = bytes_of_users(rt, ask, &trace, err)?;
         Ok(InputFiles {
             trace,
             picks,

@@ -25,7 +25,8 @@ fn is_version(value: &Value) -> bool {
     }
 }
 
-/// Why a key or its value is refused. None if neither is refused by its own form.
+/// Why a member of a line is refused by itself: a version or a key that isn't known, a mode that
+/// isn't three octal digits, or an odd number of digits of `bytes`. None if it is none of these.
 fn reason_of_field(alloc: Global, key: &str, value: &Value) -> Result<Option<String>, AllocError> {
     let reason = match key {
         "trace" if !is_version(value) => format!(in alloc;
@@ -43,7 +44,8 @@ fn reason_of_field(alloc: Global, key: &str, value: &Value) -> Result<Option<Str
     Ok(Some(reason?))
 }
 
-/// Why the first member of a line that is refused by its own form is refused. None if none is.
+/// The reason of the first member that has one by itself, as `reason_of_field` gives it. None if no
+/// member has one.
 fn reason_of_members(
     alloc: Global,
     members: Map<String, Value>,
@@ -57,7 +59,8 @@ fn reason_of_members(
     Ok(None)
 }
 
-/// Why a line isn't one of a trace. None if each of its members has the right form by itself.
+/// Why a line isn't one of a trace: it is empty, begins with a byte order mark, isn't a JSON
+/// object, or has a member that is refused by itself. None if it is none of these.
 pub fn reason_of_syntax(alloc: Global, line: &str) -> Result<Option<String>, AllocError> {
     if line.is_empty() {
         return Ok(Some("the file has no line".to_string(alloc)?));

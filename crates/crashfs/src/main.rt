@@ -37,7 +37,7 @@ use std::thread::Threads;
 /// The status of a command line that is refused.
 const REFUSED: u8 = 2;
 
-/// The most workers.
+/// The most workers, as in cs_names.
 const WORKERS: u32 = 64;
 
 /// How many workers there are: `workers`, or if that is 0 one for each processor, at most WORKERS.
@@ -54,8 +54,8 @@ fn workers_of(rt: &impl Threads, workers: u32) -> u32 {
     }
 }
 
-/// Runs the command `serve`, with a buffer before `err`, which its threads share. Returns its
-/// status.
+/// Runs the command `serve`, and returns its status. Its threads share a buffer that is written to
+/// `err`.
 fn run_serve<R, W: Write, E: Write + Send>(
     rt: &R,
     inputs: &Inputs,
@@ -77,7 +77,8 @@ where
 
 /// Reads the files, does what is asked for, and returns the status. After a fault `err` also gets
 /// what more is known of it, but nothing if the reader of standard output has gone away. The error
-/// is the status if a file can't be read, which `err` has by then.
+/// is the status if a file can't be read or memory runs out before the command begins; that was
+/// printed by then.
 fn run_job<R, E: Write + Send>(rt: &R, err: &mut E, on_terminal: bool, ask: &Ask) -> Result<u8, u8>
 where
     R: Files + ReadsFiles + Input + Print + Eprint + AllocGlobal + Clock + Threads + Wait + Sync,
@@ -152,7 +153,7 @@ where
 }
 
 /// The words of the command line, the program's name first. An error other than out of memory means
-/// that one is no text.
+/// that one of them isn't text.
 fn words_of<R: Env + AllocGlobal>(rt: &R) -> io::Result<Vec<String>> {
     let mut words = Vec::new(rt.alloc());
     for word in std::env::args(rt)? {
@@ -161,6 +162,7 @@ fn words_of<R: Env + AllocGlobal>(rt: &R) -> io::Result<Vec<String>> {
     Ok(words)
 }
 
+/// Runs the program, which ends with the status of its command line.
 fn main(rt: HostRuntime) -> ExitCode {
     let words = match words_of(&rt) {
         Ok(words) => words,

@@ -18,8 +18,8 @@ impl<W: Write + Drop> Output<W> {
         }
     }
 
-    /// Whether the last fault is that its reader has gone away, as `head` does once it has its
-    /// lines.
+    /// Whether the last fault is that the reader of the output has gone away, as `head` does once
+    /// it has its lines.
     pub fn is_closed(&self) -> bool {
         match &self.fault {
             Some(error) => error.kind() == ErrorKind::BrokenPipe,
@@ -27,7 +27,8 @@ impl<W: Write + Drop> Output<W> {
         }
     }
 
-    /// Why a write or a flush failed, the last that did. None if none failed.
+    /// Why the last write or flush that failed did so. None if none failed, or if those that did
+    /// were only interrupted.
     pub fn fault(&self) -> Option<&io::Error> {
         self.fault.as_ref()
     }
@@ -53,7 +54,7 @@ impl<W: Write + Drop> Write for Output<W> {
         }
     }
 
-    /// Flushes the writer, whose error is kept as one of a write is.
+    /// Flushes the writer. If that fails, the fault is returned and kept as that of a write is.
     fn flush(&mut self) -> io::Result<()> {
         match self.writer.flush() {
             Ok(()) => Ok(()),

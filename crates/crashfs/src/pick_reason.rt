@@ -5,7 +5,7 @@ use cs_apm::Order;
 use std::alloc::{AllocError, Global};
 
 /// The first operation that the one at the place needs by any chain and that isn't in `places`.
-/// None if all that it needs are.
+/// None if `places` has all that it needs.
 fn missing_need(order: &Order, places: &[u32], place: usize) -> Option<usize>
     requires { place < length order.now }
 {
@@ -50,24 +50,27 @@ pub fn reason_of_pick(
     Ok(None)
 }
 
-/// How many holes have this last place: one for each earlier place that the operation there doesn't
-/// need by any chain.
+/// How many holes end at the place `last`: one for each earlier place that the operation at `last`
+/// doesn't need by any chain.
 fn count_holes_at(order: &Order, last: usize) -> u64
     requires { last < length order.now }
 {
     let mut count = 0u64;
     for missing in 0..last {
         if !order.needs_by_chain(missing, last) {
+            // at most `last`
             count = count.saturating_add(1);
         }
     }
     count
 }
 
-/// How many holes the order allows, each a prefix without one place that its last doesn't need.
+/// How many holes the order allows, each a prefix without one place that its last operation doesn't
+/// need. (The function of this name in cs_plan is private.)
 pub fn count_holes(order: &Order) -> u64 {
     let mut count = 0u64;
     for last in 0..order.len() {
+        // an order has at most MICRO_OPERATIONS places, so a u64 counts their pairs
         count = count.saturating_add(count_holes_at(order, last));
     }
     count

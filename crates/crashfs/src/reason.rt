@@ -11,7 +11,8 @@ use cs_trace::{TraceFault, TraceFaultKind};
 use std::alloc::{AllocError, Global};
 use std::io::Write;
 
-/// The line of that number of a text; lines count from 1. Empty if there is no such line.
+/// The line of that number of a text; lines count from 1, and 0 is as 1. Empty if the text has
+/// fewer lines.
 fn line_at(text: &str, number: usize) -> &str {
     text.split('\n').nth(number.saturating_sub(1)).unwrap_or("")
 }
@@ -37,7 +38,7 @@ fn count_of(alloc: Global, inputs: &Inputs, holes: bool) -> Option<usize> {
     Some(scene.plan().len())
 }
 
-/// The greatest number that is asked for; 0 if none is.
+/// The greatest number of these states; 0 if there is none.
 fn greatest_of(states: &States) -> u32 {
     match states {
         States::One(number) => *number,
@@ -46,8 +47,8 @@ fn greatest_of(states: &States) -> u32 {
     }
 }
 
-/// How many states there are, and with holes. None if no number past the last is asked for, or if
-/// there is no plan.
+/// How many states there are, and how many with `--holes` if that isn't given. None if each number
+/// of `states` has a state, or if there is no plan.
 fn reason_of_number(
     alloc: Global,
     inputs: &Inputs,
@@ -67,8 +68,8 @@ fn reason_of_number(
     Ok(Some(text))
 }
 
-/// Why a trace is refused, with its path and the number of the line. None if no more can be said
-/// than its fault.
+/// The reason of `reason_of_trace`, after the path of the trace and the number of the line. None if
+/// there is none.
 fn reason_at_line(
     alloc: Global,
     inputs: &Inputs,
@@ -83,8 +84,8 @@ fn reason_at_line(
     Ok(Some(text))
 }
 
-/// Why a plan is too large: how many states it may have, and this one would. None if even the
-/// prefixes have no plan.
+/// Why a plan is too large: how many states a plan may have, and how many states and holes this
+/// trace has. None if even its prefixes have no plan.
 fn reason_of_size(alloc: Global, inputs: &Inputs) -> Result<Option<String>, AllocError> {
     let most = PLAN_STATES;
     let prefixes = Inputs {
@@ -102,8 +103,8 @@ fn reason_of_size(alloc: Global, inputs: &Inputs) -> Result<Option<String>, Allo
     Ok(Some(text))
 }
 
-/// Why the pick of that number is not allowed. None if there is no such pick, or no plan of
-/// prefixes.
+/// Why the pick of that number in the picks file is not allowed. None if the file has no such pick,
+/// if it can't be read again, or if the prefixes have no plan.
 fn reason_of_picks(
     alloc: Global,
     inputs: &Inputs,
@@ -124,7 +125,7 @@ fn reason_of_picks(
     }
 }
 
-/// Why a trace has no plan. None if out of memory, which needs no reason.
+/// Why a trace has no plan. None if no more can be said than the fault, as of out of memory.
 fn reason_of_scene(
     alloc: Global,
     inputs: &Inputs,

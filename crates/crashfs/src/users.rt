@@ -4,7 +4,8 @@ use serde_json::Value;
 use std::alloc::{AllocError, Global};
 
 /// Adds the owner and the group that a line of a trace names, unless they are there. A line that
-/// isn't JSON names none. A name that is empty or has a colon isn't added: no users file has it.
+/// isn't JSON names none. A name that is empty or has a colon isn't added: no users file has it. An
+/// error is out of memory; the owner may be added then.
 fn add_names(alloc: Global, line: &str, names: &mut Vec<String>) -> Result<(), AllocError> {
     let Ok(value) = Value::from_str(alloc, line) else {
         return Ok(());

@@ -21,7 +21,7 @@ use Rattle.cs_apm.specs.States as states
 use Rattle.cs_apm.specs.declared.slot.Slot.{Slot}
 use Rattle.cs_apm.specs.declared.slot.Slot.TheVariants.{Nothing, Directory, File}
 use Rattle.cs_apm.specs.declared.slot.Step.{Step}
-use Rattle.cs_apm.specs.declared.slot.Step.TheVariants.{Set, Move, Own, Other}
+use Rattle.cs_apm.specs.declared.slot.Step.TheVariants.{Set, Move, SetRights, Other}
 use Rattle.cs_apm.specs.Slots.{AreAscending, AreKnown, AreKnownSteps, AreSteps, HasRights, HasStepRights, HaveRights, HaveStepRights}
 use Rattle.cs_apm.specs.Slots.{IsKnown, IsKnownStep, IsStep, Mirror, entry_of, path_at, slot_at, step_at}
 use Rattle.cs_apm.specs.Laws.Mirrors.{at_place, step_is}
@@ -115,7 +115,8 @@ known_step rights paths n f (LinkDirEntry p m) (Set i (File k)) long below have 
     (subst (λ w. i < w) (sym long) is.0.0, subst (λ w. w < f) (sym is.1) below)
 known_step rights paths n f (ChangeFileSize file size) Other long below have is = tt
 known_step rights paths n f (WriteBlock file block start at bytes) Other long below have is = tt
-known_step rights paths n f (SetAttr (targets.Directory p) r) (Own i k) long below have is = (subst (λ w. i < w) (sym long) is.0.0, have)
+known_step rights paths n f (SetAttr (targets.Directory p) r) (SetRights i k) long below have is =
+    (subst (λ w. i < w) (sym long) is.0.0, have)
 known_step rights paths n f (SetAttr (targets.File m) r) Other long below have is = tt
 known_step rights paths n f Say Other long below have is = tt
 known_step rights paths n f o s long below have is = absurd is

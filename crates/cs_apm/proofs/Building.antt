@@ -19,7 +19,7 @@ use Rattle.cs_apm.specs.Slots.{AreKnown, FitsIn, IsKnownStep, entries_of_slots, 
 use Rattle.cs_apm.specs.States.{crash_state_of, entries_after, record_of, records_of, start_state, state_of}
 use Rattle.cs_apm.specs.declared.slot.Slot.{Slot}
 use Rattle.cs_apm.specs.declared.slot.Step.{Step}
-use Rattle.cs_apm.specs.declared.slot.Step.TheVariants.{Set, Move, Own, Other}
+use Rattle.cs_apm.specs.declared.slot.Step.TheVariants.{Set, Move, SetRights, Other}
 use Rattle.cs_apm.specs.Laws.Mirrors.{mirror_is}
 use Rattle.cs_apm.specs.Laws.Starts.{start_nodes}
 use Rattle.cs_apm.specs.Laws.Trees.{nodes_in, paths_left, state_nested}
@@ -28,7 +28,7 @@ use Rattle.cs_apm.proofs.Folding.{all_inside, fold_known, fold_mirrored}
 step_fits : (n r f : ℕ) (s : Step) → IsKnownStep n r f s → FitsIn n s
 step_fits n r f (Set i s) h = h.0
 step_fits n r f (Move i j) h = h
-step_fits n r f (Own i k) h = h.0
+step_fits n r f (SetRights i k) h = h.0
 step_fits n r f Other h = tt
 
 module _ (t : Trace) (m : Micros) (a : Atlas) (is : IsAtlas t m.ops a) where

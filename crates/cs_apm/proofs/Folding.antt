@@ -13,7 +13,7 @@ use Rattle.cs_apm.specs.States.{Content, entries_after}
 use Rattle.cs_apm.specs.declared.slot.Slot.{Slot}
 use Rattle.cs_apm.specs.declared.slot.Slot.TheVariants.{Nothing, Directory, File}
 use Rattle.cs_apm.specs.declared.slot.Step.{Step}
-use Rattle.cs_apm.specs.declared.slot.Step.TheVariants.{Set, Move, Own, Other}
+use Rattle.cs_apm.specs.declared.slot.Step.TheVariants.{Set, Move, SetRights, Other}
 use Rattle.cs_apm.specs.Slots.{slot_at, step_at, moved_slot, owned_slot, slots_after, AreAscending, entries_of_slots, AreSteps, IsKnown}
 use Rattle.cs_apm.specs.Slots.{AreKnown, IsKnownStep, AreKnownSteps}
 use Rattle.cs_apm.specs.Laws.Mirrors.{length_after, fold_mirror, mirror_is, mirror_of}
@@ -47,7 +47,7 @@ module _ (n r f : ℕ) where
   known_after slots (Set i s) long known is = known_set slots i s (subst (λ w. i < w) (sym long) is.0) known is.1
   known_after slots (Move i j) long known is =
       known_moved slots i j (slot_at slots i) (subst (λ w. i < w) (sym long) is.0) (subst (λ w. j < w) (sym long) is.1) known (known i)
-  known_after slots (Own i k) long known is = known_owned slots i k (slot_at slots i) (subst (λ w. i < w) (sym long) is.0) is.1 known
+  known_after slots (SetRights i k) long known is = known_owned slots i k (slot_at slots i) (subst (λ w. i < w) (sym long) is.0) is.1 known
   known_after slots Other long known is = known
 
   pub fold_known : (rights : List Rights) (steps : List Step) → AreKnownSteps n r f steps → (places : List ℕ) (slots : List Slot)

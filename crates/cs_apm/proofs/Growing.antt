@@ -21,7 +21,7 @@ use Rattle.cs_apm.specs.States as states
 use Rattle.cs_apm.specs.declared.slot.Slot.{Slot}
 use Rattle.cs_apm.specs.declared.slot.Slot.TheVariants.{Nothing, Directory, File}
 use Rattle.cs_apm.specs.declared.slot.Step.{Step}
-use Rattle.cs_apm.specs.declared.slot.Step.TheVariants.{Set, Move, Own, Other}
+use Rattle.cs_apm.specs.declared.slot.Step.TheVariants.{Set, Move, SetRights, Other}
 use Rattle.cs_apm.specs.Slots.{AreAscending, AreSteps, Grows, HasRights, HasStepRights, HaveRights, HaveStepRights, IsPlace, IsStep, Mirror}
 use Rattle.cs_apm.specs.Slots.{entry_of, slot_at, slot_entry}
 use Rattle.cs_apm.specs.Laws.Mirrors.{get_inserted, set_mirror}
@@ -81,7 +81,7 @@ module _ (old new : List Rights) (grows : Grows old new) where
   step_kept paths (LinkDirEntry p n) (Set i (File k)) h is = is
   step_kept paths (ChangeFileSize n size) Other h is = tt
   step_kept paths (WriteBlock n block start at bytes) Other h is = tt
-  step_kept paths (SetAttr (targets.Directory p) r) (Own i k) h is = (is.0, grows.same k h ∙ is.1)
+  step_kept paths (SetAttr (targets.Directory p) r) (SetRights i k) h is = (is.0, grows.same k h ∙ is.1)
   step_kept paths (SetAttr (targets.File n) r) Other h is = tt
   step_kept paths Say Other h is = tt
   step_kept paths o s h is = absurd is
@@ -96,7 +96,7 @@ module _ (old new : List Rights) (grows : Grows old new) where
   step_rights_kept : (s : Step) → HasStepRights (length old) s → HasStepRights (length new) s
   step_rights_kept (Set i s) h = more_rights (length old) (length new) s grows.long h
   step_rights_kept (Move i j) h = tt
-  step_rights_kept (Own i k) h = (let more = grows.long in omega (arith, h, more))
+  step_rights_kept (SetRights i k) h = (let more = grows.long in omega (arith, h, more))
   step_rights_kept Other h = tt
 
   pub have_more : (steps : List Step) (s : Step) → HaveStepRights (length old) steps → HasStepRights (length new) s

@@ -3,7 +3,7 @@ use Rattle.std.specs.Prelude.{◌≡◌, ℕ, ◌||◌, ◌==◌, Bool, true, fa
 use Rattle.std.specs.Prelude.{length, nat_le, nat_lt, slice_get}
 use Rattle.cs_micro.specs.declared.micro_op.MicroOp.{MicroOp}
 use Rattle.cs_micro.specs.declared.sync_point.SyncPoint.{SyncPoint}
-use Rattle.cs_apm.specs.declared.found.Makers.{Makers}
+use Rattle.cs_apm.specs.declared.found.ParentCreates.{ParentCreates}
 use Rattle.cs_apm.specs.Rules.{is_synced, op_at}
 
 -- the place that was found
@@ -21,8 +21,8 @@ abbrev pub is_before : ℕ → Option ℕ → Bool
 is_before place None = true
 is_before place (Some at) = nat_lt place at
 
-abbrev pub is_maker : Makers → ℕ → Bool
-is_maker makers i = is_at makers.first i || is_at makers.second i
+abbrev pub is_parent_create : ParentCreates → ℕ → Bool
+is_parent_create parents i = is_at parents.first i || is_at parents.second i
 
 -- for each of the first n micro-operations the first sync after it that covers it
 pub record AreSynced (ops : List MicroOp) (syncs : List SyncPoint) (n : ℕ)

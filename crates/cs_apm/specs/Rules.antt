@@ -41,8 +41,8 @@ abbrev pub paths_named : MicroOp → List Path
 paths_named (SetAttr (targets.Directory p) rights) = p ∷ []
 paths_named op = paths_touched op
 
-abbrev pub names : MicroOp → Path → Bool
-names op path = list_any (λ p. path_eq p path) (paths_named op)
+abbrev pub names_path : MicroOp → Path → Bool
+names_path op path = list_any (λ p. path_eq p path) (paths_named op)
 
 -- it touches an entry of the directory
 abbrev pub touches_entry_of : MicroOp → Path → Bool
@@ -78,7 +78,7 @@ same_block_or_size _ _ = false
 
 -- P2: both name one path
 abbrev pub shares_path : MicroOp → MicroOp → Bool
-shares_path a b = list_any (names a) (paths_named b)
+shares_path a b = list_any (names_path a) (paths_named b)
 
 -- the places after i and before j
 abbrev pub places_between : ℕ → ℕ → List ℕ

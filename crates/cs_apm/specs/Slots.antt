@@ -19,7 +19,7 @@ use Rattle.cs_apm.specs.States as states
 use Rattle.cs_apm.specs.declared.slot.Slot.{Slot}
 use Rattle.cs_apm.specs.declared.slot.Slot.TheVariants.{Nothing, Directory, File}
 use Rattle.cs_apm.specs.declared.slot.Step.{Step}
-use Rattle.cs_apm.specs.declared.slot.Step.TheVariants.{Set, Move, Own, Other}
+use Rattle.cs_apm.specs.declared.slot.Step.TheVariants.{Set, Move, SetRights, Other}
 
 abbrev pub slot_at : List Slot → ℕ → Slot
 slot_at slots i = slice_index_or slots i Nothing
@@ -40,14 +40,14 @@ owned_slot i k slots _ = slots
 abbrev pub slots_after : List Slot → Step → List Slot
 slots_after slots (Set i s) = slice_set slots i s
 slots_after slots (Move i j) = moved_slot i j slots (slot_at slots i)
-slots_after slots (Own i k) = owned_slot i k slots (slot_at slots i)
+slots_after slots (SetRights i k) = owned_slot i k slots (slot_at slots i)
 slots_after slots Other = slots
 
 -- the step's slots are there
 abbrev pub FitsIn : ℕ → Step → Type 0
 FitsIn n (Set i s) = i < n
 FitsIn n (Move i j) = (i < n) × (j < n)
-FitsIn n (Own i k) = i < n
+FitsIn n (SetRights i k) = i < n
 FitsIn n Other = Unit {0}
 
 -- ---- what the slots mean
@@ -111,7 +111,7 @@ IsStep rights paths (MoveDirEntry p q) (Move i j) = IsPlace paths i p × IsPlace
 IsStep rights paths (LinkDirEntry p n) (Set i (File k)) = IsPlace paths i p × (k ≡ n)
 IsStep rights paths (ChangeFileSize n size) Other = Unit {0}
 IsStep rights paths (WriteBlock n block start at bytes) Other = Unit {0}
-IsStep rights paths (SetAttr (targets.Directory p) r) (Own i k) =
+IsStep rights paths (SetAttr (targets.Directory p) r) (SetRights i k) =
     IsPlace paths i p × (rights_at rights k ≡ r)
 IsStep rights paths (SetAttr (targets.File n) r) Other = Unit {0}
 IsStep rights paths Say Other = Unit {0}
@@ -137,7 +137,7 @@ AreKnown rights files slots = (i : ℕ) → IsKnown rights files (slot_at slots 
 abbrev pub IsKnownStep : ℕ → ℕ → ℕ → Step → Type 0
 IsKnownStep n rights files (Set i s) = (i < n) × IsKnown rights files s
 IsKnownStep n rights files (Move i j) = (i < n) × (j < n)
-IsKnownStep n rights files (Own i k) = (i < n) × (k < rights)
+IsKnownStep n rights files (SetRights i k) = (i < n) × (k < rights)
 IsKnownStep n rights files Other = Unit {0}
 
 abbrev pub AreKnownSteps : ℕ → ℕ → ℕ → List Step → Type 0
@@ -162,7 +162,7 @@ HaveRights n slots = (i : ℕ) → HasRights n (slot_at slots i)
 abbrev pub HasStepRights : ℕ → Step → Type 0
 HasStepRights n (Set i s) = HasRights n s
 HasStepRights n (Move i j) = Unit {0}
-HasStepRights n (Own i k) = k < n
+HasStepRights n (SetRights i k) = k < n
 HasStepRights n Other = Unit {0}
 
 abbrev pub HaveStepRights : ℕ → List Step → Type 0

@@ -41,7 +41,7 @@ impl FileContent {
     }
 
     /// Changes the size. A smaller size drops every byte past it, hidden ones too; a larger one
-    /// shows the hidden bytes before it.
+    /// shows the hidden bytes that are before it; the same one changes nothing.
     fn resize(&mut self, size: u64)
         ensures { self.new ≡ content_with_size size self.old }
     {
@@ -51,8 +51,8 @@ impl FileContent {
         self.size = size;
     }
 
-    /// Writes the piece at the offset `at`, and leaves the size. If the bytes end before `at`,
-    /// those between are zero. After an error the content must not be used.
+    /// Writes the piece at the offset `at`. The size stays, so what is past it is hidden. If the
+    /// bytes end before `at`, those between are zero. After an error the content must not be used.
     fn overwrite(&mut self, at: usize, piece: &[u8]) -> Result<(), AllocError>
         requires { at + length piece.now ≤ FILE_BYTES }
         ensures { OnOk result (self.new ≡ overwritten at piece.now self.old) }
@@ -62,8 +62,9 @@ impl FileContent {
         Ok(())
     }
 
-    /// Applies a change of size or a write to this content, whichever file it names; any other
-    /// micro-operation changes nothing. After an error the content must not be used.
+    /// Applies a change of size or a write (as in `changes_file`) to this content, whichever file
+    /// it names; any other micro-operation changes nothing. After an error the content must not be
+    /// used. `apply_to_part` of cs_state does the same to a part.
     fn apply(&mut self, op: &MicroOp) -> Result<(), AllocError>
         requires { IsSmall op.now }
         ensures { OnOk result (self.new ≡ content_after_op self.old op.now) }
@@ -103,7 +104,7 @@ impl FileContent {
         Ok(())
     }
 
-    /// The bytes that show: those up to the size. Those that nothing wrote are zero.
+    /// The bytes that show: as many as the size says, with zeros for those that nothing wrote.
     pub fn into_visible(self) -> Result<Vec<u8>, AllocError>
         ensures { IfOk result (λ bytes. bytes.items ≡ visible self) }
     {
@@ -114,7 +115,7 @@ impl FileContent {
     }
 }
 
-/// Appends zeros until there are `end` bytes; nothing if there are as many already.
+/// Appends zeros until there are `end` bytes; nothing if there are as many or more already.
 fn pad(bytes: &mut Vec<u8>, end: usize) -> Result<(), AllocError>
     ensures { OnOk result (bytes.new.items ≡ padded end bytes.old.items) }
 {
@@ -132,7 +133,8 @@ pub fn put_at(bytes: &mut [u8], at: usize, piece: &[u8])
     bytes[at..at + piece.len()].copy_from_slice(piece);
 }
 
-/// Whether the micro-operation changes the size or the bytes of the file of this number.
+/// Whether the micro-operation changes the size or the bytes of the file of this number. `apply`
+/// and `mark_changed` have the same two kinds, and `writes_or_resizes` of cs_state.
 pub fn changes_file(file: u32, op: &MicroOp) -> bool
     ensures { result ≡ changes_file file op.now }
 {

@@ -12,7 +12,7 @@ use cs_tree_model::Record;
 use std::alloc::{AllocError, Global};
 
 /// A copy of the bytes of the record's file; empty if it is a directory.
-fn bytes_of(alloc: Global, file: &Record) -> Result<Vec<u8>, AllocError>
+fn copy_bytes(alloc: Global, file: &Record) -> Result<Vec<u8>, AllocError>
     ensures { IfOk result (λ bytes. bytes.items ≡ bytes_of file.now) }
 {
     match file.content.try_clone(alloc)?.into_bytes() {
@@ -23,7 +23,8 @@ fn bytes_of(alloc: Global, file: &Record) -> Result<Vec<u8>, AllocError>
 
 /// The content of the file before any micro-operation: that at the start, or no byte if a
 /// micro-operation makes the file. `starts` has the place of the record of each file at the start.
-/// `_ops` is for the contract only, which speaks of the files that they make, too.
+/// `_ops` is for the contract only, which speaks of the files that micro-operations make, too.
+/// `start_bytes` of cs_state lends the same bytes.
 fn file_before(
     alloc: Global,
     trace: &Trace,
@@ -38,12 +39,12 @@ fn file_before(
         return Ok(FileContent::of(Vec::new(alloc)));
     }
     let record = &trace.records()[starts[file as usize] as usize].1;
-    let bytes = bytes_of(alloc, record)?;
+    let bytes = copy_bytes(alloc, record)?;
     Ok(FileContent::of(bytes))
 }
 
-/// The content of the file after the members of a set, which are at these places. `changed` says
-/// for each file whether any micro-operation changes it; one that none changes is only copied.
+/// The content of the file after the members of a set, which are at these places. `starts` and
+/// `changed` are those of `Tables`; a file that no micro-operation changes is only copied.
 fn file_left(
     alloc: Global,
     trace: &Trace,
@@ -68,8 +69,8 @@ fn file_left(
     Ok(content)
 }
 
-/// The bytes that the file shows after the members of a set, which are at these places. The other
-/// arguments are as in `file_left`.
+/// The bytes that the file shows after the members of a set, which are at these places. `starts`
+/// and `changed` are those of `Tables`.
 pub fn bytes_left(
     alloc: Global,
     trace: &Trace,

@@ -1,8 +1,9 @@
 //! What is found once for each micro-operation: the latest creates of the directories of the paths
-//! that it names, and the first sync after it that covers it.
+//! that it names, and the first sync after it that covers it. The place of a sync point is how many
+//! micro-operations come before it.
 ghost use Rattle.std.specs.Prelude.{◌≡◌, ◌<◌, ◌≤◌, ℕ, length, IfOk};
 ghost use Rattle.cs_tree_model.specs.Tree.{parent_path};
-ghost use Rattle.cs_apm.specs.Finding.{AreSynced, is_at, is_before, is_by, is_maker};
+ghost use Rattle.cs_apm.specs.Finding.{AreSynced, is_at, is_before, is_by, is_parent_create};
 ghost use Rattle.cs_apm.specs.Rules as rules;
 
 use crate::rules::{creates_parent, is_covered, op_at};
@@ -14,8 +15,10 @@ use std::alloc::{AllocError, Global};
 /// The latest creates of the parent directories of the paths that a micro-operation names. There
 /// are at most two.
 #[derive(Clone, Copy, Debug)]
-pub struct Makers {
+pub struct ParentCreates {
+    /// The one for the named path, or for the path that a move is from; None if there is none.
     first: Option<usize>,
+    /// The one for the path that a move is to; None if there is none, and if it is no move.
     second: Option<usize>,
 }
 
@@ -35,12 +38,12 @@ fn latest_create(ops: &[MicroOp], j: usize, path: &Path) -> Option<usize>
     latest
 }
 
-impl Makers {
+impl ParentCreates {
     /// The latest creates, before micro-operation `j`, of the parent directories of the paths that
-    /// it names; none if it names no path.
-    pub fn of(ops: &[MicroOp], j: usize) -> Makers
+    /// it names (those of `names_path`); none if it names no path.
+    pub fn of(ops: &[MicroOp], j: usize) -> ParentCreates
         requires { j < length ops.now }
-        ensures { (i : ℕ) → i < j → is_maker result i ≡ rules.makes_parent ops.now i j }
+        ensures { (i : ℕ) → i < j → is_parent_create result i ≡ rules.makes_parent ops.now i j }
     {
         let (first, second) = match op_at(ops, j) {
             MicroOp::CreateDirEntry { path, .. } => (latest_create(ops, j, path), None),
@@ -53,20 +56,26 @@ impl Makers {
                 target: Target::Directory(path),
                 ..
             } => (latest_create(ops, j, path), None),
-            _ => (None, None),
+            MicroOp::SetAttr {
+                target: Target::File(_),
+                ..
+            }
+            | MicroOp::ChangeFileSize { .. }
+            | MicroOp::WriteBlock { .. }
+            | MicroOp::Say => (None, None),
         };
-        Makers { first, second }
+        ParentCreates { first, second }
     }
 
     /// Whether the micro-operation at this place is one of these creates.
-    pub fn has(&self, place: usize) -> bool
-        ensures { result ≡ is_maker self.now place }
+    pub fn has_create_at(&self, place: usize) -> bool
+        ensures { result ≡ is_parent_create self.now place }
     {
         is_at(self.first, place) || is_at(self.second, place)
     }
 }
 
-/// Whether a place was found, and it is this one.
+/// Whether a place was found, and this is the place.
 fn is_at(found: Option<usize>, place: usize) -> bool
     ensures { result ≡ is_at found place }
 {
@@ -76,8 +85,8 @@ fn is_at(found: Option<usize>, place: usize) -> bool
     }
 }
 
-/// How many micro-operations come before the first sync point that is after `op`, which is at place
-/// `i`, and covers it. None if no sync point does.
+/// The place of the first sync point that is after `op`, which is at place `i`, and covers it. None
+/// if no sync point does.
 fn first_sync(syncs: &[SyncPoint], i: usize, op: &MicroOp) -> Option<usize>
     ensures { (j : ℕ) → is_by result j ≡ rules.is_synced syncs.now i j op.now }
 {
@@ -90,7 +99,7 @@ fn first_sync(syncs: &[SyncPoint], i: usize, op: &MicroOp) -> Option<usize>
     first
 }
 
-/// Whether the place is before the one that was found; true if none was.
+/// Whether the place is before the one that was found; true if none was found.
 fn is_before(place: usize, found: Option<usize>) -> bool
     ensures { result ≡ is_before place found }
 {
@@ -100,7 +109,7 @@ fn is_before(place: usize, found: Option<usize>) -> bool
     }
 }
 
-/// Whether a place was found, and it isn't after `j`.
+/// Whether a place was found, and it is `j` or before `j`.
 pub fn is_by(found: Option<usize>, j: usize) -> bool
     ensures { result ≡ is_by found j }
 {
@@ -110,8 +119,8 @@ pub fn is_by(found: Option<usize>, j: usize) -> bool
     }
 }
 
-/// For each micro-operation, how many come before the first sync point that is after it and covers
-/// it. None if no sync point does.
+/// For each micro-operation, the place of the first sync point that is after it and covers it. None
+/// if no sync point does.
 pub fn first_syncs(
     alloc: Global,
     ops: &[MicroOp],

@@ -18,8 +18,8 @@ use cs_micro::Micros;
 use cs_names::laws::know;
 use cs_trace::Trace;
 
-/// The tests of the rules say the same as the rules as sentences, and as the order of a trace. What
-/// a micro-operation needs is before it.
+/// The rules as tests, the rules as sentences, and the order of a trace agree on what needs what,
+/// and so on which sets are allowed. What a micro-operation needs is before it.
 pub fn rules_are_sentences(micros: &Micros)
     ensures sentences { (i j : ℕ) → (needs_of micros.now i j ≡ true)
         ↔ Needs micros.now.ops micros.now.syncs micros.now.version i j }
@@ -31,8 +31,8 @@ pub fn rules_are_sentences(micros: &Micros)
         ↔ IsAllowed (needs_of micros.now) (length micros.now.ops) places }
 {}
 
-/// In the first two versions, a trace without a link has the order of the eight rules that ask
-/// nothing of the version but its profile.
+/// In the first two versions, a trace without a link has the order of the eight rules that depend
+/// on nothing of the version but its profile.
 pub fn earlier_versions_keep_their_rules(micros: &Micros)
     requires version { says_first micros.now.version ≡ false }
     requires links { All IsNoLink micros.now.ops }
@@ -47,7 +47,7 @@ pub fn chains_are_chains(order: &Order)
     ensures { (i j : ℕ) → (by_chain (needs_in order.now) i j ≡ true)
         ↔ ((n : ℕ) × Chain (needs_in order.now) n i j) }
 {
-    // that an order is short, and that each operation needs only earlier ones
+    // By the contract of `len`, an order is short, and each operation needs only earlier ones.
     know(order.len());
 }
 
@@ -58,6 +58,6 @@ pub fn states_are_trees(trace: &Trace, micros: &Micros)
     ensures { (places : List ℕ) → IsAllowed (needs_of micros.now) (length micros.now.ops) places
         → IsTree (crash_state_of trace.now micros.now places) }
 {
-    // by the trace's contract the paths at the start are nested
+    // By the contract of `operations`, the paths at the start are nested.
     know(trace.operations());
 }

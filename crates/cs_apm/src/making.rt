@@ -23,7 +23,8 @@ use cs_tree_model::{Content, DMDIR, Record};
 use std::alloc::{AllocError, Global};
 
 /// A record that was never changed: version and times are 0, and the owner is also the user who
-/// changed it last. `bit` is DMDIR for a directory, 0 for a file.
+/// changed it last. `bit` is DMDIR for a directory, 0 for a file; of the permissions, the lowest
+/// nine bits count. `unchanged_metadata` of cs_state is the metadata of such a record.
 fn record_with(
     number: u64,
     rights: &Rights,
@@ -95,7 +96,7 @@ fn record_at(
 
 /// The records of what is in the slots, one for each path, after the members of a set, which are at
 /// these places. They are in the order of paths and numbered from 0; an empty slot has none.
-fn records(
+fn records_of_slots(
     alloc: Global,
     trace: &Trace,
     ops: &[MicroOp],
@@ -128,8 +129,8 @@ fn records(
 }
 
 /// The store of what is in the slots, one for each path, after the members of a set, which are at
-/// these places. The members' steps are made in the slots already; files get their bytes and owners
-/// here.
+/// these places. The caller has made the members' steps in the slots; files get their bytes and
+/// owners here.
 pub fn store_of(
     alloc: Global,
     trace: &Trace,
@@ -156,6 +157,6 @@ pub fn store_of(
         (files_left trace.now ops.now places.now))
         (entries_of_slots tables.now.rights.items tables.now.paths.items slots.now))) }
 {
-    let records = records(alloc, trace, ops, tables, places, slots)?;
+    let records = records_of_slots(alloc, trace, ops, tables, places, slots)?;
     PlainTree::from_records(alloc, records)
 }

@@ -1,6 +1,6 @@
 //! The order of a trace's micro-operations, and the sets of them that a crash may leave.
 ghost use Rattle.std.specs.Prelude.{◌≡◌, ◌↔◌, ℕ, ◌<◌, ◌≤◌, length, IfOk, IsTrue, true};
-ghost use Rattle.cs_apm.specs.Bits.{has_place, has_bit};
+ghost use Rattle.cs_apm.specs.Bits.{has_place};
 ghost use Rattle.cs_apm.specs.Chains.{IsBackward, by_chain};
 ghost use Rattle.cs_apm.specs.Orders.{needs_in, order_of};
 ghost use Rattle.cs_apm.specs.Sets.{IsAllowed};
@@ -60,16 +60,7 @@ impl Order {
         requires second { j < length self.now }
         ensures { result ≡ needs_in self.now i j }
     {
-        self.rows[j].has(i)
-    }
-
-    /// What the micro-operation at place `j` needs, as a bit for each place: 64 places to a word,
-    /// from the lowest bit on.
-    pub fn row(&self, j: usize) -> &[u64; 16]
-        requires { j < length self.now }
-        ensures { (i : ℕ) → i < MICRO_OPERATIONS → has_bit result.now i ≡ needs_in self.now i j }
-    {
-        self.rows[j].words()
+        self.rows[j].has_place(i)
     }
 
     /// Whether the micro-operation at place `j` needs the one at place `i` by any chain: directly,
@@ -79,7 +70,7 @@ impl Order {
         requires second { j < length self.now }
         ensures { result ≡ by_chain (needs_in self.now) i j }
     {
-        self.reach[j].has(i)
+        self.reach[j].has_place(i)
     }
 
     /// Whether everything that the micro-operation at place `j` needs is among these members.
@@ -93,7 +84,7 @@ impl Order {
     }
 
     /// Whether a crash may leave exactly the micro-operations at these places: the places ascend
-    /// strictly, each is in range, and all that each needs is among them.
+    /// strictly, each is in range, and all that each needs is among them. True if there are none.
     pub fn is_allowed(&self, places: &[u32]) -> bool
         ensures { IsTrue result ↔ IsAllowed (needs_in self.now) (length self.now) places.now }
     {

@@ -22,7 +22,8 @@ pub fn owner_after<'a>(file: u32, owner: &'a Rights, op: &'a MicroOp) -> &'a Rig
 }
 
 /// Owner, group and permissions of the file after the members of a set, which are at these places.
-/// `owners` has those of each file as it is made, by its number.
+/// `owners` has those of each file as it is made, by its number. `owner_after_members` of cs_state
+/// gives the same by a search.
 pub fn owner_left<'a>(
     owners: &'a [Rights],
     ops: &'a [MicroOp],

@@ -14,7 +14,7 @@ use cs_trace::Target;
 use cs_tree_model::Record;
 use std::alloc::{AllocError, Global};
 
-/// Inserts a copy of the path in its order, unless the path is there already. An error leaves the
+/// Inserts a copy of the path in its order, unless the path is there already. An error keeps the
 /// paths that were there.
 pub fn add_path(alloc: Global, paths: &mut Vec<Path>, path: &Path) -> Result<(), AllocError>
     requires { AreAscending paths.old.items }
@@ -32,7 +32,8 @@ pub fn add_path(alloc: Global, paths: &mut Vec<Path>, path: &Path) -> Result<(),
     Ok(())
 }
 
-/// Inserts the paths of the records, each in its order.
+/// Inserts the paths of the records, each in its order. An error keeps the paths that were there;
+/// some of the records' may have been inserted.
 fn add_starts(
     alloc: Global,
     paths: &mut Vec<Path>,
@@ -54,7 +55,8 @@ fn add_starts(
 }
 
 /// Inserts the paths that a micro-operation names: two of a move, one of another change of an entry
-/// or of a directory's rights, and else none. An error leaves the paths that were there.
+/// or of a directory's rights, and otherwise none (as `names_path` has them). An error keeps the
+/// paths that were there; one of a move's may have been inserted.
 fn add_named(alloc: Global, paths: &mut Vec<Path>, op: &MicroOp) -> Result<(), AllocError>
     requires { AreAscending paths.old.items }
     ensures ascending { OnOk result (AreAscending paths.new.items) }
@@ -76,7 +78,13 @@ fn add_named(alloc: Global, paths: &mut Vec<Path>, op: &MicroOp) -> Result<(), A
             target: Target::Directory(path),
             ..
         } => add_path(alloc, paths, path)?,
-        _ => {}
+        MicroOp::SetAttr {
+            target: Target::File(_),
+            ..
+        }
+        | MicroOp::ChangeFileSize { .. }
+        | MicroOp::WriteBlock { .. }
+        | MicroOp::Say => {}
     }
     Ok(())
 }
@@ -105,13 +113,14 @@ pub fn paths_of(
 }
 
 /// The place, from 0, of the path among these paths, which must have it.
-pub fn place_of(paths: &[Path], path: &Path) -> usize
+pub fn place_of_path(paths: &[Path], path: &Path) -> usize
     requires ascending { AreAscending paths.now }
     requires there { Contains paths.now path.now }
     ensures { IsPlace paths.now result path.now }
 {
     match paths.binary_search(path) {
         Ok(place) => place,
-        Err(place) => place,
+        // By `requires`, the path is among these.
+        Err(_) => unreachable!(),
     }
 }

@@ -1,6 +1,7 @@
 //! Rights (owner, group and permissions) as they are set in the course of a trace, in two tables:
-//! those of directories, which slots refer to by place, and those of each file as it is made. An
-//! error is that memory ran out; then the tables are dropped.
+//! those of directories, which slots refer to by place, and those of each file as it is made. In
+//! `owners_of`, as in `owners`, all three are meant. An error is that memory ran out; then the
+//! tables are dropped.
 ghost use Rattle.std.specs.Prelude.{◌≡◌, [], ◌∷◌, ◌+◌, ◌<◌, ◌≤◌, ◌++◌, ◌^◌, Some, length, map};
 ghost use Rattle.std.specs.Prelude.{IfOk, OnOk, slice_index_or};
 ghost use Rattle.std.specs.List.{All};
@@ -15,7 +16,8 @@ use cs_trace::{Node, Rights};
 use cs_tree_model::Record;
 use std::alloc::{AllocError, Global};
 
-/// The rights of a record at the start, copied.
+/// The rights of a record at the start, copied. The permissions are the lowest nine bits of its
+/// mode.
 fn rights_of(start: &Record) -> Result<Rights, AllocError>
     ensures { IfOk result (λ rights. rights ≡ rights_of start.now) }
 {
@@ -39,7 +41,7 @@ fn push_rights(table: &mut Vec<Rights>, rights: Rights) -> Result<u32, AllocErro
     Ok(place)
 }
 
-/// Appends a copy of the rights to the table, and returns its place in it.
+/// Appends a copy of the rights to the table, and returns the copy's place in it.
 pub fn push_copy(table: &mut Vec<Rights>, rights: &Rights) -> Result<u32, AllocError>
     requires { length table.old.items < 2 ^ 32 }
     ensures value { IfOk result (λ place. rights_at table.new.items place ≡ rights.now) }
@@ -100,7 +102,7 @@ fn push_starts(
 }
 
 /// Appends the rights of the file that the micro-operation makes; nothing if it makes none.
-fn push_made(table: &mut Vec<Rights>, op: &MicroOp) -> Result<(), AllocError>
+fn push_made_rights(table: &mut Vec<Rights>, op: &MicroOp) -> Result<(), AllocError>
     ensures { OnOk result (table.new.items ≡ table.old.items ++ owners_made (op.now ∷ [])) }
 {
     if let MicroOp::CreateDirEntry {
@@ -130,7 +132,7 @@ pub fn owners_of(
     let mut owners = Vec::new(alloc);
     push_starts(&mut owners, records, places)?;
     for op in ops {
-        push_made(&mut owners, op)?;
+        push_made_rights(&mut owners, op)?;
     }
     Ok(owners)
 }

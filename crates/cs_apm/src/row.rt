@@ -1,16 +1,18 @@
 //! Rows of bits, one for each micro-operation of a trace.
 ghost use Rattle.std.specs.Prelude.{◌≡◌, ◌==◌, ◌||◌, ℕ, ◌<◌, false, true, IsTrue, ◌↔◌};
-ghost use Rattle.cs_apm.specs.Bits.{has_place, has_bit};
+ghost use Rattle.cs_apm.specs.Bits.{has_place};
 
 use cs_names::limits::MICRO_OPERATIONS;
 
-/// How many words a row has: a bit for each of MICRO_OPERATIONS places.
+/// How many words of 64 bits a row has: a bit for each of MICRO_OPERATIONS places, with which it
+/// must change.
 const WORDS: usize = 16;
 
-/// A set of places below MICRO_OPERATIONS, as a bit for each.
+/// A set of places below MICRO_OPERATIONS, as a bit for each: 64 places to a word, from the lowest
+/// bit on.
 #[derive(Clone, Copy, Debug)]
 pub struct Row {
-    words: [u64; 16],
+    words: [u64; WORDS],
 }
 
 impl Row {
@@ -18,18 +20,11 @@ impl Row {
     pub fn empty() -> Row
         ensures { (k : ℕ) → has_place result k ≡ false }
     {
-        Row { words: [0; 16] }
-    }
-
-    /// The row's words: 64 places to a word, from the lowest bit on.
-    pub(crate) fn words(&self) -> &[u64; 16]
-        ensures { (k : ℕ) → has_bit result.now k ≡ has_place self.now k }
-    {
-        &self.words
+        Row { words: [0; WORDS] }
     }
 
     /// Whether the row has the place.
-    pub fn has(&self, place: usize) -> bool
+    pub fn has_place(&self, place: usize) -> bool
         requires { place < MICRO_OPERATIONS }
         ensures { result ≡ has_place self.now place }
     {

@@ -3,10 +3,10 @@ ghost use Rattle.std.specs.Prelude.{◌≡◌, ℕ, ◌<◌, ◌≤◌, length, 
 ghost use Rattle.cs_apm.specs.Bits.{has_place};
 ghost use Rattle.cs_apm.specs.Chains.{by_chain};
 ghost use Rattle.cs_apm.specs.Rows.{AreReach, AreRows, IsRow, bit_in};
-ghost use Rattle.cs_apm.specs.Finding.{AreSynced, is_maker};
+ghost use Rattle.cs_apm.specs.Finding.{AreSynced, is_parent_create};
 ghost use Rattle.cs_apm.specs.Rules as rules;
 
-use crate::found::{Makers, first_syncs, is_by};
+use crate::found::{ParentCreates, first_syncs, is_by};
 use crate::row::Row;
 use crate::rules::{op_at, pair_needs};
 use cs_micro::{MicroOp, SyncPoint};
@@ -14,8 +14,8 @@ use cs_names::limits::MICRO_OPERATIONS;
 use cs_trace::Version;
 use std::alloc::{AllocError, Global};
 
-/// Whether a sync point after micro-operation `i` and before `j` covers `i`. `_ops` and
-/// `_syncs` are for the contract only: `found` was computed from them.
+/// Whether a sync point after micro-operation `i` and before `j` covers `i`. `found` is what
+/// `first_syncs` found for `_ops` and `_syncs`, which are for the contract only.
 fn is_synced(
     _ops: &[MicroOp],
     _syncs: &[SyncPoint],
@@ -30,31 +30,31 @@ fn is_synced(
     is_by(found[i], j)
 }
 
-/// Whether micro-operation `j` needs `i`, which is before it. `found` has the first sync point that
-/// covers each micro-operation, and `makers` the latest creates that `j` needs.
+/// Whether micro-operation `j` needs `i`, which is before it. `found` is what `first_syncs` found,
+/// and `parents` has the latest creates that `j` needs.
 #[tactic(auto, unfolding(crate::specs::Rules::needs))]
-fn needs(
+fn needs_earlier(
     ops: &[MicroOp],
     syncs: &[SyncPoint],
     version: Version,
     found: &[Option<usize>],
-    makers: Makers,
+    parents: ParentCreates,
     i: usize,
     j: usize,
 ) -> bool
     requires order { i < j }
     requires inside { j < length ops.now }
     requires found { AreSynced ops.now syncs.now (length ops.now) found.now }
-    requires makers { (i : ℕ) → i < j → is_maker makers i ≡ rules.makes_parent ops.now i j }
+    requires parents { (i : ℕ) → i < j
+        → is_parent_create parents i ≡ rules.makes_parent ops.now i j }
     ensures { result ≡ rules.needs ops.now syncs.now version i j }
 {
     pair_needs(version, op_at(ops, i), op_at(ops, j))
-        || makers.has(i)
+        || parents.has_create_at(i)
         || is_synced(ops, syncs, found, i, j)
 }
 
-/// What micro-operation `j` needs. `found` has the first sync point that covers each
-/// micro-operation.
+/// What micro-operation `j` needs, as a row. `found` is what `first_syncs` found.
 fn row_of(
     ops: &[MicroOp],
     syncs: &[SyncPoint],
@@ -67,10 +67,10 @@ fn row_of(
     requires found { AreSynced ops.now syncs.now (length ops.now) found.now }
     ensures { IsRow (rules.needs ops.now syncs.now version) j result }
 {
-    let makers = Makers::of(ops, j);
+    let parents = ParentCreates::of(ops, j);
     let mut row = Row::empty();
     for i in 0..j {
-        if needs(ops, syncs, version, found, makers, i, j) {
+        if needs_earlier(ops, syncs, version, found, parents, i, j) {
             row.set(i);
         }
     }
@@ -108,7 +108,7 @@ fn reach_row(rows: &[Row], reach: &[Row], k: usize) -> Row
 {
     let mut row = Row::empty();
     for m in 0..k {
-        if rows[k].has(m) {
+        if rows[k].has_place(m) {
             row.set(m);
             row.join(&reach[m]);
         }

@@ -11,7 +11,7 @@ use cs_micro::{EntryKind, MicroOp};
 use cs_names::Path;
 use cs_trace::{Covers, Node, Profile, Target, Version};
 
-/// Whether the directory is the parent of the path.
+/// Whether the directory is the parent of the path. The root's parent is the root.
 pub fn is_parent(directory: &Path, path: &Path) -> bool
     ensures { result ≡ path_eq directory.now (parent_path path.now) }
 {
@@ -28,7 +28,10 @@ fn touches(op: &MicroOp, path: &Path) -> bool
         MicroOp::DeleteDirEntry { path: gone, .. } => gone == path,
         MicroOp::MoveDirEntry { from, to } => from == path || to == path,
         MicroOp::LinkDirEntry { path: linked, .. } => linked == path,
-        _ => false,
+        MicroOp::ChangeFileSize { .. }
+        | MicroOp::WriteBlock { .. }
+        | MicroOp::SetAttr { .. }
+        | MicroOp::Say => false,
     }
 }
 
@@ -46,28 +49,29 @@ fn sets_directory(op: &MicroOp, directory: &Path) -> bool
 }
 
 /// Whether the micro-operation touches the path, or sets owner, group and permissions of the
-/// directory there.
-fn names(op: &MicroOp, path: &Path) -> bool
-    ensures { result ≡ rules.names op.now path.now }
+/// directory there. `shares_path`, `ParentCreates::of`, `add_named` and `step_of` list the paths
+/// that one names too, by kinds.
+fn names_path(op: &MicroOp, path: &Path) -> bool
+    ensures { result ≡ rules.names_path op.now path.now }
 {
-    match op {
-        MicroOp::SetAttr { .. } => sets_directory(op, path),
-        _ => touches(op, path),
-    }
+    touches(op, path) || sets_directory(op, path)
 }
 
-/// Whether the micro-operation touches an entry in the directory.
+/// Whether the micro-operation touches (as in `touches`) a path whose parent is the directory.
 fn touches_entry_of(op: &MicroOp, directory: &Path) -> bool
     ensures { result ≡ rules.touches_entry_of op.now directory.now }
 {
     match op {
-        MicroOp::CreateDirEntry { path, .. } => is_parent(directory, path),
-        MicroOp::DeleteDirEntry { path, .. } => is_parent(directory, path),
+        MicroOp::CreateDirEntry { path, .. }
+        | MicroOp::DeleteDirEntry { path, .. }
+        | MicroOp::LinkDirEntry { path, .. } => is_parent(directory, path),
         MicroOp::MoveDirEntry { from, to } => {
             is_parent(directory, from) || is_parent(directory, to)
         }
-        MicroOp::LinkDirEntry { path, .. } => is_parent(directory, path),
-        _ => false,
+        MicroOp::ChangeFileSize { .. }
+        | MicroOp::WriteBlock { .. }
+        | MicroOp::SetAttr { .. }
+        | MicroOp::Say => false,
     }
 }
 
@@ -92,20 +96,26 @@ fn same_block_or_size(a: &MicroOp, b: &MicroOp) -> bool
     }
 }
 
-/// Whether there is a path that both name.
+/// Whether there is a path that both name, as `names_path` has it.
 fn shares_path(a: &MicroOp, b: &MicroOp) -> bool
     ensures { result ≡ rules.shares_path a.now b.now }
 {
     match b {
-        MicroOp::CreateDirEntry { path, .. } => names(a, path),
-        MicroOp::DeleteDirEntry { path, .. } => names(a, path),
-        MicroOp::MoveDirEntry { from, to } => names(a, from) || names(a, to),
-        MicroOp::LinkDirEntry { path, .. } => names(a, path),
-        MicroOp::SetAttr {
+        MicroOp::CreateDirEntry { path, .. }
+        | MicroOp::DeleteDirEntry { path, .. }
+        | MicroOp::LinkDirEntry { path, .. }
+        | MicroOp::SetAttr {
             target: Target::Directory(path),
             ..
-        } => names(a, path),
-        _ => false,
+        } => names_path(a, path),
+        MicroOp::MoveDirEntry { from, to } => names_path(a, from) || names_path(a, to),
+        MicroOp::ChangeFileSize { .. }
+        | MicroOp::WriteBlock { .. }
+        | MicroOp::SetAttr {
+            target: Target::File(_),
+            ..
+        }
+        | MicroOp::Say => false,
     }
 }
 
@@ -159,11 +169,14 @@ fn is_entry_operation(op: &MicroOp) -> bool
     ensures { result ≡ rules.is_entry_operation op.now }
 {
     match op {
-        MicroOp::CreateDirEntry { .. } => true,
-        MicroOp::DeleteDirEntry { .. } => true,
-        MicroOp::MoveDirEntry { .. } => true,
-        MicroOp::LinkDirEntry { .. } => true,
-        _ => false,
+        MicroOp::CreateDirEntry { .. }
+        | MicroOp::DeleteDirEntry { .. }
+        | MicroOp::MoveDirEntry { .. }
+        | MicroOp::LinkDirEntry { .. } => true,
+        MicroOp::ChangeFileSize { .. }
+        | MicroOp::WriteBlock { .. }
+        | MicroOp::SetAttr { .. }
+        | MicroOp::Say => false,
     }
 }
 
@@ -205,7 +218,7 @@ fn creates_linked(a: &MicroOp, b: &MicroOp) -> bool
     }
 }
 
-/// Whether the second needs the first by one of those rules of all versions that look at these two
+/// Whether the second needs the first by a rule that all versions have and that looks at these two
 /// only.
 fn common_pair_needs(profile: Profile, a: &MicroOp, b: &MicroOp) -> bool
     ensures { result ≡ rules.common_pair_needs profile a.now b.now }
@@ -218,16 +231,17 @@ fn common_pair_needs(profile: Profile, a: &MicroOp, b: &MicroOp) -> bool
         || keeps_order(profile, a, b)
 }
 
-/// Whether the second needs the first by one of the rules that look at these two only. The version
-/// says which rules there are.
+/// Whether the second needs the first by a rule that the version has and that looks at these two
+/// only.
 pub fn pair_needs(version: Version, a: &MicroOp, b: &MicroOp) -> bool
     ensures { result ≡ rules.pair_needs version a.now b.now }
 {
     common_pair_needs(version.profile(), a, b) || says_before(version, a) || creates_linked(a, b)
 }
 
-/// Whether a file's bytes from `begin` up to `end` are all in the range of `count` bytes from
-/// `offset` on. The range may end above 2^64.
+/// Whether the bytes of a file from `begin` up to `end`, which isn't one of them, are all in the
+/// range of `count` bytes from `offset` on. The range may end above 2^64. If both are equal, there
+/// are no bytes; then `begin` must be in the range or at its end.
 fn lies_within(offset: u64, count: u64, begin: u128, end: u128) -> bool
     ensures { result ≡ rules.lies_within offset count begin end }
 {
@@ -235,7 +249,8 @@ fn lies_within(offset: u64, count: u64, begin: u128, end: u128) -> bool
 }
 
 /// Whether a sync of `count` bytes of the file from `offset` on waits for the micro-operation: for
-/// a write only if all its bytes are in this range, and for each change of the file's size.
+/// a write into the file only if all its bytes are in this range, for each change of the file's
+/// size, and for nothing else.
 fn is_in_range(file: u32, offset: u64, count: u64, op: &MicroOp) -> bool
     ensures { result ≡ rules.is_covered (Covers.Range file offset count) op.now }
 {
@@ -256,7 +271,8 @@ fn is_in_range(file: u32, offset: u64, count: u64, op: &MicroOp) -> bool
     }
 }
 
-/// Whether a sync that covers this waits for the micro-operation.
+/// Whether a sync waits for the micro-operation. `covers` is what it syncs: everything, a file (its
+/// bytes, size and rights), a range of a file, or the entries of a directory and its rights.
 pub fn is_covered(covers: &Covers, op: &MicroOp) -> bool
     ensures { result ≡ rules.is_covered covers.now op.now }
 {
@@ -282,7 +298,8 @@ pub fn is_covered(covers: &Covers, op: &MicroOp) -> bool
     }
 }
 
-/// Whether the micro-operation makes the entry of the path's parent directory.
+/// Whether the micro-operation makes an entry at the path's parent path. (For a new entry at the
+/// path itself, see `touches`.)
 pub fn creates_parent(op: &MicroOp, path: &Path) -> bool
     ensures { result ≡ rules.creates op.now (parent_path path.now) }
 {

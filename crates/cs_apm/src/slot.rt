@@ -3,8 +3,8 @@ ghost use Rattle.std.specs.Prelude.{◌≡◌, ◌<◌, length, map, fold};
 ghost use Rattle.std.specs.List.{All};
 ghost use Rattle.cs_apm.specs.Slots.{FitsIn, slots_after, step_at};
 
-/// What is at a path: a directory, by the place of its owner, group and permissions in the table,
-/// or a file, by its number.
+/// What is at a path: nothing, a directory, by the place of its owner, group and permissions in the
+/// table, or a file, by its number.
 #[derive(Clone, Copy, Debug)]
 pub enum Slot {
     Nothing,
@@ -15,14 +15,15 @@ pub enum Slot {
 /// What a micro-operation does to the slots.
 #[derive(Clone, Copy, Debug)]
 pub enum Step {
-    /// The slot has this from now on.
+    /// The slot of this place has this from now on.
     Set(u32, Slot),
-    /// What is in the first slot moves to the second, if there is something.
+    /// What is in the slot of the first place moves to that of the second, and replaces what is
+    /// there. If the first slot is empty, nothing changes.
     Move(u32, u32),
-    /// A directory in the slot has the owner, group and permissions at this place of the table from
-    /// now on.
-    Own(u32, u32),
-    /// Nothing.
+    /// A directory in the slot of the first place has from now on the owner, group and permissions
+    /// at the second place, which is one in the table. Without a directory, nothing changes.
+    SetRights(u32, u32),
+    /// No slot changes.
     Other,
 }
 
@@ -41,7 +42,7 @@ fn make_step(slots: &mut [Slot], step: Step)
                 slots[to as usize] = slot;
             }
         },
-        Step::Own(place, rights) => {
+        Step::SetRights(place, rights) => {
             if let Slot::Directory(_) = slots[place as usize] {
                 slots[place as usize] = Slot::Directory(rights);
             }
@@ -50,7 +51,7 @@ fn make_step(slots: &mut [Slot], step: Step)
     }
 }
 
-/// Makes the steps of the members of a set, in their order. `steps` has that of each
+/// Makes the steps of the members of a set, in their order. `steps` has the step of each
 /// micro-operation, and the members are at these places.
 pub fn make_steps(slots: &mut [Slot], steps: &[Step], places: &[u32])
     requires fit { All (FitsIn (length slots.old)) steps.now }

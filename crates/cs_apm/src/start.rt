@@ -1,10 +1,11 @@
-//! What is at each path at the start of a trace, and where the records of its files are.
+//! What is at each path at the start of a trace, and where the records of its files are. An error
+//! is that memory ran out; the table of rights is then dropped, with what was appended so far.
 ghost use Rattle.std.specs.Prelude.{◌≡◌, ◌+◌, ◌<◌, ◌≤◌, ◌^◌, length, IfOk, OnOk};
 ghost use Rattle.cs_apm.specs.Making.{FindsFiles, HasFirst, with_file_noted};
 ghost use Rattle.cs_apm.specs.Slots.{AreAscending, HaveRights, Mirror};
 ghost use Rattle.cs_apm.specs.States.{start_entries};
 
-use crate::places::place_of;
+use crate::places::place_of_path;
 use crate::rights::start_slot;
 use crate::slot::Slot;
 use cs_names::Path;
@@ -34,8 +35,9 @@ pub fn start_slots(
         ≤ length table.old.items + length records.now) }
 {
     let mut slots = vec![in alloc; Slot::Nothing; paths.len()]?;
+    // From the last record on: of two at one path, the first would count, as in `start_entries`.
     for k in (0..records.len()).rev() {
-        let place = place_of(paths, &records[k].0);
+        let place = place_of_path(paths, &records[k].0);
         slots[place] = start_slot(table, nodes[k], &records[k].1)?;
     }
     Ok(slots)
@@ -53,8 +55,9 @@ fn note_start(starts: &mut [u32], node: Node, place: u32)
     }
 }
 
-/// The places of the records of the first `count` files, by the files' numbers. Of a file with
-/// several records, which differ in their paths only, it is one of these.
+/// The places of the records of the first `count` files, by the files' numbers; 0 for a file that
+/// has no record (each file at the start of a trace has one). A file may have several records,
+/// which differ only in their paths and numbers; then the place is that of one of them.
 pub fn starts_of(alloc: Global, nodes: &[Node], count: usize) -> Result<Vec<u32>, AllocError>
     requires { length nodes.now ≤ 2 ^ 32 }
     ensures long { IfOk result (λ starts. length starts.items ≡ count) }

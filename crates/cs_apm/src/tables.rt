@@ -25,13 +25,14 @@ pub struct Tables {
     pub slots: Vec<Slot>,
     /// What each micro-operation does to them.
     pub steps: Vec<Step>,
-    /// Owner, group and permissions of directories.
+    /// Owner, group and permissions of directories, which the slots and steps name by their places
+    /// here.
     pub rights: Vec<Rights>,
     /// Owner, group and permissions of the files as they are made, by their numbers.
     pub owners: Vec<Rights>,
-    /// The place of the record of each of the start's files.
+    /// For each file at the start, by its number, the place of its record among the trace's.
     pub starts: Vec<u32>,
-    /// Whether an operation changes the file's size or bytes, by its number.
+    /// For each file, by its number, whether some micro-operation changes its size or bytes.
     pub changed: Vec<bool>,
 }
 
@@ -48,7 +49,7 @@ impl Tables {
         let records = trace.records();
         let nodes = trace.nodes();
         let ops = micros.ops();
-        // since the trace's operations are legal, the paths at the start are nested
+        // By the contract of `operations`, the paths at the start are nested.
         know(trace.operations());
         let paths = paths_of(alloc, records, ops)?;
         let mut rights = Vec::new(alloc);

@@ -9,8 +9,8 @@ use std::alloc::Global;
 use std::io::Write;
 use std::sync::Arc;
 
-/// Makes the scene of the inputs, writes the archive of its states, and flushes it. After a fault a
-/// part of the archive may be written.
+/// Makes the scene of the inputs, writes the archive of these states, and flushes `out`. After a
+/// fault some of the archive may be written, from the front.
 fn write_and_flush<W: Write>(
     alloc: Global,
     inputs: &Inputs,
@@ -30,9 +30,9 @@ fn write_and_flush<W: Write>(
     }
 }
 
-/// The command `tar`: writes the trees of these states, or their changes, as one archive. Its
-/// status: 0, or 1 if a fault ended it, which is reported by one line on `err`; what was written
-/// before stays. If a state is past the plan's end, nothing is written.
+/// The command `tar`: writes the trees of these states, or their changes, as one archive. Returns
+/// its status: 0, or 1 after a fault, which one line on `err` reports; some of the archive may be
+/// written by then, from the front. If a state is past the plan's end, nothing is written.
 pub fn tar_of<W: Write, E: Write>(
     alloc: Global,
     inputs: &Inputs,
@@ -47,6 +47,7 @@ pub fn tar_of<W: Write, E: Write>(
     match write_and_flush(alloc, inputs, states, out) {
         Ok(()) => 0,
         Err(fault) => {
+            // only the fault that ended the command is reported
             let _written = out.flush();
             let _unheard = writeln!(err, "crashfs: {fault}");
             1

@@ -12,9 +12,10 @@ pub enum ArchiveFault {
     /// One of the states is past the plan's end.
     #[error("no such state")]
     NoSuchState,
+    /// Memory ran out.
     #[error("out of memory")]
     Memory,
-    /// A write failed, took no byte, or was interrupted again and again.
+    /// A write failed, took no byte, or was interrupted 1,000 times in a row, or the flush failed.
     #[error("output failed")]
     Output,
 }
@@ -22,7 +23,7 @@ pub enum ArchiveFault {
 impl From<TarFault> for ArchiveFault {
     ghost from_gives = { λ given fault. fault ≡ of_writing given };
 
-    /// The same fault in this crate's words.
+    /// The fault of the same name.
     fn from(fault: TarFault) -> ArchiveFault {
         match fault {
             TarFault::Memory => ArchiveFault::Memory,
@@ -34,9 +35,11 @@ impl From<TarFault> for ArchiveFault {
 /// Why the command ends with status 1. Its text comes after `crashfs: ` on standard error.
 #[derive(Debug, Drop, Error)]
 pub(crate) enum CommandFault {
-    /// The trace is at fault, or has no plan of states.
+    /// No scene could be made: memory ran out, the trace or the picks are at fault, or there is no
+    /// plan of states.
     #[error("{0}")]
     Inputs(#[from] ProgramFault),
+    /// Not all of the archive is written.
     #[error("{0}")]
     Archive(#[from] ArchiveFault),
 }

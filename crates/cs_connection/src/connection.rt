@@ -34,8 +34,8 @@ impl<S: ServerBrand> Model for Connection<S> {
 }
 
 impl<S: ServerBrand> Connection<S> {
-    /// A connection that was not served, because there was no memory for its thread: the result is
-    /// Memory, and it kept nothing.
+    /// A connection that was not served, because there was no memory for its thread: its result is
+    /// Memory, and it kept no run and no pass.
     pub fn unserved(alloc: Global) -> Connection<S>
         ensures { WasRefused result }
     {
@@ -45,8 +45,8 @@ impl<S: ServerBrand> Connection<S> {
         }
     }
 
-    /// How its stream was served: `Ok` if the stream ended between two messages, else why it
-    /// didn't.
+    /// How the connection's stream was served: `Ok` if the stream ended between two messages, else
+    /// the fault.
     pub fn result(&self) -> Result<(), ServeFault>
         ensures value { result ≡ self.now.result }
         ensures ended { HasEnded S.serves self.now }
@@ -54,14 +54,15 @@ impl<S: ServerBrand> Connection<S> {
         self.result
     }
 
-    /// The runs that it found, and the passes that it was given. Both may be empty.
+    /// The runs that the connection found, and the passes that it was given. There may be none of
+    /// either.
     pub fn kept(&self) -> &ConnectionRuns<S>
         ensures { result.now ≡ self.now.kept }
     {
         &self.kept
     }
 
-    /// The runs that it found and the passes that it was given, by value.
+    /// The runs that the connection found and the passes that it was given, by value.
     pub fn into_kept(self) -> ConnectionRuns<S>
         ensures { result ≡ self.kept }
     {
@@ -69,8 +70,9 @@ impl<S: ServerBrand> Connection<S> {
     }
 }
 
-/// Serves a connection to its end, over the runs of the server: its messages are answered in order,
-/// each at its moment. Then it hangs up, also after a fault, which the connection's result keeps.
+/// Serves a connection to its end, as cs_session's `serve_stream` does, over the runs of the
+/// server: its messages are answered in order, each at its moment. Then it hangs up, also after a
+/// fault, which the connection's result keeps.
 pub fn serve_connection<S: ServerBrand, R: Wait, T: Stream, C: Clock>(
     rt: &R,
     alloc: Global,

@@ -29,7 +29,8 @@ impl Model for GivenPasses {
     ghost view = { λ given. map (λ run. (run.0, run.1.items)) given.runs.entries };
 }
 
-/// Adds a pass at the end. After an error the passes are unchanged, and this one is dropped.
+/// Adds a pass after the others. After an error the passes are unchanged, and the new one is
+/// dropped.
 fn push_pass(passes: &mut Vec<Pass>, pass: Pass) -> Result<(), AllocError>
     ensures kept { OnOk result (passes.new.items ≡ passes.old.items ++ pass ∷ []) }
     ensures refused { OnErr result (passes.new.items ≡ passes.old.items) }
@@ -41,7 +42,7 @@ fn push_pass(passes: &mut Vec<Pass>, pass: Pass) -> Result<(), AllocError>
 }
 
 impl GivenPasses {
-    /// No passes of any run.
+    /// An empty store of passes.
     pub fn new(alloc: Global) -> GivenPasses
         ensures { result ≡ [] }
     {
@@ -51,7 +52,7 @@ impl GivenPasses {
     }
 
     /// Keeps a pass of the run of that key, after the run's others. After an error each run has the
-    /// passes that it had, and this one is dropped.
+    /// passes that it had, and the new one is dropped.
     fn keep_pass(&mut self, alloc: Global, key: RunKey, pass: Pass) -> Result<(), AllocError>
         ensures kept { OnOk result (KeepsPass self.old key pass self.new) }
         ensures refused { OnErr result (KeepsNone self.old self.new) }
@@ -62,13 +63,14 @@ impl GivenPasses {
         let mut passes = Vec::new(alloc);
         push_pass(&mut passes, pass)?;
         match self.runs.insert(key, passes) {
+            // the key had no passes, so none are replaced
             Ok(_) => Ok(()),
             Err(_) => Err(AllocError),
         }
     }
 
-    /// Keeps these passes of these runs, in order. After an error the first of them are kept, and
-    /// the rest are dropped.
+    /// Keeps these passes, in order, each under the key of its run in `runs`. After an error the
+    /// passes before the failure are kept, and the rest are dropped.
     fn keep_each<S: ServerBrand>(
         &mut self,
         alloc: Global,
@@ -88,8 +90,8 @@ impl GivenPasses {
         Ok(())
     }
 
-    /// Keeps the passes of a connection that ended. After an error the first of them are kept, and
-    /// the rest are dropped: an audit of their runs then counts too few receipts.
+    /// Keeps the passes of a connection that ended. After an error the passes before the failure
+    /// are kept, and the rest are dropped: an audit of their runs then counts too few receipts.
     pub fn keep<S: ServerBrand>(
         &mut self,
         alloc: Global,

@@ -34,7 +34,7 @@ impl<S: ServerBrand> Model for ConnectionRuns<S> {
 }
 
 impl<S: ServerBrand> ConnectionRuns<S> {
-    /// No runs and no passes: what a connection keeps that found no run.
+    /// No runs and no passes: what a connection keeps if it found no run.
     pub fn empty(alloc: Global) -> ConnectionRuns<S>
         ensures { result ≡ no_runs }
     {
@@ -44,7 +44,7 @@ impl<S: ServerBrand> ConnectionRuns<S> {
         }
     }
 
-    /// These runs and passes: each pass has the place of its run.
+    /// A connection's runs and passes. The caller gives each pass the place of one of these runs.
     pub(crate) fn new(runs: Vec<SharedRun<S>>, passes: Vec<GivenPass>) -> ConnectionRuns<S>
         requires { AreInside runs.items passes.items }
         ensures { result ≡ record { runs = runs.items; passes = passes.items } }
@@ -68,7 +68,8 @@ impl<S: ServerBrand> ConnectionRuns<S> {
         (self.runs, self.passes)
     }
 
-    /// The key of the run that gave the pass at that place among the passes.
+    /// The key of the run that gave the pass at that place in `passes`. The caller has a place
+    /// below the number of passes.
     pub fn key_at(&self, place: usize) -> &RunKey
         requires { place < length self.now.passes }
         ensures { key_at self.now place ≡ Some result.now }

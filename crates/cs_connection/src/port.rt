@@ -56,11 +56,12 @@ impl<'r, S: ServerBrand, R: Wait> SharedPort<'r, S, R> {
 impl<'r, S: ServerBrand, R: Wait> Port for SharedPort<'r, S, R> {
     ghost use Rattle.cs_connection.specs.Asking.{Gives};
 
-    ghost gives = { λ old question told new. Gives S.serves old question told new };
+    ghost gives = { λ old question answer new. Gives S.serves old question answer new };
 
-    /// Finds the run of that name in the registry, and keeps it. Unpublished if the name can't be a
-    /// run's, Full also if the port has 2^32 runs already. A find that the registry grants stays
-    /// counted, even if there is no memory to keep the run.
+    /// Finds the run of that name in the registry, keeps it, and returns its place. The error is
+    /// Unpublished if the name can't be a run's, Full if the port has 2^32 runs already, Memory if
+    /// the run can't be kept, else the registry's. After an error no run is kept, but a find that
+    /// the registry granted stays counted.
     fn find(&mut self, alloc: Global, name: &TreeName) -> Result<u32, FindFault> {
         let Some(key) = RunKey::of_tree_name(name) else {
             return Err(FindFault::Unpublished);
@@ -75,9 +76,10 @@ impl<'r, S: ServerBrand, R: Wait> Port for SharedPort<'r, S, R> {
         }
     }
 
-    /// Attaches to the run at the place `run`, and keeps the pass. Foreign if there is no such run,
-    /// Room also if the port has 2^32 passes already. Room for the pass is made first, so after an
-    /// error there is no pass.
+    /// Attaches to the run at the place `run`, keeps the pass even if the answer denies the attach,
+    /// and returns its place and the answer. The error is Foreign if there is no such run, Room if
+    /// the port has 2^32 passes already, else the run's, or Memory. Memory to keep the pass is
+    /// reserved first, so after an error there is no pass.
     fn attach(
         &mut self,
         alloc: Global,
@@ -103,8 +105,8 @@ impl<'r, S: ServerBrand, R: Wait> Port for SharedPort<'r, S, R> {
         }
     }
 
-    /// Makes a call on the run that gave the pass. S5, and nothing changes, if there is no such
-    /// pass, or the run at the place `run` didn't give it.
+    /// Makes a call on the run at the place `run`, under the pass at the place `pass`. S5, and
+    /// nothing changes, if there is no such pass, or that run didn't give it.
     fn call(&mut self, alloc: Global, now: u32, run: u32, pass: u32, call: Call<'_>) -> Answer {
         let Some(given) = self.passes.get_mut(pass as usize) else {
             return Answer::Denied(RuleId::S5);

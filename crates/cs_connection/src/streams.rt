@@ -12,8 +12,7 @@ use std::sync::Wait;
 use std::thread;
 use std::thread::{JoinHandle, Scope, Threads};
 
-/// Serves a stream to its end, and returns its connection. Its reads and writes are counted on the
-/// way.
+/// Serves a stream to its end, counting its reads and writes, and returns the connection.
 fn serve_one<S: ServerBrand, R: Wait, RW: Read + Write + Drop, C: Clock + Drop>(
     rt: &R,
     alloc: Global,
@@ -25,8 +24,9 @@ fn serve_one<S: ServerBrand, R: Wait, RW: Read + Write + Drop, C: Clock + Drop>(
     serve_connection(rt, alloc, server, &mut stream, &mut clock)
 }
 
-/// Starts a thread for each stream, in their order; None for a stream whose thread can't be made.
-/// After an error no thread was started.
+/// Starts a thread for each stream, and returns the threads in the order of the streams; None for a
+/// stream whose thread can't be made, and that stream is dropped. After an error no thread was
+/// started.
 fn start_each<
     's,
     E,
@@ -53,7 +53,7 @@ fn start_each<
 }
 
 /// Waits for each thread, and returns the connections, in the order of the threads; for None, a
-/// connection that was not served. `connections` is empty and has room for all.
+/// connection that was not served. The caller gives `connections` empty, with room for all.
 fn join_each<S: ServerBrand, R: Threads>(
     rt: &R,
     alloc: Global,
@@ -76,7 +76,8 @@ fn join_each<S: ServerBrand, R: Threads>(
 
 /// Serves all streams at the same time, each in its own thread, and waits for them. Returns their
 /// connections, in the order of the streams. Each thread has a copy of the clock. A stream whose
-/// thread can't be made is not served. After an error no stream was read.
+/// thread can't be made is dropped, and its connection's result is Memory. After an error no stream
+/// was read.
 pub fn serve_streams<
     S: ServerBrand + Send + Sync,
     R: Threads + Wait + Sync,

@@ -14,13 +14,13 @@ file_changed (WriteBlock file block start at bytes) = Some file
 file_changed (SetAttr (targets.File file) rights) = Some file
 file_changed _ = None
 
-abbrev pub is_file : ℕ → Option ℕ → Bool
-is_file file None = false
-is_file file (Some other) = other == file
+abbrev pub is_same_file : ℕ → Option ℕ → Bool
+is_same_file file None = false
+is_same_file file (Some other) = other == file
 
 -- some micro-operation changes the file
 abbrev pub is_changed : List MicroOp → ℕ → Bool
-is_changed ops file = list_any (λ op. is_file file (file_changed op)) ops
+is_changed ops file = list_any (λ op. is_same_file file (file_changed op)) ops
 
 abbrev pub number_after : Option ℕ → ℕ
 number_after None = 0

@@ -4,11 +4,11 @@ use Rattle.std.specs.Prelude.{Option, None, slice_index, slice_index_or}
 use Rattle.std.specs.Cmp.Lexicographic.{pointwise}
 use Rattle.std.specs.List.{filter, list_all}
 use Rattle.cs_plan.specs.Plans.{places_below, is_kept}
-use Rattle.cs_families.specs.Changes.{is_file}
+use Rattle.cs_families.specs.Changes.{is_same_file}
 
 -- the file loses the change at the place
 abbrev pub loses_at : List (Option ℕ) → ℕ → ℕ → Bool
-loses_at losses file place = is_file file (slice_index_or losses place None)
+loses_at losses file place = is_same_file file (slice_index_or losses place None)
 
 -- the places at which it does
 abbrev pub lost_places : List (Option ℕ) → ℕ → List ℕ

@@ -1,8 +1,8 @@
 //! The files that micro-operations change. An operation changes a file if it sets its size, writes
-//! a block or sets its rights; a new, moved or deleted entry is no change of a file.
+//! a block or sets its rights; a new, moved or deleted entry doesn't change the file.
 ghost use Rattle.std.specs.Prelude.{◌≡◌, ◌≤◌, ◌^◌, IfOk};
 ghost use Rattle.cs_families.specs.Changes.{changed_files, file_changed, file_end, is_changed};
-ghost use Rattle.cs_families.specs.Changes.{is_file, number_after};
+ghost use Rattle.cs_families.specs.Changes.{is_same_file, number_after};
 
 use cs_micro::MicroOp;
 use cs_trace::Target;
@@ -25,9 +25,9 @@ pub fn file_changed(op: &MicroOp) -> Option<u32>
     }
 }
 
-/// Whether `found` is this file. False if it is None, which is no file.
-pub fn is_file(found: Option<u32>, file: u32) -> bool
-    ensures { result ≡ is_file file found }
+/// Whether `found` is the file of that number; false if `found` is None.
+pub fn is_same_file(found: Option<u32>, file: u32) -> bool
+    ensures { result ≡ is_same_file file found }
 {
     match found {
         Some(other) => other == file,
@@ -35,7 +35,7 @@ pub fn is_file(found: Option<u32>, file: u32) -> bool
     }
 }
 
-/// One more than the number of the file; 0 if there is no file.
+/// One more than the number of the file `found`; 0 if `found` is None.
 fn number_after(found: Option<u32>) -> usize
     ensures value { result ≡ number_after found }
     ensures small { result ≤ 2 ^ 32 }
@@ -58,14 +58,15 @@ fn file_end(ops: &[MicroOp]) -> usize
     end
 }
 
-/// Whether one of the operations changes the file.
+/// Whether one of the operations changes the file; false if there are no operations.
 fn is_changed(ops: &[MicroOp], file: u32) -> bool
     ensures { result ≡ is_changed ops.now file }
 {
-    ops.iter().any(|op| is_file(file_changed(op), file))
+    ops.iter().any(|op| is_same_file(file_changed(op), file))
 }
 
-/// The numbers of the files that the operations change, ascending, each once.
+/// The numbers of the files that the operations change, ascending, each once; empty if they change
+/// none.
 pub fn changed_files(alloc: Global, ops: &[MicroOp]) -> Result<Vec<u32>, AllocError>
     ensures { IfOk result (λ files. files.items ≡ changed_files ops.now) }
 {

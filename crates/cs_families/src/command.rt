@@ -8,8 +8,8 @@ use cs_serve::{Inputs, scene_of};
 use std::alloc::Global;
 use std::io::Write;
 
-/// Writes the family of the trace's micro-operations, and flushes it. After a fault some of its
-/// lines may be written.
+/// Writes the family of the trace's micro-operations, and flushes `out`. After a fault some of the
+/// family's lines may be written.
 fn print_picks<W: Write>(
     alloc: Global,
     trace: &[u8],
@@ -34,8 +34,8 @@ fn print_picks<W: Write>(
 }
 
 /// The command `picks`: prints the sets of a family on `out`, each on a line as a picks file has
-/// it. Of the inputs it uses only the trace. Returns its status: 0, or 1 after a fault, which `err`
-/// gets as one line; some of the sets may be printed by then.
+/// it. Of the inputs it uses only the trace. Returns its status: 0, or 1 after a fault, which one
+/// line on `err` reports; some of the sets may be printed by then.
 pub fn picks_of<W: Write, E: Write>(
     alloc: Global,
     inputs: &Inputs,
@@ -49,6 +49,7 @@ pub fn picks_of<W: Write, E: Write>(
     match print_picks(alloc, inputs.trace, family, out) {
         Ok(()) => 0,
         Err(fault) => {
+            // only the fault that ended the command is reported
             let _printed = out.flush();
             let _unheard = writeln!(err, "crashfs: {fault}");
             1

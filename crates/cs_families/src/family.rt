@@ -16,14 +16,15 @@ use cs_plan::Scene;
 use std::alloc::Global;
 use std::io::Write;
 
-/// Which sets are asked for. A crash may leave each of them.
+/// Which sets are printed. A crash may leave each of them.
 #[derive(Clone, Copy, Debug, PartialEq, Eq)]
 pub enum Family {
-    /// For each micro-operation the least set that has it: with it all that it needs by any chain.
+    /// For each micro-operation the least set that has it: itself and all that it needs by any
+    /// chain.
     Lost,
-    /// For each prefix, and each file with a change there that no sync point before its last
-    /// operation covers: the prefix without these changes, and without all that need one of them by
-    /// any chain. A set that the prefix before gives for the file isn't given again.
+    /// For each prefix, and each file with a change there that no sync point before the prefix's
+    /// last operation covers: the prefix without these changes, and without all that need one of
+    /// them by any chain. A set that the prefix a place shorter gives for the file isn't repeated.
     Files,
 }
 

@@ -6,8 +6,10 @@ use thiserror::Error;
 /// Why not all sets of a family are printed.
 #[derive(Clone, Copy, Debug, PartialEq, Eq, Error)]
 pub enum FamilyFault {
+    /// Memory ran out.
     #[error("out of memory")]
     Memory,
+    /// A line can't be written, or the output can't be flushed.
     #[error("output failed")]
     Output,
 }
@@ -22,9 +24,10 @@ impl From<AllocError> for FamilyFault {
 /// Why the command ends with status 1. Its text follows `crashfs: ` on standard error.
 #[derive(Debug, Drop, Error)]
 pub(crate) enum CommandFault {
-    /// The trace is at fault, or has no plan of states.
+    /// No scene could be made: memory ran out, the trace is at fault, or it has no plan of states.
     #[error("{0}")]
     Inputs(#[from] ProgramFault),
+    /// Not all sets of the family are printed.
     #[error("{0}")]
     Family(#[from] FamilyFault),
 }

@@ -1,5 +1,5 @@
 //! The family Files: prefixes that lose one file's changes. Which changes a prefix loses is in
-//! `losses`, and what is left of it in `left`.
+//! `losses`, and what is left of it in `left`. After a fault some of the lines may be written.
 ghost use Rattle.std.specs.Prelude.{◌≡◌, ◌<◌, ◌≤◌, length, OnOk};
 ghost use Rattle.std.specs.Io.KnownBytes.{Appends};
 ghost use Rattle.std.specs.List.{All, flat_map};
@@ -20,8 +20,8 @@ use std::alloc::Global;
 use std::io::Write;
 
 /// Writes what is left of the prefix of `end` places if it loses the places `lost`. Writes nothing
-/// if these are none, or if the prefix that is a place shorter leaves the same set; it loses the
-/// places `shorter`.
+/// if these are none, or if the prefix that is a place shorter, which loses the places `shorter`,
+/// leaves the same set.
 fn write_left<W: Write>(
     alloc: Global,
     order: &Order,
@@ -87,8 +87,8 @@ fn write_prefix<W: Write>(
     Ok(())
 }
 
-/// Writes the family: the sets of each prefix, the shortest first. After a fault some of the lines
-/// may be written.
+/// Writes the family: the sets of each prefix, the shortest first. The prefix of no places, which
+/// comes first, loses nothing, so it gives no set.
 pub fn write_files<W: Write>(
     alloc: Global,
     micros: &Micros,
@@ -104,6 +104,7 @@ pub fn write_files<W: Write>(
     let syncs = micros.syncs();
     let files = changed_files(alloc, ops)?;
     for end in 0..ops.len() + 1 {
+        // the prefix of no places has no shorter one, and is compared with itself
         let shorter = losses_of(alloc, ops, syncs, end.saturating_sub(1))?;
         let losses = losses_of(alloc, ops, syncs, end)?;
         write_prefix(alloc, order, &shorter, &losses, &files, out)?;

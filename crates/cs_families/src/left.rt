@@ -7,7 +7,7 @@ ghost use Rattle.cs_plan.specs.Plans.{IsAllowedIn};
 ghost use Rattle.cs_families.specs.Left.{adds_nothing, is_given, left_of, loses_at, loses_one_more};
 ghost use Rattle.cs_families.specs.Left.{lost_places, stays};
 
-use crate::changes::is_file;
+use crate::changes::is_same_file;
 use cs_apm::Order;
 use cs_names::laws::know;
 use cs_names::limits::MICRO_OPERATIONS;
@@ -20,7 +20,7 @@ fn loses_at(losses: &[Option<u32>], file: u32, place: usize) -> bool
     requires { place < length losses.now }
     ensures { result ≡ loses_at losses.now file place }
 {
-    is_file(losses[place], file)
+    is_same_file(losses[place], file)
 }
 
 /// The places, ascending, at which changes of the file are lost. `losses` has for each place the
@@ -40,7 +40,7 @@ pub fn lost_places(alloc: Global, losses: &[Option<u32>], file: u32) -> Result<V
 }
 
 /// Whether the operation at the place stays if those at the places `lost` are missing: it is none
-/// of them, and needs none by any chain.
+/// of them, and needs none of them by any chain. True if `lost` is empty.
 fn stays(order: &Order, lost: &[u32], place: usize) -> bool
     requires there { place < length order.now }
     requires inside { All (λ missing. missing < length order.now) lost.now }
@@ -71,6 +71,7 @@ fn adds_nothing(order: &Order, shorter: &[u32], lost: &[u32], end: usize) -> boo
     requires inside { All (λ missing. missing < length order.now) lost.now }
     ensures { result ≡ adds_nothing (needs_in order.now) shorter.now lost.now end }
 {
+    // the prefix's last place; 0 if it has none
     if stays(order, lost, end.saturating_sub(1)) {
         return false;
     }
@@ -91,7 +92,8 @@ pub fn is_given(order: &Order, shorter: &[u32], lost: &[u32], end: usize) -> boo
     shorter.is_empty() || !adds_nothing(order, shorter, lost, end)
 }
 
-/// The places before `end`, ascending, without the lost ones and all that need one by any chain.
+/// The places before `end`, ascending, but without those in `lost` and without those whose
+/// operations need one of these by any chain.
 pub fn left_of(
     alloc: Global,
     order: &Order,

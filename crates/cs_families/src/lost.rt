@@ -23,7 +23,8 @@ fn is_needed(order: &Order, place: usize, needed: usize) -> bool
     needed == place || order.needs_by_chain(needed, place)
 }
 
-/// The place, which is the last, and all that the operation there needs by any chain, ascending.
+/// The places of all that the operation at the place needs by any chain, ascending, and last the
+/// place itself.
 pub fn least_with(alloc: Global, order: &Order, place: usize) -> Result<Vec<u32>, AllocError>
     requires { place < length order.now }
     ensures value { IfOk result (λ set. set.items ≡ least_with (needs_in order.now) place) }

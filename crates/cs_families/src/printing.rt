@@ -7,7 +7,8 @@ use crate::fault::FamilyFault;
 use cs_plan::Places;
 use std::io::Write;
 
-/// Writes the set as a JSON array and a line feed; `[]` if it is empty.
+/// Writes the set as a JSON array, as `PlacesArray` of cs_list_lines does, and a line feed. The
+/// array of an empty set is `[]`. After a fault a part of the line may be written.
 pub fn write_pick<W: Write>(set: &Places, out: &mut W) -> Result<(), FamilyFault>
     ensures { OnOk result (Appends (W.contents out.old) (W.contents out.new) (pick_line set.now)) }
 {

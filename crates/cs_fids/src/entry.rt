@@ -4,7 +4,7 @@ ghost use Rattle.std.specs.Prelude.{◌≡◌, option_copied};
 use crate::fid::{Fid, Opened, Walked};
 use cs_names::UserName;
 
-/// A fid in one of its two states.
+/// A fid in one of its two states. A method that `Fid` has too gives what that one gives.
 #[derive(Debug, Drop)]
 pub enum FidEntry {
     Walked(Fid<Walked>),
@@ -15,7 +15,7 @@ impl FidEntry {
     ghost use Rattle.cs_fids.specs.Entries.{as_opened, as_walked, number_of, pass_of, run_of};
     ghost use Rattle.cs_fids.specs.Entries.{user_of};
 
-    /// The place of the fid's run at the port.
+    /// The index of the fid's run at the port, whether the fid is open or not.
     pub fn run(&self) -> u32
         ensures { result ≡ run_of self.now }
     {
@@ -25,7 +25,7 @@ impl FidEntry {
         }
     }
 
-    /// The place of the fid's pass at the port.
+    /// The index of the fid's pass at the port, whether the fid is open or not.
     pub fn pass(&self) -> u32
         ensures { result ≡ pass_of self.now }
     {
@@ -35,7 +35,7 @@ impl FidEntry {
         }
     }
 
-    /// The number of the fid's file in its run.
+    /// The number of the fid's file in its run, whether the fid is open or not.
     pub fn number(&self) -> u64
         ensures { result ≡ number_of self.now }
     {
@@ -45,7 +45,7 @@ impl FidEntry {
         }
     }
 
-    /// The user for whom the fid was made, lent.
+    /// The user for whom the fid, open or not, was made; lent.
     pub fn user(&self) -> &UserName
         ensures { result.now ≡ user_of self.now }
     {
@@ -55,7 +55,7 @@ impl FidEntry {
         }
     }
 
-    /// The user for whom the fid was made, moved out.
+    /// The user for whom the fid, open or not, was made; moved out.
     pub fn into_user(self) -> UserName
         ensures { result ≡ user_of self }
     {

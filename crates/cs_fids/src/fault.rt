@@ -26,6 +26,7 @@ pub enum FidFault {
 impl fmt::Display for FidFault {
     ghost output = { λ fault. Some (fault_text fault) };
 
+    /// Writes in a few words what is wrong, without the fid's number.
     fn fmt<W: fmt::Write>(&self, f: &mut fmt::Formatter<W>) -> fmt::Result {
         f.write_str(match self {
             FidFault::TableFull => "fid table full",
@@ -43,7 +44,7 @@ impl std::error::Error for FidFault {}
 impl From<AllocError> for FidFault {
     ghost from_gives = { λ _ fault. fault ≡ Memory };
 
-    /// Memory: only the allocation failed, and it says nothing about the fid.
+    /// An allocation that fails is Memory.
     fn from(_refused: AllocError) -> FidFault {
         FidFault::Memory
     }

@@ -23,8 +23,8 @@ pub struct Opened {
 }
 
 /// A fid: a file of a run, for a user, in a state. `number` is the file's in the run. `run` and
-/// `pass` are places at the connection's port: of the run, and of the pass by which the user calls
-/// it. Contracts see a record of these.
+/// `pass` are indexes at the connection's port: of the run, and of the pass by which the user calls
+/// the run. Contracts see a record of these.
 #[derive(Debug, Drop)]
 pub struct Fid<S> {
     run: u32,
@@ -50,14 +50,14 @@ impl<S> Model for Fid<S> {
 }
 
 impl<S> Fid<S> {
-    /// The place of the fid's run at the port.
+    /// The index of the fid's run at the port.
     pub fn run(&self) -> u32
         ensures { result ≡ self.now.run }
     {
         self.run
     }
 
-    /// The place of the fid's pass at the port.
+    /// The index of the fid's pass at the port.
     pub fn pass(&self) -> u32
         ensures { result ≡ self.now.pass }
     {
@@ -71,7 +71,7 @@ impl<S> Fid<S> {
         self.number
     }
 
-    /// The user for whom the fid was made, lent.
+    /// The user for whom the fid was made; lent.
     pub fn user(&self) -> &UserName
         ensures { result.now ≡ self.now.user }
     {
@@ -80,7 +80,7 @@ impl<S> Fid<S> {
 }
 
 impl<S: Drop> Fid<S> {
-    /// The user for whom the fid was made, moved out.
+    /// The user for whom the fid was made; moved out, and the rest of the fid is dropped.
     pub fn into_user(self) -> UserName
         ensures { result ≡ self.user }
     {
@@ -91,8 +91,8 @@ impl<S: Drop> Fid<S> {
 impl Fid<Walked> {
     ghost use Rattle.cs_fids.specs.Fids.{moved_to, opened_fid, walked_fid};
 
-    /// A fid of the user that isn't open. `run` and `pass` are places at the port, and `number` is
-    /// that of its file in the run.
+    /// Makes a fid for this user; the fid isn't open. `run` and `pass` are indexes at the port, and
+    /// `number` is that of the fid's file in the run.
     pub fn new(run: u32, pass: u32, number: u64, user: UserName) -> Fid<Walked>
         ensures { result ≡ walked_fid run pass number user }
     {
@@ -113,8 +113,8 @@ impl Fid<Walked> {
         self
     }
 
-    /// Opens the fid (open(5)). `open_number` is the number that its run gave to the open. The
-    /// reads of a directory begin at its start.
+    /// Opens the fid in this mode (open(5)). `open_number` is the number that its run gave to the
+    /// open. Reads of a directory begin at the directory's start.
     pub fn open(self, mode: u8, open_number: u32) -> Fid<Opened>
         ensures { result ≡ opened_fid self mode open_number }
     {
@@ -162,14 +162,14 @@ impl Fid<Opened> {
         self.state.open_number
     }
 
-    /// The place at which the fid's reads of a directory continue.
+    /// The place at which the fid's reads of a directory continue; lent.
     pub fn place(&self) -> &Place
         ensures { result.now ≡ self.now.state.place }
     {
         &self.state.place
     }
 
-    /// The same fid, but its reads of a directory continue at this place.
+    /// The same fid, but its reads of a directory continue at this place; the old one is dropped.
     pub(crate) fn with_place(mut self, place: Place) -> Fid<Opened>
         ensures { result ≡ with_place self place }
     {

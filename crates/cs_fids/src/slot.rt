@@ -1,4 +1,5 @@
-//! The slot of a fid in a table: its entry can be moved out while a call changes it.
+//! The slot of a fid in a table. A call that changes the entry moves it out and puts it back before
+//! it returns, so no call meets a slot without an entry.
 ghost use Rattle.std.specs.Prelude.{◌≡◌, OnErr, IfOk, Some};
 
 use crate::entry::FidEntry;
@@ -42,6 +43,7 @@ impl Slot {
     {
         match &self.entry {
             Some(entry) => entry,
+            // the invariant: every call puts the entry back
             None => unreachable!(),
         }
     }
@@ -52,11 +54,13 @@ impl Slot {
     {
         match self.entry {
             Some(entry) => entry,
+            // the invariant: every call puts the entry back
             None => unreachable!(),
         }
     }
 
-    /// Opens the fid. If it is open already, the error is AlreadyOpen and the fid is unchanged.
+    /// Opens the slot's fid in this mode; `open_number` is the number that its run gave to the
+    /// open. If the fid is open already, the error is AlreadyOpen and the entry is unchanged.
     pub(crate) fn open(&mut self, mode: u8, open_number: u32) -> Result<(), FidFault>
         ensures faults { FailsAs result (walked_in (Some self.old)) }
         ensures entry { IfOk (walked_in (Some self.old))
@@ -69,14 +73,15 @@ impl Slot {
                 Ok(()),
             ),
             Some(open) => (open, Err(FidFault::AlreadyOpen)),
+            // the invariant: every call puts the entry back
             None => unreachable!(),
         };
         self.entry = Some(entry);
         answer
     }
 
-    /// Makes the fid one of another file of its run. If it is open, the error is AlreadyOpen and
-    /// the fid is unchanged.
+    /// Moves the slot's fid to the file of this number in its run. If the fid is open, the error is
+    /// AlreadyOpen and the entry is unchanged.
     pub(crate) fn move_to(&mut self, number: u64) -> Result<(), FidFault>
         ensures faults { FailsAs result (walked_in (Some self.old)) }
         ensures entry { IfOk (walked_in (Some self.old))
@@ -86,14 +91,15 @@ impl Slot {
         let (entry, answer) = match self.entry.take() {
             Some(FidEntry::Walked(walked)) => (FidEntry::Walked(walked.moved_to(number)), Ok(())),
             Some(open) => (open, Err(FidFault::AlreadyOpen)),
+            // the invariant: every call puts the entry back
             None => unreachable!(),
         };
         self.entry = Some(entry);
         answer
     }
 
-    /// Sets the place at which the next read of the fid's directory continues. If the fid isn't
-    /// open, the error is NotOpen and the fid is unchanged.
+    /// Sets the place at which reads of a directory by the slot's fid continue. If the fid isn't
+    /// open, the error is NotOpen, the entry is unchanged, and the new place is dropped.
     pub(crate) fn set_place(&mut self, place: Place) -> Result<(), FidFault>
         ensures faults { FailsAs result (opened_in (Some self.old)) }
         ensures entry { IfOk (opened_in (Some self.old))
@@ -103,6 +109,7 @@ impl Slot {
         let (entry, answer) = match self.entry.take() {
             Some(FidEntry::Opened(open)) => (FidEntry::Opened(open.with_place(place)), Ok(())),
             Some(walked) => (walked, Err(FidFault::NotOpen)),
+            // the invariant: every call puts the entry back
             None => unreachable!(),
         };
         self.entry = Some(entry);

@@ -47,7 +47,7 @@ impl Model for FidTable {
 }
 
 impl FidTable {
-    /// A table without fids. It takes no memory.
+    /// An empty table. It takes no memory.
     pub fn new(alloc: Global) -> FidTable
         ensures { result.fids ≡ empty }
     {
@@ -57,7 +57,7 @@ impl FidTable {
         }
     }
 
-    /// The number of fids.
+    /// The number of fids, at most FIDS.
     pub fn len(&self) -> usize
         ensures value { result ≡ len self.now.fids }
         ensures few { result ≤ FIDS }
@@ -65,8 +65,8 @@ impl FidTable {
         self.fids.len()
     }
 
-    /// Lends the entry of the fid. None if the table has no such fid, as for NOFID.
-    pub fn look(&self, fid: u32) -> Option<&FidEntry>
+    /// Lends the entry of the fid; None if the table has no such fid, as for NOFID.
+    pub fn entry_of(&self, fid: u32) -> Option<&FidEntry>
         ensures value { option_copied result ≡ fid_at self.now fid }
         ensures nofid { fid ≡ NOFID → IsNone result }
     {
@@ -93,8 +93,8 @@ impl FidTable {
         len < FIDS && len < self.fids.capacity() && len < self.opens.capacity()
     }
 
-    /// Reserves memory for one fid more. The error is TableFull if there are FIDS fids, and else
-    /// Memory, but only if there was no room yet. No fid changes, even after an error.
+    /// Reserves memory for one fid more; if the table has room already, it succeeds. The error is
+    /// TableFull if the table has FIDS fids, else Memory. No fid changes, even after an error.
     pub fn reserve(&mut self) -> Result<(), FidFault>
         ensures room { OnOk result (0 < self.new.room) }
         ensures full { FIDS ≤ len self.old.fids → result ≡ Err FidFault.TableFull }
@@ -108,12 +108,15 @@ impl FidTable {
         }
         self.fids.reserve(1)?;
         let wanted = self.fids.len() + 1;
+        // `opens` gets room for as many numbers as there are fids; it never has more, so nothing
+        // saturates
         self.opens.reserve(wanted.saturating_sub(self.opens.len()))?;
         Ok(())
     }
 
-    /// Adds the fid with this entry. If the table has that fid already, the error is InUse, the new
-    /// entry is returned, and the table is unchanged. It takes no memory.
+    /// Adds the fid with this entry. The table must have room, and the number must not be NOFID. If
+    /// the table has that fid already, the error is InUse, the new entry is returned, and the table
+    /// is unchanged. It takes no memory.
     pub fn put(&mut self, fid: u32, entry: FidEntry) -> Result<(), (FidFault, FidEntry)>
         requires room { 0 < self.old.room }
         requires named { fid ≢ NOFID }
@@ -123,12 +126,13 @@ impl FidTable {
         ensures unchanged { OnErr result (self.new ≡ self.old) }
         ensures room { self.old.room ≤ self.new.room + 1 }
     {
-        if self.look(fid).is_some() {
+        if self.entry_of(fid).is_some() {
             return Err((FidFault::InUse, entry));
         }
         let is_open = entry.as_opened().is_some();
         match self.fids.insert(fid, Slot::new(entry)) {
             Ok(_) => {}
+            // the caller has reserved the memory: `room`
             Err(_) => unreachable!(),
         }
         if is_open {
@@ -145,10 +149,11 @@ impl FidTable {
         ensures unchanged { OnErr result (self.new ≡ self.old) }
         ensures room { self.old.room ≤ self.new.room }
     {
-        if self.look(fid).is_none() {
+        if self.entry_of(fid).is_none() {
             return Err(FidFault::Unknown);
         }
         let Some(slot) = self.fids.swap_remove(&fid) else {
+            // `entry_of` found the fid
             unreachable!();
         };
         let entry = slot.into_entry();
@@ -166,13 +171,14 @@ impl FidTable {
         ensures unchanged { OnErr result (self.new ≡ self.old) }
         ensures room { self.old.room ≤ self.new.room }
     {
-        match self.look(fid) {
+        match self.entry_of(fid) {
             None => return Err(FidFault::Unknown),
             Some(FidEntry::Opened(_)) => return Err(FidFault::AlreadyOpen),
             Some(FidEntry::Walked(_)) => {}
         }
         match self.take_any(fid) {
             Ok(FidEntry::Walked(walked)) => Ok(walked),
+            // the match above found the fid, and it isn't open
             Ok(FidEntry::Opened(_)) => unreachable!(),
             Err(_) => unreachable!(),
         }
@@ -184,15 +190,16 @@ impl FidTable {
         ensures { MatchResult result (λ found. opened_in (fid_at self.now fid) ≡ Ok found.now)
             (λ fault. opened_in (fid_at self.now fid) ≡ Err fault) }
     {
-        match self.look(fid) {
+        match self.entry_of(fid) {
             None => Err(FidFault::Unknown),
             Some(FidEntry::Walked(_)) => Err(FidFault::NotOpen),
             Some(FidEntry::Opened(open)) => Ok(open),
         }
     }
 
-    /// Opens the fid. The error is Unknown if the table has no such fid, AlreadyOpen if the fid is
-    /// open; then the table is unchanged. It takes no memory.
+    /// Opens the fid in this mode; `open_number` is the number that its run gave to the open. The
+    /// error is Unknown if the table has no such fid, AlreadyOpen if the fid is open; then the
+    /// table is unchanged. It takes no memory.
     pub fn open(&mut self, fid: u32, mode: u8, open_number: u32) -> Result<(), FidFault>
         ensures faults { FailsAs result (walked_in (fid_at self.old fid)) }
         ensures fids { IfOk (walked_in (fid_at self.old fid))
@@ -205,12 +212,14 @@ impl FidTable {
             return Err(FidFault::Unknown);
         };
         slot.open(mode, open_number)?;
+        // `opens` has room for as many numbers as there are fids
         add_open_fid(&mut self.opens, fid);
         Ok(())
     }
 
-    /// Makes the fid one of another file of its run. The error is Unknown if the table has no such
-    /// fid, AlreadyOpen if the fid is open; then the table is unchanged. It takes no memory.
+    /// Moves the fid to the file of this number in its run. The error is Unknown if the table has
+    /// no such fid, AlreadyOpen if the fid is open; then the table is unchanged. It takes no
+    /// memory.
     pub fn move_to(&mut self, fid: u32, number: u64) -> Result<(), FidFault>
         ensures faults { FailsAs result (walked_in (fid_at self.old fid)) }
         ensures fids { IfOk (walked_in (fid_at self.old fid))
@@ -225,9 +234,9 @@ impl FidTable {
         slot.move_to(number)
     }
 
-    /// Sets the place at which the next read of the open fid's directory continues. The error is
-    /// Unknown if the table has no such fid, NotOpen if the fid isn't open; then the table is
-    /// unchanged. It takes no memory.
+    /// Sets the place at which the open fid's reads of a directory continue. The error is Unknown
+    /// if the table has no such fid, NotOpen if the fid isn't open; then the table is unchanged and
+    /// the new place dropped. It takes no memory.
     pub fn set_place(&mut self, fid: u32, place: Place) -> Result<(), FidFault>
         ensures faults { FailsAs result (opened_in (fid_at self.old fid)) }
         ensures fids { IfOk (opened_in (fid_at self.old fid))
@@ -242,7 +251,7 @@ impl FidTable {
         slot.set_place(place)
     }
 
-    /// Removes every fid; the reserved memory stays.
+    /// Removes every fid, open or not. The reserved memory stays reserved.
     pub fn clear(&mut self)
         ensures fids { self.new.fids ≡ empty }
         ensures room { self.old.room ≤ self.new.room }

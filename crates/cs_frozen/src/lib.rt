@@ -1,5 +1,5 @@
-//! A tree that no longer changes, read as if nothing had ever changed it. It keeps the tree as it
-//! is, and two tables that translate its numbers.
+//! A tree that no longer changes, read as if nothing had ever changed it: the tree itself, and two
+//! tables that translate its numbers.
 #![tactic(auto)]
 
 mod lower;

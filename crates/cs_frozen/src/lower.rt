@@ -12,15 +12,16 @@ use std::alloc::{AllocError, Global};
 use std::marker::Model;
 
 /// A tree that no longer changes, read as if nothing had ever changed it: each number is the place
-/// of the file's path in byte order, versions and times are 0, and the last writer of a file is its
-/// owner. It keeps the tree as it is, and 8 bytes for each file and for each number that the tree
-/// gave.
+/// of the file's path in the order of the paths (the root's is 0), versions and times are 0, and
+/// the last writer of a file is its owner. In addition to the tree, it takes 8 bytes for each file
+/// and for each number that the tree gave.
 #[derive(Drop)]
 pub struct Lower<T: TreeRead> {
     tree: T,
     // the tree's number at each number here
     numbers: Vec<u64>,
-    // the number here at each of the tree's numbers; 0 at those that no file has
+    // the number here at each of the tree's numbers; 0, which is never read, at those that no file
+    // has
     places: Vec<u64>,
 }
 
@@ -39,7 +40,7 @@ impl<T: TreeRead> Model for Lower<T> {
 }
 
 impl<T: TreeRead> Lower<T> {
-    /// Puts the tree and its two tables of numbers together.
+    /// The tree with its two tables of numbers, which `number_tables` has made from it.
     fn of(tree: T, numbers: Vec<u64>, places: Vec<u64>) -> Lower<T>
         requires { IsNumbered (T.tree tree) numbers.items places.items }
         ensures { result ≡ fresh (T.tree tree).files }
@@ -52,9 +53,9 @@ impl<T: TreeRead> Lower<T> {
     }
 }
 
-/// The tree, read as if nothing had ever changed it. It copies no record and no byte of a file.
-/// Only the tables of numbers allocate, and the paths they are made from, which are dropped again.
-/// If it runs out of memory, the tree is returned.
+/// The tree, read as if nothing had ever changed it. No record and no byte of a file is copied:
+/// only the two tables of numbers take memory, and for a time the paths that they are made from.
+/// The error is out of memory, as in `number_tables`, and returns the tree.
 pub fn freeze<T: TreeRead>(alloc: Global, tree: T) -> Result<Lower<T>, (T, AllocError)>
     ensures ok { IfOk result (λ lower. lower ≡ fresh (T.tree tree).files) }
     ensures err { IfErr result (λ back. back.0 ≡ tree) }
@@ -68,64 +69,70 @@ pub fn freeze<T: TreeRead>(alloc: Global, tree: T) -> Result<Lower<T>, (T, Alloc
 impl<T: TreeRead> TreeRead for Lower<T> {
     ghost tree = { λ t. t };
 
-    /// The fields of the tree's record, under its number here and as if it had never changed: its
-    /// owner is its last writer. None if no file has the number.
+    /// The metadata that the tree has of the file, but with the number here, version and times 0,
+    /// and the owner as last writer. None if no file has the number.
     fn record(&self, number: u64) -> Option<Metadata<'_>> {
-        let own = nth(&self.numbers, number)?;
+        let own = translate(&self.numbers, number)?;
+        // always Some: the table has only numbers of the tree's files
         let metadata = self.tree.record(own)?;
         Some(fresh_metadata(number, metadata))
     }
 
-    /// Looks the name up in the tree, and returns the file's number here; None if there is none.
+    /// Looks the name up in the tree, and returns the file's number here. None if the directory has
+    /// no such name, or `directory` isn't a directory's number.
     fn find_number(&self, directory: u64, name: &str) -> Option<u64> {
-        let own = nth(&self.numbers, directory)?;
+        let own = translate(&self.numbers, directory)?;
         let found = self.tree.find_number(own, name)?;
-        nth(&self.places, found)
+        // always Some: each of the tree's files has a place
+        translate(&self.places, found)
     }
 
-    /// The number here of the directory that has the file in the tree; None if no file has the
-    /// number.
+    /// The number here of the directory that has the file in the tree, and 0 for the root. None if
+    /// no file has the number.
     fn parent_of(&self, number: u64) -> Option<u64> {
-        let own = nth(&self.numbers, number)?;
+        let own = translate(&self.numbers, number)?;
+        // always Some: a file of the tree has a parent, and that has a place
         let parent = self.tree.parent_of(own)?;
-        nth(&self.places, parent)
+        translate(&self.places, parent)
     }
 
     /// The name that the tree has for the file; None for the root, and if no file has the number.
     fn name_of(&self, number: u64) -> Option<&Name> {
-        let own = nth(&self.numbers, number)?;
+        let own = translate(&self.numbers, number)?;
         self.tree.name_of(own)
     }
 
-    /// The tree's next entry, with the file's number here; None if the tree has none before the
-    /// bound.
+    /// The tree's next entry, with the file's number here. None if the tree has none before the
+    /// bound, or `directory` isn't a directory's number.
     fn entry_after(
         &self,
         directory: u64,
         last: Option<&Name>,
         bound: Option<&Name>,
     ) -> Option<ListedEntry<'_>> {
-        let own = nth(&self.numbers, directory)?;
+        let own = translate(&self.numbers, directory)?;
         let entry = self.tree.entry_after(own, last, bound)?;
-        let number = nth(&self.places, entry.number)?;
+        // always Some: each of the tree's files has a place
+        let number = translate(&self.places, entry.number)?;
         Some(ListedEntry {
             name: entry.name,
             number,
         })
     }
 
-    /// The number of numbers here, which is that of the tree's records.
+    /// The number of files, including directories and the root, as in the tree.
     fn count(&self) -> usize {
         self.numbers.len()
     }
 
-    /// One less than the count, since the numbers here have no gaps.
+    /// One less than the count, since the numbers here begin with the root's, 0, and have no gaps.
+    /// The count is at least 1: each tree has a root.
     fn last_number(&self) -> u64 {
         self.numbers.len() as u64 - 1
     }
 
-    /// Reads the tree's file, whose bytes are the same; None if it is a directory, or no file has
-    /// the number.
+    /// Reads the file in the tree: its bytes are the same here. None if the number is a directory's
+    /// or no file's.
     fn read_at(
         &self,
         alloc: Global,
@@ -133,7 +140,7 @@ impl<T: TreeRead> TreeRead for Lower<T> {
         offset: u64,
         count: usize,
     ) -> Result<Option<Vec<u8>>, AllocError> {
-        let Some(own) = nth(&self.numbers, number) else {
+        let Some(own) = translate(&self.numbers, number) else {
             return Ok(None);
         };
         let bytes = self.tree.read_at(alloc, own, offset, count)?;
@@ -141,15 +148,15 @@ impl<T: TreeRead> TreeRead for Lower<T> {
     }
 }
 
-/// The number at a place in a table; None past its end.
-fn nth(numbers: &[u64], place: u64) -> Option<u64>
-    ensures { result ≡ slice_get numbers.now place }
+/// Translates a number by a table: what the table has at that place. None past the table's end.
+fn translate(table: &[u64], number: u64) -> Option<u64>
+    ensures { result ≡ slice_get table.now number }
 {
-    numbers.get(place as usize).copied()
+    table.get(number as usize).copied()
 }
 
-/// A file's metadata under this number, as if nothing had changed the file since it was made: the
-/// version and the times are 0, and the owner is the last writer.
+/// The metadata with this number, and as if nothing had ever changed the file: the version and the
+/// times are 0, and the owner is the last writer.
 fn fresh_metadata(number: u64, metadata: Metadata<'_>) -> Metadata<'_>
     ensures { metadata_of_ref result ≡ fresh_metadata number (metadata_of_ref metadata.entry) }
 {

@@ -11,8 +11,8 @@ use cs_tree_model::{TreeRead, path_of};
 use std::alloc::{AllocError, Global};
 use std::collections::BTreeMap;
 
-/// Inserts the number under its path. A number whose file was removed has no path, and nothing is
-/// inserted.
+/// Inserts the number under its path; does nothing if `path` is None, as it is for a number whose
+/// file was removed. After an error the caller gives the map up.
 fn insert_if_some(
     paths: &mut BTreeMap<Path, u64>,
     path: Option<Path>,
@@ -30,8 +30,8 @@ fn insert_if_some(
     Ok(())
 }
 
-/// The numbers of a tree's files by their paths. It tries each number below `end`, which is above
-/// all of them.
+/// The numbers of a tree's files by their paths. Each number below `end` is looked up, and the
+/// caller's `end` is above all numbers of files.
 fn numbers_by_path<T: TreeRead>(
     alloc: Global,
     tree: &T,
@@ -50,7 +50,8 @@ fn numbers_by_path<T: TreeRead>(
     Ok(paths)
 }
 
-/// The numbers in the order of their paths. It reserves memory for `count` of them at once.
+/// The numbers in the order of their paths. Memory is reserved once, for `count` of them, which the
+/// caller has from the tree.
 fn numbers_in_order(
     alloc: Global,
     paths: &BTreeMap<Path, u64>,
@@ -66,8 +67,8 @@ fn numbers_in_order(
     Ok(numbers)
 }
 
-/// A table of `end` places. At a place n it has the place of the number n in `numbers`, or 0 if n
-/// isn't there. The numbers are all different and below `end`.
+/// A table of `end` items that finds a number's place in `numbers`: at n it has the place of n, or
+/// 0 if n isn't one of them. The caller's numbers are all different and below `end`.
 fn places_of(alloc: Global, numbers: &[u64], end: u64) -> Result<Vec<u64>, AllocError>
     requires below { (i : ℕ) (n : ℕ) → slice_get numbers.now i ≡ Some n → n < end }
     requires apart { (i : ℕ) (j : ℕ) (n : ℕ) → slice_get numbers.now i ≡ Some n
@@ -84,8 +85,8 @@ fn places_of(alloc: Global, numbers: &[u64], end: u64) -> Result<Vec<u64>, Alloc
 }
 
 /// Two tables: the tree's number at each fresh number, and the fresh number at each of the tree's.
-/// The error also means that the tree has given every u64, so that the second table would be larger
-/// than any memory.
+/// The error is out of memory, also if the tree has given every u64 as a number: then the second
+/// table would be larger than any memory.
 pub fn number_tables<T: TreeRead>(
     alloc: Global,
     tree: &T,

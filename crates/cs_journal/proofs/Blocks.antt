@@ -11,8 +11,8 @@ use Rattle.std.specs.List.{All}
 use Rattle.std.specs.Prelude.{Vec}
 use Rattle.std.specs.declared.alloc.Global.{Global}
 use Rattle.cs_journal.specs.declared.entry.Entry.{Entry}
-use Rattle.cs_journal.specs.declared.kept.KeptCall.{KeptCall}
-use Rattle.cs_journal.specs.declared.kept.KeptCall.TheVariants as k
+use Rattle.cs_journal.specs.declared.kept_call.KeptCall.{KeptCall}
+use Rattle.cs_journal.specs.declared.kept_call.KeptCall.TheVariants as k
 use Rattle.cs_journal.specs.declared.written.Piece.{Piece}
 use Rattle.cs_journal.specs.Kept.{IsEntryIn, LiesIn, call_of, entry_in, write_call}
 use Rattle.cs_journal.specs.Written.{IsWithin, Keeps, bytes_at, bytes_in}

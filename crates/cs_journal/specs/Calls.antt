@@ -5,7 +5,7 @@ use Rattle.cs_names.specs.declared.limits.TheConstants.{JOURNAL_ENTRIES}
 use Rattle.cs_permit.specs.declared.call.Call.{Call}
 use Rattle.cs_permit.specs.declared.call.Call.TheVariants.{Close}
 use Rattle.cs_permit.specs.declared.call.OpenFile.{OpenFile}
-use Rattle.cs_run.specs.Effects.{removes}
+use Rattle.cs_run.specs.Effects.{removes_file}
 use Rattle.cs_run.specs.Laws.{opens_one}
 use Rattle.cs_run.specs.Opens.{open_numbered}
 use Rattle.cs_run.specs.Outcomes.{closed_open_number}
@@ -36,4 +36,4 @@ is_close other = false
 abbrev pub closes_plainly : RunState → ℕ → Call → Bool
 closes_plainly state pass call =
     is_close call && (is_some (open_that_ends state.opens pass call)
-    && not (removes state.tree (open_that_ends state.opens pass call)))
+    && not (removes_file state.tree (open_that_ends state.opens pass call)))

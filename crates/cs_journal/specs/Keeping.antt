@@ -1,7 +1,7 @@
 -- What is kept of a call.
 use Rattle.std.specs.Prelude.{◌≡◌, []}
 use Rattle.cs_permit.specs.declared.call.Call.{Call}
-use Rattle.cs_journal.specs.declared.kept.KeptCall.{KeptCall}
+use Rattle.cs_journal.specs.declared.kept_call.KeptCall.{KeptCall}
 use Rattle.cs_journal.specs.Journals.{JournalOf}
 use Rattle.cs_journal.specs.Kept.{LiesIn, call_of}
 use Rattle.cs_journal.specs.Summaries.{without_bytes}

@@ -7,11 +7,11 @@ use Rattle.cs_names.specs.declared.limits.TheConstants.{RUN_ATTACHES}
 use Rattle.cs_permit.specs.declared.call.Call.{Call}
 use Rattle.cs_permit.specs.declared.call.Call.TheVariants as call
 use Rattle.cs_journal.specs.declared.entry.Entry.{Entry}
-use Rattle.cs_journal.specs.declared.kept.CallAgain.{CallAgain}
-use Rattle.cs_journal.specs.declared.kept.CallAgain.TheVariants as a
-use Rattle.cs_journal.specs.declared.kept.KeptCall.{KeptCall}
-use Rattle.cs_journal.specs.declared.kept.KeptCall.TheVariants as k
-use Rattle.cs_journal.specs.declared.kept.WriteHead.{WriteHead}
+use Rattle.cs_journal.specs.declared.kept_call.CallAgain.{CallAgain}
+use Rattle.cs_journal.specs.declared.kept_call.CallAgain.TheVariants as a
+use Rattle.cs_journal.specs.declared.kept_call.KeptCall.{KeptCall}
+use Rattle.cs_journal.specs.declared.kept_call.KeptCall.TheVariants as k
+use Rattle.cs_journal.specs.declared.kept_call.WriteHead.{WriteHead}
 use Rattle.cs_journal.specs.Journals.{EntryOf}
 use Rattle.cs_journal.specs.Written.{IsWithin, bytes_at}
 

@@ -5,8 +5,8 @@ use Rattle.cs_permit.specs.declared.call.Call.{Call}
 use Rattle.cs_permit.specs.declared.call.Call.TheVariants as call
 
 -- the place before the first entry of a directory
-abbrev pub is_start : Place → Bool
-is_start place = place.end == 0 && not (is_some place.last)
+abbrev pub is_listing_start : Place → Bool
+is_listing_start place = place.end == 0 && not (is_some place.last)
 
 -- a call that an entry keeps whole: a close, a remove, a stat, or a read whose place is the start,
 -- as every read of a file
@@ -14,7 +14,7 @@ abbrev pub is_small : Call → Bool
 is_small (call.Close c) = true
 is_small (call.Remove c) = true
 is_small (call.Stat c) = true
-is_small (call.Read c) = is_start c.place
+is_small (call.Read c) = is_listing_start c.place
 is_small other = false
 
 -- a write, of which the bytes are kept apart from the rest

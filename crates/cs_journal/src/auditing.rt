@@ -69,8 +69,9 @@ fn receipts_by_number(passes: &[Pass]) -> [&[Receipt]; PASSES]
     all
 }
 
-/// The receipts whose place is this one or a later one: the end of the list, perhaps none.
-fn from_place(receipts: &[Receipt], place: u32) -> &[Receipt]
+/// The receipts at this place or a later one: the end of the list, which is in ascending order of
+/// places. Empty if all are earlier.
+fn receipts_from(receipts: &[Receipt], place: u32) -> &[Receipt]
     requires { IsAscending receipts.now }
     ensures same { FindSame place result.now receipts.now }
     ensures ascending { IsAscending result.now }
@@ -84,8 +85,9 @@ fn from_place(receipts: &[Receipt], place: u32) -> &[Receipt]
     &[]
 }
 
-/// The first of the receipts, if it has that place. None if it has another or there are none.
-fn first_at(receipts: &[Receipt], place: u32) -> Option<&Receipt>
+/// The first of the receipts, if its place is this one; None if its place is later or there are no
+/// receipts. The caller has left out those at earlier places.
+fn first_if_at(receipts: &[Receipt], place: u32) -> Option<&Receipt>
     requires ascending { IsAscending receipts.now }
     requires from { IfSome (slice_get receipts.now 0) (λ r. place ≤ r.place) }
     ensures { option_map (λ r. r.now) result ≡ find (is_at place) receipts.now }
@@ -113,8 +115,8 @@ fn audit_entry(receipt: Option<&Receipt>, place: u32, entry: &EntryRef) -> Resul
     }
 }
 
-/// Ok if each entry has its own receipt, else the fault of the first that doesn't. It goes over
-/// each receipt once.
+/// Ok if each entry has its own receipt, else the fault of the first entry that doesn't. Each
+/// receipt is passed over once.
 fn audit_entries(journal: &Journal, passes: &[Pass]) -> Result<(), AuditFault>
     requires { length journal.now.items ≤ JOURNAL_ENTRIES }
     ensures { IsAudit passes.now journal.now.items result }
@@ -123,9 +125,9 @@ fn audit_entries(journal: &Journal, passes: &[Pass]) -> Result<(), AuditFault>
     for place in 0..journal.len() {
         let entry = journal.entry(place);
         let number = entry.pass();
-        let rest = from_place(rests[number], place as u32);
+        let rest = receipts_from(rests[number], place as u32);
         rests[number] = rest;
-        match audit_entry(first_at(rest, place as u32), place as u32, &entry) {
+        match audit_entry(first_if_at(rest, place as u32), place as u32, &entry) {
             Ok(()) => {}
             Err(fault) => return Err(fault),
         }
@@ -133,7 +135,8 @@ fn audit_entries(journal: &Journal, passes: &[Pass]) -> Result<(), AuditFault>
     Ok(())
 }
 
-/// Checks first that there are as many receipts as entries (Count if not), and then each entry.
+/// Ok if the receipts are the journal's entries. Count if there are not as many, else the fault
+/// that `audit_entries` finds.
 fn audit_journal(journal: &Journal, passes: &[Pass]) -> Result<(), AuditFault>
     requires { length journal.now.items ≤ JOURNAL_ENTRIES }
     ensures { Audits passes.now journal.now.items result }

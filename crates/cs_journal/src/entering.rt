@@ -6,12 +6,12 @@ ghost use Rattle.cs_journal.specs.Summaries.{without_bytes};
 
 use crate::entry::Entry;
 use crate::journal::Journal;
-use crate::kept::KeptCall;
+use crate::kept_call::KeptCall;
 use crate::receipt::Receipt;
 use cs_run::{Outcome, Turn};
 
 /// Adds the entry and the receipt of a call that had that turn and outcome, into the room that both
-/// lists have. `entry` and `receipt` are what they keep of the call.
+/// lists have. `entry` and `receipt` are what these two keep of the call.
 #[inline]
 pub(crate) fn enter(
     journal: &mut Journal,
@@ -44,6 +44,7 @@ pub(crate) fn enter(
     ensures receipts_capacity { vec_capacity receipts.new ≡ vec_capacity receipts.old }
 {
     journal.push(Entry {
+        // below RUN_ATTACHES, so 8 bits suffice
         pass: turn.pass as u8,
         outcome,
         moment: turn.moment,

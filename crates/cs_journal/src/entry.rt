@@ -2,14 +2,15 @@
 ghost use Rattle.std.specs.Prelude.{◌≡◌, ◌<◌, IfOk};
 ghost use Rattle.cs_names.specs.declared.limits.TheConstants.{RUN_ATTACHES};
 
-use crate::kept::{CallAgain, KeptCall};
+use crate::kept_call::{CallAgain, KeptCall};
 use crate::summary::CallSummary;
 use crate::written::Written;
 use cs_run::{Outcome, Turn};
 use std::alloc::{AllocError, Global};
 use std::marker::Model;
 
-/// An entry of a journal as it is stored, without the bytes that its call wrote.
+/// An entry of a journal as it is stored: the pass under which its call came, how the call ended,
+/// its moment, and what is kept of it, without the bytes that it wrote.
 #[derive(Drop)]
 pub struct Entry {
     // 8 bits, to keep an entry small
@@ -81,7 +82,8 @@ impl<'a> EntryRef<'a> {
         self.entry.kept.summary()
     }
 
-    /// Its call, to be done again, with the bytes that it writes.
+    /// Its call, to be done again, with the bytes that it writes, which are borrowed. An error
+    /// means that memory ran out.
     pub(crate) fn again(&self, alloc: Global) -> Result<CallAgain<'a>, AllocError>
         ensures { IfOk result (λ again. again_call again ≡ self.now.call) }
     {

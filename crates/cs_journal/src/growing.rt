@@ -6,8 +6,8 @@ use cs_names::limits::JOURNAL_ENTRIES;
 use cs_run::greatest_version;
 use cs_tree_model::TreeRead;
 
-/// Whether each version and the next number can grow by one with every entry of a journal without
-/// overflow. False only for a tree that was changed some four thousand million times.
+/// Whether each version (of 32 bits) and the next number (of 64) can grow by one with every entry
+/// of a journal without overflow. False only for a tree that was changed some 2^32 times.
 pub fn can_grow<L: TreeRead>(tree: &L) -> bool
     ensures { IsTrue result ↔ CanGrow (L.tree tree.now) }
 {

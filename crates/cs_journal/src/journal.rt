@@ -7,7 +7,7 @@ ghost use Rattle.cs_journal.specs.Kept.{LiesIn, entry_in};
 ghost use Rattle.cs_permit.specs.declared.call.Call.TheVariants.{Write};
 
 use crate::entry::{Entry, EntryRef};
-use crate::kept::{KeptCall, WriteHead};
+use crate::kept_call::{KeptCall, WriteHead};
 use crate::room::widen;
 use crate::user_text::UserText;
 use crate::written::Written;
@@ -60,8 +60,8 @@ impl Journal {
         self.entries.len()
     }
 
-    /// Makes room for `more` entries, or for a whole journal if this one is long. An error leaves
-    /// the entries as they are.
+    /// Makes room for `more` entries, as `widen` of `room` does for any list. An error leaves the
+    /// entries as they are.
     #[inline]
     pub(crate) fn widen(&mut self, more: usize) -> Result<(), AllocError>
         ensures items { self.new.items ≡ self.old.items }
@@ -112,7 +112,7 @@ impl Journal {
         self.entries.push_reserved(entry);
     }
 
-    /// The entry at that place, with the bytes that its call wrote.
+    /// The entry at that place, which is below `len`, with the bytes that its call wrote.
     pub(crate) fn entry(&self, place: usize) -> EntryRef<'_>
         requires { place < length self.now.items }
         ensures { slice_get self.now.items place ≡ Some result }

@@ -10,14 +10,15 @@ use crate::receipt::Receipt;
 use crate::run::Run;
 use cs_tree_model::TreeRead;
 
-/// Whether the last receipt is that of the entry at the place `last`. If there is no such entry,
-/// whether there are no receipts.
+/// Whether the last receipt is that of the entry at the place `last`. If the journal has no such
+/// entry, or `last` is None, whether there are no receipts.
 fn is_last(receipts: &[Receipt], journal: &Journal, last: Option<u32>) -> bool
     ensures { IsTrue result ↔ (last_of receipts.now ≡ receipt_at journal.now.items last) }
 {
     let Some(place) = last else {
         return receipts.is_empty();
     };
+    // never so for a run's counts: they have places of its own entries
     if place as usize >= journal.len() {
         return receipts.is_empty();
     }

@@ -2,7 +2,7 @@
 ghost use Rattle.std.specs.Prelude.{◌≡◌, ◌↔◌, IsTrue};
 
 use crate::entry::EntryRef;
-use crate::kept::KeptCall;
+use crate::kept_call::KeptCall;
 use crate::summary::{are_same, summary_of};
 use cs_names::RuleId;
 use cs_permit::Call;
@@ -40,13 +40,14 @@ fn is_same_rule(rule: RuleId, other: RuleId) -> bool
     rule == other
 }
 
-/// Whether both outcomes are the same; for denials, whether by the same rule.
-fn is_same_end(outcome: Outcome, other: Outcome) -> bool
+/// Whether both outcomes are the same; denials are if they are by the same rule.
+fn is_same_outcome(outcome: Outcome, other: Outcome) -> bool
     ensures { IsTrue result ↔ (outcome ≡ other) }
 {
     match (outcome, other) {
         (Outcome::Granted, Outcome::Granted) | (Outcome::Short, Outcome::Short) => true,
         (Outcome::Denied(rule), Outcome::Denied(other)) => is_same_rule(rule, other),
+        // outcomes of two kinds
         _ => false,
     }
 }
@@ -84,7 +85,7 @@ impl Receipt {
         if self.place != place {
             return false;
         }
-        if !is_same_end(self.outcome, entry.outcome()) {
+        if !is_same_outcome(self.outcome, entry.outcome()) {
             return false;
         }
         are_same(self.kept.summary(), entry.summary())

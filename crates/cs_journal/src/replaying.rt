@@ -1,4 +1,5 @@
-//! The answer to an entry's call, by doing the calls of a journal again.
+//! The answer to an entry's call, by doing the calls of a journal again, on a tree and opens made
+//! for this. After an error these are dropped, so no contract says what the error leaves.
 ghost use Rattle.std.specs.Prelude.{◌≡◌, ◌<◌, ◌≤◌, ◌^◌, ℕ, IfOk, length};
 ghost use Rattle.std.specs.Arc.{arc_value};
 ghost use Rattle.cs_names.specs.declared.limits.TheConstants.{JOURNAL_ENTRIES};
@@ -14,7 +15,7 @@ ghost use Rattle.cs_tree_model.specs.Stores.{CanStamp};
 
 use crate::entry::EntryRef;
 use crate::journal::Journal;
-use crate::kept::CallAgain;
+use crate::kept_call::CallAgain;
 use crate::run::Run;
 use cs_overlay::Overlay;
 use cs_permit::Call;
@@ -25,18 +26,20 @@ use cs_users::Users;
 use std::alloc::{AllocError, Global};
 use std::sync::Arc;
 
-/// Releases the open that the call ends, if it ends one and that is there.
-fn release(call: &Call<'_>, opens: &mut Opens, pass: u32)
+/// Releases the open that the call ends, if there is such an open. (`Opens::release_if` of cs_run,
+/// which `act` uses for a call that isn't granted, is private there.)
+fn release_ended(call: &Call<'_>, opens: &mut Opens, pass: u32)
     ensures { opens.new.items
         ≡ opens_without_if (closed_open_number call.now) pass opens.old.items }
 {
     if let Some(number) = closed_open_number(call) {
+        // whether there was such an open makes no difference
         let _open = opens.release(number, pass);
     }
 }
 
-/// Does a call that was granted before. No rule denies it now either, so any outcome other than
-/// Granted means that memory ran out.
+/// Does a call again that was granted before. On the same tree no rule denies it now either, so any
+/// other outcome than Granted means that memory ran out.
 fn grant_again<T: TreeStore>(
     alloc: Global,
     call: &Call<'_>,
@@ -58,8 +61,8 @@ fn grant_again<T: TreeStore>(
     }
 }
 
-/// Does a call again, with the outcome that it had. A call that was denied or ran out of memory
-/// only releases the open that it ends.
+/// Does a call again, with the outcome that it had, and returns its answer. A call that was denied
+/// or ran out of memory only releases the open that it ends.
 fn redo<T: TreeStore>(
     alloc: Global,
     call: &Call<'_>,
@@ -79,11 +82,11 @@ fn redo<T: TreeStore>(
     match outcome {
         Outcome::Granted => grant_again(alloc, call, tree, opens, users, turn),
         Outcome::Denied(rule) => {
-            release(call, opens, turn.pass);
+            release_ended(call, opens, turn.pass);
             Ok(Answer::Denied(rule))
         }
         Outcome::Short => {
-            release(call, opens, turn.pass);
+            release_ended(call, opens, turn.pass);
             Ok(Answer::Short)
         }
     }
@@ -139,9 +142,9 @@ fn answer_of<L: TreeRead + Drop>(
 }
 
 impl<L: TreeRead + Drop> Run<L> {
-    /// The answer to the call of the entry at that place of the journal, or None past the end. The
-    /// calls up to that place are done again over the tree with which the run began; the tree isn't
-    /// copied.
+    /// The answer to the call of the journal's entry at that place; None if there is no such entry.
+    /// The calls up to this one, it included, are done again over the tree with which the run
+    /// began, without a copy of the tree. An error means that memory ran out.
     pub fn answer_at(&self, alloc: Global, place: usize) -> Result<Option<Answer>, AllocError>
         ensures { IfOk result (λ answer. answer ≡ answer_in self.now place) }
     {

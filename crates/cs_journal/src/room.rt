@@ -9,8 +9,8 @@ ghost use Rattle.cs_journal.specs.Small.{is_small, is_write};
 ghost use Rattle.cs_run.specs.Laws.{opens_one};
 
 use crate::journal::Journal;
-use crate::keeping::keep_call;
-use crate::kept::KeptCall;
+use crate::keep_call::keep_call;
+use crate::kept_call::KeptCall;
 use crate::receipt::Receipt;
 use crate::user_text::UserText;
 use cs_names::limits::JOURNAL_ENTRIES;
@@ -20,7 +20,7 @@ use cs_run::opens::Opens;
 use std::alloc::{AllocError, Global};
 use std::sync::Arc;
 
-/// A list of at least this many elements is long.
+/// A list of at least this many elements is long: `grow` expects that it gets many more.
 const LONG: usize = 1_024;
 
 /// Whether a granted call of this kind adds an open.
@@ -84,6 +84,7 @@ fn grow<T>(list: &mut Vec<T>, more: usize) -> Result<(), AllocError>
 {
     let len = list.len();
     if LONG <= len && len < JOURNAL_ENTRIES {
+        // if there is no memory for so many, room for `more` suffices
         let _whole = list.reserve_exact(JOURNAL_ENTRIES - len);
     }
     list.reserve(more)
@@ -105,9 +106,9 @@ pub(crate) fn widen<T>(list: &mut Vec<T>, more: usize) -> Result<(), AllocError>
 }
 
 /// What the entry and the receipt of a call keep, after making room for `entries_more` entries,
-/// `receipts_more` receipts and the blank texts for their users: one of each is for this call, the
-/// rest for the closes to come. None if memory runs out. The journal's entries and the receipts
-/// stay as they are.
+/// `receipts_more` receipts and twice as many blank texts: one entry and one receipt are for this
+/// call, the rest for the closes to come. None if memory runs out. The journal's entries and the
+/// receipts stay as they are.
 #[inline]
 pub(crate) fn reserve_and_keep(
     alloc: Global,

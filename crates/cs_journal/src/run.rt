@@ -57,7 +57,7 @@ impl<L: TreeRead + Drop> Model for Run<L> {
 }
 
 impl<L: TreeRead + Drop> Run<L> {
-    /// A run over this tree, with no open and no entry. It doesn't copy the tree.
+    /// A run over this tree, with no open, no entry and no pass. It doesn't copy the tree.
     pub fn fresh(alloc: Global, lower: Arc<L>, users: Arc<Users>) -> Result<Run<L>, AllocError>
         requires grows { CanGrow (L.TreeRead.tree (arc_value lower)) }
         ensures { IfOk result (λ run. run ≡ fresh_run (L.TreeRead.tree (arc_value lower))
@@ -82,8 +82,8 @@ impl<L: TreeRead + Drop> Run<L> {
         self.journal.len()
     }
 
-    /// A new pass, under which calls can be made. Room if the run gave RUN_ATTACHES already; after
-    /// a refusal the run is as it was.
+    /// A new pass, under which calls can be made. The error is Room if the run gave RUN_ATTACHES
+    /// passes already, else Memory, but never Foreign; the run is then as it was.
     pub fn new_pass(&mut self, alloc: Global) -> Result<Pass, PassFault>
         ensures pass { IfOk result (λ pass. pass ≡ fresh_pass self.old.passes) }
         ensures run { OnOk result (self.new ≡ with_pass self.old) }

@@ -11,8 +11,8 @@ ghost use Rattle.cs_run.specs.Laws.{FitsCall};
 
 use crate::counts::PassCounts;
 use crate::entering::enter;
-use crate::keeping::{is_write, share};
-use crate::kept::is_small;
+use crate::keep_call::{is_write, share};
+use crate::kept_call::is_small;
 use crate::pass::Pass;
 use crate::room::{charge_of, reserve_and_keep};
 use crate::run::Run;
@@ -78,9 +78,9 @@ impl<L: TreeRead + Drop> Run<L> {
         Some(charge)
     }
 
-    /// Does a call as `step` does, after it was found that the journal has room for the `charged`
-    /// more entries that the call takes. `shared` is the call in the Arc that its entry and its
-    /// receipt share; None if the call is small or a write.
+    /// Does a call as `step` does. The caller has checked that the journal has room for the
+    /// `charged` more entries that the call takes. `shared` is the call in the Arc that its entry
+    /// and its receipt share; None if the call is small or a write.
     fn make_call(
         &mut self,
         alloc: Global,

@@ -7,7 +7,8 @@ use cs_names::Name;
 use cs_permit::Call;
 use cs_wire::Stat;
 
-/// A call without the bytes that it writes, borrowed from an entry or a receipt.
+/// A call without the bytes that it writes, borrowed from an entry or a receipt. `summary_of` names
+/// the fields.
 #[derive(Clone, Copy)]
 pub(crate) enum CallSummary<'a> {
     Attach(&'a [u8]),
@@ -22,7 +23,8 @@ pub(crate) enum CallSummary<'a> {
     Wstat(u64, &'a [u8], &'a Stat),
 }
 
-/// The call's fields, borrowed, without the bytes that it writes.
+/// The call's fields, borrowed, without the bytes that it writes. (`KeptCall::summary` returns
+/// those of a kept call.)
 pub(crate) fn summary_of<'a>(call: &'a Call<'_>) -> CallSummary<'a>
     ensures { call_in result ≡ without_bytes call.now }
 {
@@ -84,7 +86,8 @@ fn is_same_stat(stat: &Stat, other: &Stat) -> bool
         && stat.muid == other.muid
 }
 
-/// Whether two reads of directories continue after the same name, or both from the first entry.
+/// Whether two reads of directories continue after the same name; also if both begin with the first
+/// entry.
 fn is_same_last(name: Option<&Name>, other: Option<&Name>) -> bool
     ensures { IsTrue result ↔ (option_map (λ n. n.now) name.entry
         ≡ option_map (λ n. n.now) other.entry) }
@@ -92,6 +95,7 @@ fn is_same_last(name: Option<&Name>, other: Option<&Name>) -> bool
     match (name, other) {
         (Some(name), Some(other)) => name == other,
         (None, None) => true,
+        // only one has a name
         _ => false,
     }
 }
@@ -137,6 +141,7 @@ pub(crate) fn are_same(call: CallSummary, other: CallSummary) -> bool
         (CallSummary::Wstat(number, user, stat), CallSummary::Wstat(number2, user2, stat2)) => {
             number == number2 && user == user2 && is_same_stat(stat, stat2)
         }
+        // calls of two kinds
         _ => false,
     }
 }

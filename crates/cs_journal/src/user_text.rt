@@ -1,8 +1,9 @@
 //! A user's name in a fixed array.
 ghost use Rattle.std.specs.Prelude.{◌≡◌, IfOk};
+ghost use Rattle.cs_names.specs.Legal.{IsUserName};
 
-use cs_names::UserName;
 use cs_names::limits::USER_NAME_BYTES;
+use cs_names::{NameFault, UserName};
 use std::alloc::{AllocError, Global};
 use std::marker::Model;
 
@@ -15,21 +16,23 @@ pub(crate) struct UserText {
 
 impl Model for UserText {
     ghost use Rattle.std.specs.Prelude.{List, ℕ, ◌≤◌, take};
+    ghost use Rattle.cs_names.specs.Legal.{IsUserName};
     ghost use Rattle.cs_names.specs.declared.limits.TheConstants.{USER_NAME_BYTES};
 
     ghost Value = { List ℕ };
 
     ghost view = { λ text. take text.len text.bytes };
 
-    ghost invariant = { λ text. text.len ≤ USER_NAME_BYTES };
+    ghost invariant = { λ text. (text.len ≤ USER_NAME_BYTES)
+        × IsUserName (take text.len text.bytes) };
 }
 
 impl UserText {
-    /// An empty text, to be replaced by a name's text later.
+    /// The text of the name `-`, to be replaced by that of a call's user later.
     pub(crate) fn blank() -> UserText {
         UserText {
-            bytes: [0; USER_NAME_BYTES],
-            len: 0,
+            bytes: [b'-'; USER_NAME_BYTES],
+            len: 1,
         }
     }
 
@@ -46,20 +49,22 @@ impl UserText {
         }
     }
 
-    /// The name as an owned UserName. It is asked of a text made by `of`, so the bytes are a name's
-    /// and an error means that memory ran out.
+    /// Copies the text into a name. An error means that memory ran out.
     pub(crate) fn name(&self, alloc: Global) -> Result<UserName, AllocError>
         ensures { IfOk result (λ name. name ≡ self.now) }
     {
         match UserName::read(alloc, self.as_bytes()) {
             Ok(name) => Ok(name),
-            Err(_) => Err(AllocError),
+            Err(NameFault::Memory) => Err(AllocError),
+            // the text is a legal name: the invariant says so
+            Err(_) => unreachable!(),
         }
     }
 
-    /// The bytes of the name; empty for a blank text.
+    /// The bytes of the name.
     pub(crate) fn as_bytes(&self) -> &[u8]
-        ensures { result.now ≡ self.now }
+        ensures value { result.now ≡ self.now }
+        ensures legal { IsUserName self.now }
     {
         &self.bytes[..self.len]
     }

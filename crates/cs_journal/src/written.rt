@@ -22,7 +22,8 @@ pub(crate) struct Piece {
     pub(crate) len: u32,
 }
 
-/// The bytes of writes, in blocks. Contracts see the bytes of each block.
+/// The bytes of writes, in blocks, each write's within one block. Contracts see the bytes of each
+/// block.
 #[derive(Drop)]
 pub(crate) struct Written {
     // a block never grows past its capacity, so its bytes are never copied
@@ -50,11 +51,7 @@ fn has_room(blocks: &[Vec<u8>], more: usize) -> bool
 
 /// Adds an empty block if the last has no room for `more` bytes, or there is no block. An error
 /// adds none.
-fn add_block_if_full(
-    alloc: Global,
-    blocks: &mut Vec<Vec<u8>>,
-    more: usize,
-) -> Result<(), AllocError>
+fn add_block_for(alloc: Global, blocks: &mut Vec<Vec<u8>>, more: usize) -> Result<(), AllocError>
     ensures kept { Keeps (bytes_in blocks.old.items) (bytes_in blocks.new.items) }
     ensures some { OnOk result (0 < length blocks.new.items) }
 {
@@ -104,7 +101,7 @@ fn put_last(blocks: &mut Vec<Vec<u8>>, bytes: &[u8]) -> Result<Piece, AllocError
 }
 
 impl Written {
-    /// No bytes yet.
+    /// A store without bytes and without blocks.
     pub(crate) fn new(alloc: Global) -> Written
         ensures { result ≡ [] }
     {
@@ -120,7 +117,7 @@ impl Written {
         ensures within { IfOk result (λ piece. IsWithin self.new piece) }
         ensures bytes { IfOk result (λ piece. bytes_at self.new piece ≡ bytes.now) }
     {
-        add_block_if_full(alloc, &mut self.blocks, bytes.len())?;
+        add_block_for(alloc, &mut self.blocks, bytes.len())?;
         put_last(&mut self.blocks, bytes)
     }
 

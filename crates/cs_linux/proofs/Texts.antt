@@ -7,7 +7,7 @@ use Rattle.std.proofs.lemmas.Option.{none-some}
 use Rattle.cs_names.specs.Rules.{text_of}
 use Rattle.cs_names.specs.declared.rule_id.RuleId.{RuleId}
 use Rattle.cs_names.specs.declared.rule_id.RuleId.TheVariants.{S1}
-use Rattle.cs_linux.specs.Numbers.{place_of, rule_numbered, rules_of}
+use Rattle.cs_linux.specs.Numbers.{place_in_letter, rule_numbered, rules_of}
 
 -- a text is the same as itself
 pub same_text : (x : List ℕ) → pointwise nat_eq x x ≡ true
@@ -16,7 +16,7 @@ same_text (b ∷ x) = rw (eq-eqb b b refl, same_text x) refl
 
 -- each rule's text begins with the rule's number
 pub own_number : (rule : RuleId) → rule_numbered (text_of rule) ≡ Some rule
-unfolding rules_of place_of
+unfolding rules_of place_in_letter
 own_number S1 = refl
 own_number rule = refl
 

@@ -16,11 +16,11 @@ memory_text = codes "out of memory"
 
 -- The text that the client gets in place of another: that of the error for the rule with this
 -- text, of ENOMEM if memory ran out, else of EIO.
-pub record IsLinuxText (text told : List ℕ) : Type 0 where
-  pub of_rule : (rule : RuleId) → text ≡ rules.text_of rule → told ≡ text_of (errno_of rule)
-  pub of_memory : text ≡ memory_text → told ≡ text_of NoMemory
+pub record IsLinuxText (text sent : List ℕ) : Type 0 where
+  pub of_rule : (rule : RuleId) → text ≡ rules.text_of rule → sent ≡ text_of (errno_of rule)
+  pub of_memory : text ≡ memory_text → sent ≡ text_of NoMemory
   pub of_others : text ≢ memory_text → ((rule : RuleId) → text ≢ rules.text_of rule)
-      → told ≡ text_of InputOutput
+      → sent ≡ text_of InputOutput
 
 -- an Rerror (error(5))
 abbrev pub error_message : ℕ → List ℕ → Message replies

@@ -31,12 +31,12 @@ rules_of letter =
     else []
 
 -- the place of a rule among those of its letter: of a digit and a space, or of two digits
-unfoldable pub place_of : ℕ → ℕ → ℕ
-place_of first second = if second == 32 then first - 49 else (first * 10 + second) - 529
+unfoldable pub place_in_letter : ℕ → ℕ → ℕ
+place_in_letter first second = if second == 32 then first - 49 else (first * 10 + second) - 529
 
 -- the one rule whose text it may be
 abbrev pub rule_numbered : List ℕ → Option RuleId
 rule_numbered text =
     if nat_le 3 (length text)
     then slice_get (rules_of (slice_index text 0))
-    (place_of (slice_index text 1) (slice_index text 2)) else None
+    (place_in_letter (slice_index text 1) (slice_index text 2)) else None

@@ -62,9 +62,9 @@ abbrev pub Ends : Step → Rename → RMessage → RBody → Type 0
 Ends step rename reply (r.Error ename) = step ≡ Answer reply
 Ends step rename reply other = Refuses step rename
 
--- the last of the first so many fids
-abbrev pub last_of : List ℕ → ℕ → Option ℕ
-last_of fids left = if left == 0 then None else slice_get fids (left - 1)
+-- the last fid that wasn't tried yet: the last of the first so many
+abbrev pub last_untried : List ℕ → ℕ → Option ℕ
+last_untried fids left = if left == 0 then None else slice_get fids (left - 1)
 
 -- that fid is asked whether it has the file: by a walk to the file's name, and no further
 abbrev pub TriesFid : Step → Rename → File → ℕ → Option ℕ → Type 0
@@ -75,7 +75,8 @@ TriesFid step rename file left None = Refuses step rename
 
 -- of the first so many fids the last is tried; if there is none the rename stays refused
 abbrev pub Tries : Step → Rename → File → ℕ → Type 0
-Tries step rename file left = TriesFid step rename file left (last_of rename.directories.items left)
+Tries step rename file left =
+    TriesFid step rename file left (last_untried rename.directories.items left)
 
 -- the walk came to the file alone
 abbrev pub came_to : ℕ → List Qid → Bool

@@ -3,16 +3,16 @@ ghost use Rattle.std.specs.Prelude.{◌≡◌, ◌<◌, ◌≤◌, ◌+◌, ◌-
 ghost use Rattle.arrayvec.specs.ArrayVec.{array_vec_len};
 ghost use Rattle.cs_linux.specs.Directories.{came_to_directory};
 
-use crate::requests::is_directory;
+use crate::requests::is_directory_qid;
 use arrayvec::ArrayVec;
 use cs_wire::{RBody, TBody};
 
-/// The number of fids that are kept.
+/// The most fids that are kept. A rename may try each of them by a walk, so they are few.
 pub const KEPT_FIDS: usize = 16;
 
-/// The fid that a walk made and that may be on a directory: the walk found all of its names, and
-/// the last is a directory, or it had no name, so that the fid is a copy of another. None for every
-/// other request or reply.
+/// The fid that a walk made, if it may be on a directory: the walk found all of its names, and the
+/// last is a directory; or it had no name, so that the fid is a copy of another. None after any
+/// other walk, and for every other request or reply.
 pub fn directory_of(request: &TBody<'_>, reply: &RBody) -> Option<u32>
     ensures { result ≡ came_to_directory request.now reply.now }
 {
@@ -26,7 +26,7 @@ pub fn directory_of(request: &TBody<'_>, reply: &RBody) -> Option<u32>
         return None;
     }
     match wqid.last() {
-        Some(qid) if !is_directory(*qid) => None,
+        Some(qid) if !is_directory_qid(*qid) => None,
         _ => Some(*newfid),
     }
 }
@@ -51,7 +51,8 @@ impl Directories {
         }
     }
 
-    /// Counts an attach that was granted. The greatest count stays as it is.
+    /// Counts an attach that was granted. At the greatest u32 the count no longer grows: only
+    /// whether it is above 1 matters.
     pub fn count_attach(&mut self)
         ensures fids { self.new.fids ≡ self.old.fids }
         ensures counted { self.new.attaches ≡ min (self.old.attaches + 1) (2 ^ 32 - 1) }
@@ -59,7 +60,8 @@ impl Directories {
         self.attaches = self.attaches.saturating_add(1);
     }
 
-    /// Adds a fid as the latest. If there is no room the oldest is dropped.
+    /// Adds a fid as the latest, even if it is there already. If there is no room the oldest is
+    /// dropped.
     pub fn add(&mut self, fid: u32)
         ensures room { array_vec_len self.old.fids < KEPT_FIDS
             → self.new.fids.items ≡ self.old.fids.items ++ fid ∷ [] }

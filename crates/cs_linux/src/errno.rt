@@ -37,7 +37,7 @@ pub enum Errno {
 }
 
 impl Errno {
-    /// The error that Linux has for the refusal by this rule.
+    /// The error that Linux has for the refusal by this rule, as docs/LINUX.md lists them.
     pub fn of(rule: RuleId) -> Errno
         ensures { result ≡ errno_of rule }
     {
@@ -114,7 +114,7 @@ impl Errno {
         }
     }
 
-    /// The text by which Linux's client knows the error, of at most 25 bytes.
+    /// The text by which Linux's client knows the error. The longest has 25 bytes.
     pub fn text(self) -> &'static str
         ensures value { result.now ≡ text_of self }
         ensures short { length result.now ≤ 25 }

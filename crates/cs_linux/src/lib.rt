@@ -1,7 +1,7 @@
 //! What Linux's own client of 9P2000 needs of a server: errors by the texts that it knows, a wstat
 //! that asks only for what its user asked for, and renames onto a name that is taken, as the client
 //! means them: the file of that name is removed, and the other gets its name. Which client a
-//! connection has, and what it has asked so far, is kept in cs_tcp.
+//! connection has, and what it has requested so far, is kept in cs_tcp.
 #![tactic(auto)]
 
 mod directories;

@@ -15,9 +15,9 @@ fn as_user_asked(mut stat: Stat) -> Stat
     stat
 }
 
-/// The request that Linux's client means by this one. A Twstat asks for no other atime or muid,
-/// which the client fills in although its user asked for neither (stat(5)); every other request is
-/// unchanged. It allocates nothing.
+/// The request that Linux's client means by this one: of a Twstat the atime and muid, which the
+/// client fills in unasked, become "don't touch" (stat(5)); any other request is unchanged. It
+/// allocates nothing.
 pub fn request_of_linux(request: TMessage<'_>) -> TMessage<'_>
     ensures { t_view result ≡ as_client_means (t_view request.entry) }
 {

@@ -1,4 +1,4 @@
-//! A rename that was refused, and its state.
+//! A rename that the server refused, and how far it has come since.
 
 use cs_wire::{RMessage, Stat, TMessage};
 
@@ -9,9 +9,9 @@ pub struct Rename {
     pub tag: u16,
     /// The fid of the file that gets another name.
     pub fid: u32,
-    /// What the client asked for: a new name, and nothing else.
+    /// The client's wstat: a new name, and "don't touch" in every other field.
     pub stat: Stat,
-    /// The reply, which the client hasn't received.
+    /// The server's refusal, which the client hasn't received.
     pub refusal: RMessage,
     /// Fids of the client, one of which may be on the file's directory; the last is the likeliest.
     pub directories: Vec<u32>,
@@ -30,7 +30,7 @@ pub struct File {
 pub enum Renaming {
     /// The Tstat of the source, for its name and number.
     Source(Rename),
-    /// The walk to the source in a directory; `left` fids before it weren't tried yet.
+    /// The walk to the source in a directory; the first `left` fids weren't tried yet.
     Directory {
         rename: Rename,
         file: File,
@@ -43,14 +43,14 @@ pub enum Renaming {
     Removal(Rename),
     /// The client's own Twstat again.
     Again,
-    /// The clunk of the directory at the new name, which stays.
+    /// The clunk of the fid on the directory at the new name, which isn't removed.
     Release(Rename),
 }
 
-/// The next step of a rename.
+/// What is sent next for a rename.
 #[derive(Drop)]
 pub enum Step {
-    /// The server gets this request, and the rename goes on with its reply.
+    /// The server gets this request, and the rename continues with the reply to it.
     Ask(Renaming, TMessage<'static>),
     /// The client gets this reply, and the rename is over.
     Answer(RMessage),

@@ -1,25 +1,28 @@
 //! The steps of a rename onto a name that is taken, from one reply to the next. Nothing is sent
-//! here: each step is a request for the server or the reply for the client.
+//! here: each step is a request for the server or the reply for the client. If memory runs out for
+//! a request, the rename ends with the refusal of the client's own request.
 ghost use Rattle.std.specs.Prelude.{◌≡◌, ◌<◌, IsSome};
 ghost use Rattle.cs_linux.specs.Renames.{AfterDirectory, AfterRemoval, AfterSource, AfterTarget};
 ghost use Rattle.cs_linux.specs.Renames.{Begins, Ends, Follows, FreesTarget, Refuses, Tries};
-ghost use Rattle.cs_linux.specs.Renames.{came_to, is_taken, last_of};
+ghost use Rattle.cs_linux.specs.Renames.{came_to, is_taken, last_untried};
 
 use crate::rename::{File, Rename, Renaming, Step};
-use crate::requests::{is_directory, is_rename, tclunk, tremove, tstat, twalk, twalk_on, twstat};
+use crate::requests::{
+    is_directory_qid, is_rename, tclunk, tremove, tstat, twalk, twalk_probe, twstat,
+};
 use cs_names::RuleId;
 use cs_wire::{Qid, RBody, RMessage, TBody, TMessage};
 use std::alloc::Global;
 
-/// Ends the rename: the client gets the refusal of its own request.
+/// The last step: the client gets the refusal of its own request.
 fn refuse(rename: Rename) -> Step
     ensures { Refuses result rename }
 {
     Step::Answer(rename.refusal)
 }
 
-/// Ends the rename after a reply that it can't go on with: the client gets an error as it is, and
-/// in place of any other reply its own request's refusal.
+/// The last step, after a reply with which the rename can't continue: the client gets the reply if
+/// it is an Rerror, else the refusal of its own request.
 fn end_after(rename: Rename, reply: RMessage) -> Step
     ensures { Ends result rename reply reply.body }
 {
@@ -29,9 +32,10 @@ fn end_after(rename: Rename, reply: RMessage) -> Step
     }
 }
 
-/// The last of the first `left` fids; None if `left` is 0, or greater than their number.
-fn last_of(fids: &[u32], left: usize) -> Option<u32>
-    ensures value { result ≡ last_of fids.now left }
+/// The last fid that wasn't tried yet: the last of the first `left`. None if `left` is 0, or
+/// greater than the number of fids.
+fn last_untried(fids: &[u32], left: usize) -> Option<u32>
+    ensures value { result ≡ last_untried fids.now left }
     ensures some { IsSome result → 0 < left }
 {
     if left == 0 {
@@ -40,51 +44,51 @@ fn last_of(fids: &[u32], left: usize) -> Option<u32>
     fids.get(left - 1).copied()
 }
 
-/// Asks the last of the first `left` directories whether it has the file. If `left` is 0, or memory
-/// runs out, the rename stays refused.
-fn ask_last(alloc: Global, rename: Rename, file: File, left: usize) -> Step
+/// The step that looks for the file in the last of the first `left` directories. If there is none,
+/// or memory runs out, the rename ends with its refusal.
+fn try_last(alloc: Global, rename: Rename, file: File, left: usize) -> Step
     ensures { Tries result rename file left }
 {
-    let Some(directory) = last_of(&rename.directories, left) else {
+    let Some(directory) = last_untried(&rename.directories, left) else {
         return refuse(rename);
     };
     let left = left - 1;
-    match twalk_on(alloc, rename.tag, directory, &file.name) {
-        Ok(asked) => {
+    match twalk_probe(alloc, rename.tag, directory, &file.name) {
+        Ok(request) => {
             let renaming = Renaming::Directory {
                 rename,
                 file,
                 directory,
                 left,
             };
-            Step::Ask(renaming, asked)
+            Step::Ask(renaming, request)
         }
         Err(_) => refuse(rename),
     }
 }
 
-/// The step after the Tstat of the source: a file is looked for in the client's directories, and a
-/// rename of a directory stays refused.
+/// The step after the Tstat of the source: a file is looked for in the client's directories. A
+/// rename of a directory ends with its refusal, and after any other reply as in `end_after`.
 fn after_source(alloc: Global, rename: Rename, reply: RMessage) -> Step
     ensures { AfterSource result rename reply reply.body }
 {
     let RMessage { tag, body } = reply;
     match body {
-        RBody::Stat { stat } if is_directory(stat.qid) => refuse(rename),
+        RBody::Stat { stat } if is_directory_qid(stat.qid) => refuse(rename),
         RBody::Stat { stat } => {
             let left = rename.directories.len();
             let file = File {
                 name: stat.name,
                 number: stat.qid.path,
             };
-            ask_last(alloc, rename, file, left)
+            try_last(alloc, rename, file, left)
         }
         body => end_after(rename, RMessage { tag, body }),
     }
 }
 
-/// Whether a walk's reply has exactly one qid, and it is of the file of that number.
-fn came_to(number: u64, wqid: &[Qid]) -> bool
+/// Whether a walk found the file of that number: the reply has one qid, and it is the file's.
+fn is_walk_to(number: u64, wqid: &[Qid]) -> bool
     ensures { result ≡ came_to number wqid.now }
 {
     match wqid {
@@ -93,9 +97,9 @@ fn came_to(number: u64, wqid: &[Qid]) -> bool
     }
 }
 
-/// The step after the walk in `directory`: if the file is in it, a walk to the new name there, else
-/// the last of the `left` directories that weren't asked. If memory runs out the rename stays
-/// refused.
+/// The step after the walk in `directory`: if it found the file, a walk to the new name there.
+/// After any other reply, also an error, the last of the `left` directories is tried. If none is
+/// left, or memory runs out, the rename ends with its refusal.
 fn after_directory(
     alloc: Global,
     rename: Rename,
@@ -107,33 +111,34 @@ fn after_directory(
     ensures { AfterDirectory result rename file directory left reply.body }
 {
     let found = match &reply.body {
-        RBody::Walk { wqid } => came_to(file.number, wqid),
+        RBody::Walk { wqid } => is_walk_to(file.number, wqid),
         _ => false,
     };
     if !found {
-        return ask_last(alloc, rename, file, left);
+        return try_last(alloc, rename, file, left);
     }
     match twalk(alloc, rename.tag, directory, &rename.stat.name) {
-        Ok(asked) => Step::Ask(Renaming::Target(rename), asked),
+        Ok(request) => Step::Ask(Renaming::Target(rename), request),
         Err(_) => refuse(rename),
     }
 }
 
-/// The step after a walk that found these qids at the new name: a file there is removed; of a
-/// directory the fid is released, and the rename stays refused. It stays refused also if nothing is
-/// there.
+/// The step after a walk to the new name with these qids. A single qid is that of what has the
+/// name: a file is removed, and of a directory only `OWN_FID` is clunked, before the rename ends
+/// with its refusal. With any other number of qids it ends so at once.
 fn free_target(rename: Rename, wqid: &[Qid]) -> Step
     ensures { FreesTarget result rename wqid.now }
 {
     let tag = rename.tag;
     match wqid {
-        [qid] if is_directory(*qid) => Step::Ask(Renaming::Release(rename), tclunk(tag)),
+        [qid] if is_directory_qid(*qid) => Step::Ask(Renaming::Release(rename), tclunk(tag)),
         [_] => Step::Ask(Renaming::Removal(rename), tremove(tag)),
         _ => refuse(rename),
     }
 }
 
-/// The step after the walk to the new name: what is there is freed, or the rename ends.
+/// The step after the walk to the new name: that of `free_target` if the reply is an Rwalk, else
+/// that of `end_after`.
 fn after_target(rename: Rename, reply: RMessage) -> Step
     ensures { AfterTarget result rename reply reply.body }
 {
@@ -143,8 +148,8 @@ fn after_target(rename: Rename, reply: RMessage) -> Step
     }
 }
 
-/// The step after the removal of the file at the new name: the client's own request again, or the
-/// end of the rename if nothing was removed.
+/// The step after the removal of the file at the new name: the client's own request again; if
+/// nothing was removed, that of `end_after`. A Tremove clunks `OWN_FID` either way (remove(5)).
 fn after_removal(rename: Rename, reply: RMessage) -> Step
     ensures { AfterRemoval result rename reply reply.body }
 {
@@ -157,7 +162,7 @@ fn after_removal(rename: Rename, reply: RMessage) -> Step
     }
 }
 
-/// Whether the reply is the refusal by Q7: a file has the new name.
+/// Whether the reply is the refusal by Q7: the new name is taken.
 fn is_taken(body: &RBody) -> bool
     ensures { result ≡ is_taken body.now }
 {
@@ -167,9 +172,9 @@ fn is_taken(body: &RBody) -> bool
     }
 }
 
-/// The first step after a request and its reply. If the request asks only for a new name and was
-/// refused because that name is taken, a rename begins, and the client isn't answered yet. Else the
-/// client gets the reply.
+/// The first step after a request and its reply. If the request is a Twstat of only a new name, and
+/// was refused because that name is taken, a rename begins, and the client gets no reply yet. Else
+/// the client gets the reply. `directories` are the fids that the rename may try, from the last on.
 pub fn renaming_of(request: TMessage<'_>, reply: RMessage, directories: Vec<u32>) -> Step
     ensures { Begins result request.entry.tag request.entry.body reply directories }
 {
@@ -191,8 +196,8 @@ pub fn renaming_of(request: TMessage<'_>, reply: RMessage, directories: Vec<u32>
 }
 
 impl Renaming {
-    /// The step after the reply to the last request. After the client's own request was sent again
-    /// its reply is the client's.
+    /// The step after the reply to the rename's last request. After the client's own request, sent
+    /// again, the client gets the reply; after a clunk it gets its refusal, whatever the reply.
     pub fn next(self, alloc: Global, reply: RMessage) -> Step
         ensures { Follows self reply result }
     {

@@ -8,11 +8,12 @@ use crate::rules::rule_of;
 use cs_wire::{RBody, RMessage};
 use std::borrow::CowStr;
 
-/// The text of a reply that reports that memory ran out.
+/// The text of an Rerror that reports that memory ran out: that of `memory_text` in cs_session and
+/// of `reply_of` in cs_tcp.
 const OUT_OF_MEMORY: &str = "out of memory";
 
 /// The text that Linux's client gets in place of this one: that of the error for the rule with this
-/// text, of ENOMEM if memory ran out, else of EIO.
+/// text; of ENOMEM if it is OUT_OF_MEMORY; else of EIO.
 fn linux_text(text: &str) -> &'static str
     ensures { IsLinuxText text.now result.now }
 {
@@ -24,8 +25,8 @@ fn linux_text(text: &str) -> &'static str
     errno.text()
 }
 
-/// The reply that Linux's client gets: an Rerror with a text that the client knows (error(5)), and
-/// every other reply unchanged. It allocates nothing.
+/// The reply that Linux's client gets: for an Rerror one with a text that the client knows
+/// (error(5)); any other reply is unchanged. It allocates nothing.
 pub fn reply_to_linux(reply: RMessage) -> RMessage
     ensures error { (tag : ℕ) (text : List ℕ) → r_view reply ≡ error_message tag text
         → (new : List ℕ) × IsLinuxText text new × (r_view result ≡ error_message tag new) }

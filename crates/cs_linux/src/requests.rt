@@ -1,5 +1,5 @@
-//! The requests of a rename onto a name that is taken. All of them use one fid, `OWN_FID`, beside
-//! those of the client.
+//! The requests of a rename onto a name that is taken. The Tstat and the Twstat are of a fid of the
+//! client. The walks go from one to `OWN_FID`, and the Tremove and the Tclunk are of `OWN_FID`.
 ghost use Rattle.std.specs.Prelude.{◌≡◌, IfOk, [], ◌∷◌};
 ghost use Rattle.cs_wire.specs.Messages.{stat_of, t_view};
 ghost use Rattle.cs_linux.specs.Requests.{asks_name_alone, dot, is_directory, tclunk, tremove};
@@ -8,33 +8,34 @@ ghost use Rattle.cs_linux.specs.Requests.{tstat, twalk, twstat};
 use cs_wire::{Qid, Stat, TBody, TMessage};
 use std::alloc::{AllocError, Global};
 
-/// The fid that a rename uses: the greatest except NOFID. Linux's client uses the least that are
-/// free.
+/// The fid that a rename uses: the greatest except NOFID. Linux's client doesn't come to it, since
+/// it uses the least that are free.
 pub const OWN_FID: u32 = 0xffff_fffe;
 
 /// The bit of a qid's kind that a directory has (intro(5)).
 pub const QTDIR: u8 = 0x80;
 
-/// The qid of a wstat that says "don't touch".
+/// The qid that means "don't touch" in a wstat, as `ONES_QID` of cs_permit.
 const NO_QID: Qid = Qid {
     kind: u8::MAX,
     vers: u32::MAX,
     path: u64::MAX,
 };
 
-/// Whether a stat asks only for a new name: every other field says "don't touch" (stat(5)).
+/// Whether a wstat of this stat can change only the name: every other field is "don't touch"
+/// (stat(5)). The name may be any, also the empty one, which is "don't touch" too.
 pub fn is_rename(stat: &Stat) -> bool
     ensures { result ≡ asks_name_alone (stat_of stat.now) }
 {
-    let untouched = stat.kind == u16::MAX && stat.dev == u32::MAX && stat.qid == NO_QID;
-    let kept = stat.mode == u32::MAX && stat.length == u64::MAX;
+    let identity = stat.kind == u16::MAX && stat.dev == u32::MAX && stat.qid == NO_QID;
+    let mode_and_length = stat.mode == u32::MAX && stat.length == u64::MAX;
     let times = stat.atime == u32::MAX && stat.mtime == u32::MAX;
     let users = stat.uid.is_empty() && stat.gid.is_empty() && stat.muid.is_empty();
-    untouched && kept && times && users
+    identity && mode_and_length && times && users
 }
 
 /// Whether the qid is of a directory: its kind has QTDIR, the highest bit.
-pub(crate) fn is_directory(qid: Qid) -> bool
+pub(crate) fn is_directory_qid(qid: Qid) -> bool
     ensures { result ≡ is_directory qid }
 {
     QTDIR <= qid.kind
@@ -50,7 +51,7 @@ pub(crate) fn tstat(tag: u16, fid: u32) -> TMessage<'static>
     }
 }
 
-/// Makes a Twalk from this fid by one name, to `OWN_FID`.
+/// Makes a Twalk from this fid by one name, to `OWN_FID`. The only error is out of memory.
 pub(crate) fn twalk(
     alloc: Global,
     tag: u16,
@@ -71,9 +72,9 @@ pub(crate) fn twalk(
     })
 }
 
-/// Makes a Twalk from this fid by a name and then by a dot, by which no walk goes on: so the reply
-/// shows whether the name is there, and `OWN_FID` isn't made.
-pub(crate) fn twalk_on(
+/// Makes a Twalk from this fid by a name and then by a dot, which no walk passes: the reply shows
+/// what has the name, and `OWN_FID` isn't made. The only error is out of memory.
+pub(crate) fn twalk_probe(
     alloc: Global,
     tag: u16,
     fid: u32,

@@ -1,12 +1,13 @@
-//! The rule that a refusal names, found by its text.
+//! The rule that a refusal names, found by its text. A new rule is added to `rules_of` too, as the
+//! clause `each` of `rule_of` demands.
 ghost use Rattle.std.specs.Prelude.{◌≡◌, IfSome, Some};
 ghost use Rattle.cs_names.specs.Rules.{text_of};
 ghost use Rattle.cs_names.specs.declared.rule_id.RuleId.{RuleId};
-ghost use Rattle.cs_linux.specs.Numbers.{place_of, rule_numbered, rules_of};
+ghost use Rattle.cs_linux.specs.Numbers.{place_in_letter, rule_numbered, rules_of};
 
 use cs_names::RuleId;
 
-/// The rules of a letter, in the order of their numbers; none if no rule has the letter.
+/// The rules of a letter, in the order of their numbers; an empty list if no rule has the letter.
 #[tactic(auto, unfolding(crate::specs::Numbers::rules_of))]
 fn rules_of(letter: u8) -> &'static [RuleId]
     ensures { result.now ≡ rules_of letter }
@@ -30,10 +31,11 @@ fn rules_of(letter: u8) -> &'static [RuleId]
 }
 
 /// The place of a rule among those of its letter, counted from 0, by the two bytes after the
-/// letter: a digit and a space, or two digits. For other bytes it is any place.
-#[tactic(auto, unfolding(crate::specs::Numbers::place_of))]
-fn place_of(first: u8, second: u8) -> usize
-    ensures { result ≡ place_of first second }
+/// letter: a digit and a space, or two digits. Other bytes give any place, or 0 if the
+/// subtraction saturates; `rule_of` compares the whole text.
+#[tactic(auto, unfolding(crate::specs::Numbers::place_in_letter))]
+fn place_in_letter(first: u8, second: u8) -> usize
+    ensures { result ≡ place_in_letter first second }
 {
     let (first, second) = (first as usize, second as usize);
     // a space is 32, and the digit 1 is 49; two digits count from "01", which is 48 * 10 + 49
@@ -52,7 +54,9 @@ fn rule_numbered(text: &[u8]) -> Option<RuleId>
     let [letter, first, second, ..] = text else {
         return None;
     };
-    rules_of(*letter).get(place_of(*first, *second)).copied()
+    rules_of(*letter)
+        .get(place_in_letter(*first, *second))
+        .copied()
 }
 
 /// The rule with this text; None if no rule has it.

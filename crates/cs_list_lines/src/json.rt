@@ -99,7 +99,7 @@ fn fields_of_move(alloc: Global, from: &Path, to: &Path) -> Result<String, Alloc
     format!(in alloc; "\"kind\":\"move_dir_entry\",\"path\":{quoted_from},\"to\":{quoted_to}")
 }
 
-/// JSON fields without braces: the kind, the new path of a file that exists, and its number.
+/// JSON fields without braces: the kind, the new path of a file that exists, and the file's number.
 fn fields_of_link(alloc: Global, path: &Path, file: u32) -> Result<String, AllocError>
     ensures { IfOk result (λ text. string_bytes text ≡ link_fields path.now file) }
 {
@@ -107,7 +107,7 @@ fn fields_of_link(alloc: Global, path: &Path, file: u32) -> Result<String, Alloc
     format!(in alloc; "\"kind\":\"link_dir_entry\",\"path\":{quoted},\"file\":{file}")
 }
 
-/// JSON fields without braces: one path of a file, `null` if there is none, and its number.
+/// JSON fields without braces: one path of a file, `null` if it has none, and the file's number.
 fn fields_of_file(alloc: Global, path: Option<&Path>, file: u32) -> Result<String, AllocError>
     ensures { IfOk result
         (λ text. string_bytes text ≡ file_fields (option_copied path.entry) file) }
@@ -212,8 +212,9 @@ fn fields_of_set_attr(
     format!(in alloc; "\"kind\":\"set_attr\",{target_fields},{rights_fields}")
 }
 
-/// JSON fields without braces: the kind of a micro-operation, and those of its kind. `path` is one
-/// path of the file whose size, block or rights it changes, and counts only if it changes one.
+/// JSON fields without braces: the kind of a micro-operation, and the fields of that kind. `path`
+/// is one path of the file whose size, block or rights it changes, and counts only if it changes
+/// one.
 fn fields_of(alloc: Global, op: &MicroOp, path: Option<&Path>) -> Result<String, AllocError>
     ensures { IfOk result
         (λ text. string_bytes text ≡ fields_text (option_copied path.entry) op.now) }
@@ -236,7 +237,7 @@ fn fields_of(alloc: Global, op: &MicroOp, path: Option<&Path>) -> Result<String,
     }
 }
 
-/// Places that are shown as a JSON array.
+/// Places that are shown as a JSON array, as `write_pick` of cs_families writes them.
 #[derive(Clone, Copy)]
 struct PlacesArray<'a> {
     places: &'a Places,
@@ -282,7 +283,7 @@ struct RecipeFields<'a> {
 impl fmt::Display for RecipeFields<'_> {
     ghost output = { λ fields. Some (recipe_fields fields.recipe.now) };
 
-    /// Writes JSON fields without braces: the kind of the recipe, and those of its kind.
+    /// Writes JSON fields without braces: the kind of the recipe, and the fields of that kind.
     fn fmt<W: fmt::Write>(&self, f: &mut fmt::Formatter<W>) -> fmt::Result {
         match self.recipe {
             Recipe::Prefix(end) => write!(f, "\"kind\":\"prefix\",\"end\":{end}"),
@@ -298,7 +299,8 @@ impl fmt::Display for RecipeFields<'_> {
 }
 
 /// A JSON object and a line feed: the number of a state, the kind and fields of its recipe, how
-/// many acknowledged lines it has, and `first`, the number of the first state with an equal tree.
+/// many acknowledged lines it has, and `first`, the number of the first state with an equal tree,
+/// which may be its own.
 pub fn state_line(
     alloc: Global,
     number: usize,

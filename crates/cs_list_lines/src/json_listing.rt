@@ -42,8 +42,8 @@ fn op_line_at(
     )
 }
 
-/// Adds the line of each micro-operation to the text. `lines` has for each the number of the
-/// trace's line that it came from. After an error the text has the lines that were made before it.
+/// Adds the line of each micro-operation to the text. `lines` has for each operation the number of
+/// the trace's line that it came from. After an error the text has the lines that were made before.
 pub fn push_op_objects(
     alloc: Global,
     scene: &Scene,
@@ -67,8 +67,8 @@ pub fn push_op_objects(
     Ok(())
 }
 
-/// Adds the line of each state to the text. `firsts` has for each the number of the first state
-/// with an equal tree. After an error the text has the lines that were made before it.
+/// Adds the line of each state to the text. `firsts` has for each state the number of the first one
+/// with an equal tree. After an error the text has the lines that were made before.
 pub fn push_state_objects(
     alloc: Global,
     scene: &Scene,
@@ -76,7 +76,7 @@ pub fn push_state_objects(
     text: &mut Vec<u8>,
 ) -> Result<(), ProgramFault> {
     for (number, recipe) in scene.plan().recipes().iter().enumerate() {
-        // the number is one of the plan's, so `says` finds it; and `firsts` is as long as the plan
+        // neither default is used: the plan has the number, and `firsts` is as long as the plan
         let says = scene.says(number as u32).unwrap_or(0);
         let first = firsts.get(number).copied().unwrap_or(number as u32);
         let Ok(json) = state_line(alloc, number, recipe, says, first) else {

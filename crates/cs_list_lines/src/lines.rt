@@ -38,7 +38,7 @@ fn numbers_not_blank(alloc: Global, text: &str) -> Result<Vec<usize>, AllocError
     Ok(numbers)
 }
 
-/// The number at the place; 0 if there is none.
+/// The number at the place; 0, which is no line's number, if the place is past the end.
 pub fn number_at(numbers: &[usize], place: usize) -> usize
     ensures { result ≡ slice_index numbers.now place }
 {
@@ -58,7 +58,7 @@ fn push_repeated(
     lines.extend_from_slice(&same)
 }
 
-/// For each micro-operation that the operations make the number of its operation's line. `numbers`
+/// For each micro-operation that the operations make, the number of its operation's line. `numbers`
 /// has those of all lines that aren't blank; the one at the place `first` is the first operation's.
 fn lines_of_operations(
     alloc: Global,
@@ -80,9 +80,9 @@ fn lines_of_operations(
     Ok(lines)
 }
 
-/// For each micro-operation of a trace the number of the line that it came from. The text is that
-/// of the trace: of its lines that aren't blank the first are the header and those of the start, as
-/// many as it has records, and each further one is an operation.
+/// For each micro-operation of a trace, the number of the line that it came from. The text is the
+/// trace's. Of its lines that aren't blank, the header and the lines of the start come first, as
+/// many as the trace has records; each line after them is an operation's.
 pub fn lines_of(alloc: Global, text: &str, trace: &Trace) -> Result<Vec<usize>, AllocError>
     ensures { IfOk result (λ lines. lines.items ≡ lines_of text.now trace.now) }
 {

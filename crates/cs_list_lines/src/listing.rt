@@ -15,18 +15,18 @@ use std::sync::Arc;
 /// What `list` prints in addition to the micro-operations and the states.
 #[derive(Clone, Copy, Debug)]
 pub struct ListOptions {
-    /// After each micro-operation the line of the trace that it came from, and of a change of a
-    /// file the path that the file has there.
+    /// After each micro-operation the number of the trace's line that it came from, and, if it
+    /// changes a file, a path that the file has there.
     pub lines: bool,
-    /// After each state the first one with an equal tree.
+    /// After each state the number of the first one with an equal tree.
     pub same: bool,
     /// A JSON object on each line, which has all of that and what each micro-operation needs.
     pub json: bool,
 }
 
-/// For each micro-operation the number of the trace's line that it came from. None if that isn't
-/// asked for, or if the trace isn't UTF-8, which a scene's trace is.
-fn asked_lines(
+/// For each micro-operation, the number of the trace's line that it came from. None if no option
+/// wants it, or if the trace isn't UTF-8; but a scene's trace always is.
+fn optional_lines(
     alloc: Global,
     inputs: &Inputs,
     scene: &Scene,
@@ -41,8 +41,9 @@ fn asked_lines(
     Ok(Some(lines_of(alloc, text, scene.trace())?))
 }
 
-/// For each state the number of the first one with an equal tree. None if that isn't asked for.
-fn asked_firsts(
+/// For each state, the number of the first one with an equal tree, which may be its own. None if no
+/// option wants it.
+fn optional_firsts(
     alloc: Global,
     scene: &Arc<Scene>,
     options: ListOptions,
@@ -53,8 +54,9 @@ fn asked_firsts(
     Ok(Some(first_same(alloc, scene)?))
 }
 
-/// Adds a line for each micro-operation to the text: with `lines`, the number of the trace's line
-/// that it came from, and the path of a file that it changes. After an error the text is cut.
+/// Adds a line for each micro-operation to the text. If there are `lines`, each has the number of
+/// the trace's line that the operation came from, and the path of a file that it changes. After an
+/// error the text has the lines that were made before, and perhaps a part of the next.
 fn push_op_lines(
     alloc: Global,
     scene: &Scene,
@@ -65,7 +67,7 @@ fn push_op_lines(
         return Err(ProgramFault::Memory);
     };
     for (place, op) in scene.micros().ops().iter().enumerate() {
-        let line = found_at(lines, place);
+        let line = value_at(lines, place);
         let path = paths.path_of_changed_file(op);
         let origin = Origin { line, path };
         write!(text, "{}", OpLine { place, op, origin }).map_err(|_| ProgramFault::Memory)?;
@@ -76,16 +78,17 @@ fn push_op_lines(
     Ok(())
 }
 
-/// What was found for the place. None if it wasn't asked for, or if there is no such place.
-fn found_at<T: Copy>(found: &Option<Vec<T>>, place: usize) -> Option<T> {
-    match found {
-        Some(found) => found.get(place).copied(),
+/// The value at the place. None if there are no values, or if the place is past their end.
+fn value_at<T: Copy>(values: &Option<Vec<T>>, place: usize) -> Option<T> {
+    match values {
+        Some(values) => values.get(place).copied(),
         None => None,
     }
 }
 
-/// Adds a line for each state to the text: with `firsts`, the number of the first state with an
-/// equal tree. After an error the text is cut.
+/// Adds a line for each state to the text. If there are `firsts`, each has the number of the first
+/// state with an equal tree. After an error the text has the lines that were made before, and
+/// perhaps a part of the next.
 fn push_state_lines(
     scene: &Scene,
     firsts: &Option<Vec<u32>>,
@@ -95,24 +98,25 @@ fn push_state_lines(
         let line = StateLine {
             number,
             recipe,
-            // the number is one of the plan's, so `says` finds it
+            // the default isn't used, as the plan has the number
             says: scene.says(number as u32).unwrap_or(0),
-            first: found_at(firsts, number),
+            first: value_at(firsts, number),
         };
         write!(text, "{line}").map_err(|_| ProgramFault::Memory)?;
     }
     Ok(())
 }
 
-/// What was found, for each place. Empty if it wasn't asked for.
-fn all_found<T>(found: &Option<Vec<T>>) -> &[T] {
-    match found {
-        Some(found) => found.as_slice(),
+/// The values as a slice; empty if there are none.
+fn slice_of<T>(values: &Option<Vec<T>>) -> &[T] {
+    match values {
+        Some(values) => values.as_slice(),
         None => &[],
     }
 }
 
 /// Adds all lines to the text as JSON: those of the micro-operations, then those of the states.
+/// After an error the text has the lines that were made before.
 fn push_json(
     alloc: Global,
     scene: &Scene,
@@ -120,12 +124,12 @@ fn push_json(
     firsts: &Option<Vec<u32>>,
     text: &mut Vec<u8>,
 ) -> Result<(), ProgramFault> {
-    json_listing::push_op_objects(alloc, scene, all_found(lines), text)?;
-    json_listing::push_state_objects(alloc, scene, all_found(firsts), text)
+    json_listing::push_op_objects(alloc, scene, slice_of(lines), text)?;
+    json_listing::push_state_objects(alloc, scene, slice_of(firsts), text)
 }
 
 /// Prints the list with what the options ask for, and flushes it. Nothing is printed before all of
-/// it is made.
+/// it is made; if a write fails, some of it is printed, from the front.
 fn print_list<W: Write>(
     alloc: Global,
     inputs: &Inputs,
@@ -135,10 +139,10 @@ fn print_list<W: Write>(
     let Ok(scene) = Arc::new(alloc, scene_of(alloc, inputs)?) else {
         return Err(ProgramFault::Memory);
     };
-    let Ok(lines) = asked_lines(alloc, inputs, &scene, options) else {
+    let Ok(lines) = optional_lines(alloc, inputs, &scene, options) else {
         return Err(ProgramFault::Memory);
     };
-    let Ok(firsts) = asked_firsts(alloc, &scene, options) else {
+    let Ok(firsts) = optional_firsts(alloc, &scene, options) else {
         return Err(ProgramFault::Memory);
     };
     let mut text = Vec::new(alloc);
@@ -153,8 +157,8 @@ fn print_list<W: Write>(
 }
 
 /// The command `list` with options: prints on `out` what `list_of` does, with what the options ask
-/// for. Returns its status: 0, or 1 after a fault, which `err` gets as one line. If the options ask
-/// for nothing it is `list_of`.
+/// for. Returns its status: 0, or 1 after a fault, which one line on `err` reports. If the options
+/// ask for nothing, it does what `list_of` does.
 pub fn list_with<W: Write, E: Write>(
     alloc: Global,
     inputs: &Inputs,
@@ -170,6 +174,7 @@ pub fn list_with<W: Write, E: Write>(
     match print_list(alloc, inputs, options, out) {
         Ok(()) => 0,
         Err(fault) => {
+            // only the fault that ended the command is reported
             let _printed = out.flush();
             let _unheard = writeln!(err, "crashfs: {fault}");
             1

@@ -4,13 +4,13 @@ use cs_names::Path;
 use cs_trace::{Node, Target};
 use std::alloc::{AllocError, Global};
 
-/// The paths of each file, by its number, from the oldest on. A file that was deleted has none.
+/// The paths of each file, by its number, the oldest first. A file that was deleted has none.
 #[derive(Drop)]
 pub struct FilePaths<'a> {
     files: Vec<Vec<&'a Path>>,
 }
 
-/// Puts `new` in the place of each path that is equal to `old`.
+/// Replaces each path that is equal to `old` by `new`, in the same place; does nothing if none is.
 fn replace<'a>(paths: &mut [&'a Path], old: &Path, new: &'a Path) {
     for path in paths.iter_mut() {
         if *path == old {
@@ -41,7 +41,8 @@ impl<'a> FilePaths<'a> {
         Ok(())
     }
 
-    /// Adds the next file that the trace makes, at this path. After an error it isn't added.
+    /// Adds the next file that the trace makes, at this path: files are numbered in that order.
+    /// After an error it isn't added.
     fn push_made(&mut self, alloc: Global, path: &'a Path) -> Result<(), AllocError> {
         let mut own = Vec::new(alloc);
         own.push(path)?;
@@ -60,22 +61,24 @@ impl<'a> FilePaths<'a> {
                 target: Target::File(file),
                 ..
             } => *file,
+            // no other operation changes a file
             _ => return None,
         };
         let paths = self.files.get(file as usize)?;
         paths.first().copied()
     }
 
-    /// Takes the path from the file that has it, if one has.
-    fn remove(&mut self, gone: &Path) {
+    /// Removes the path from the file that has it; does nothing if no file has it.
+    fn remove_path(&mut self, gone: &Path) {
         for paths in self.files.iter_mut() {
             paths.retain(|path| *path != gone);
         }
     }
 
-    /// Moves the file at `from` to `to`. A file that was at `to` loses that path.
-    fn rename(&mut self, from: &Path, to: &'a Path) {
-        self.remove(to);
+    /// Gives the file at `from` the path `to` instead. A file that was at `to` loses that path,
+    /// even if no file is at `from`.
+    fn move_path(&mut self, from: &Path, to: &'a Path) {
+        self.remove_path(to);
         for paths in self.files.iter_mut() {
             replace(paths, from, to);
         }
@@ -95,8 +98,9 @@ impl<'a> FilePaths<'a> {
                     paths.push(path)?;
                 }
             }
-            MicroOp::DeleteDirEntry { path, .. } => self.remove(path),
-            MicroOp::MoveDirEntry { from, to } => self.rename(from, to),
+            MicroOp::DeleteDirEntry { path, .. } => self.remove_path(path),
+            MicroOp::MoveDirEntry { from, to } => self.move_path(from, to),
+            // no other operation changes a file's paths
             _ => {}
         }
         Ok(())

@@ -10,8 +10,8 @@ use cs_names::Path;
 use cs_plan::Recipe;
 use std::fmt;
 
-/// Where a micro-operation came from: the number of the trace's line, None if that isn't asked for,
-/// and the path of the file that it changes, None if it changes none.
+/// Where a micro-operation came from: the number of the trace's line, None if no option wants it,
+/// and the path of the file that it changes, None if it changes none or the file has no path.
 #[derive(Clone, Copy)]
 pub struct Origin<'a> {
     pub line: Option<usize>,
@@ -54,7 +54,7 @@ impl fmt::Display for OpLine<'_> {
     }
 }
 
-/// The number of the first state with an equal tree. None if it isn't asked for.
+/// The number of the first state with an equal tree. None if no option wants it.
 #[derive(Clone, Copy)]
 struct Same {
     first: Option<u32>,
@@ -73,7 +73,7 @@ impl fmt::Display for Same {
 }
 
 /// A state: its number, its recipe, how many acknowledged lines it has, and the number of the first
-/// state with an equal tree, None if that isn't asked for. Without the last its line is that of the
+/// state with an equal tree, None if no option wants it. Without the last its line is that of the
 /// plain list, which cs_plan's `Listing` writes: change both.
 #[derive(Clone, Copy)]
 pub struct StateLine<'a> {

@@ -7,15 +7,15 @@ use Rattle.cs_micro.specs.declared.sync_point.SyncPoint.{SyncPoint}
 use Rattle.cs_micro.specs.MicroOperations.{micro_operations_of}
 
 -- a sync after so many micro-operations is a sync point there
-abbrev pub points_behind : ℕ → Operation → List SyncPoint
-points_behind count (Sync covers) = record { at = count; covers = covers } ∷ []
-points_behind count _ = []
+abbrev pub points_after : ℕ → Operation → List SyncPoint
+points_after count (Sync covers) = record { at = count; covers = covers } ∷ []
+points_after count _ = []
 
 -- the operation at a place, after the micro-operations of those before it, for a block size in
 -- bytes
 abbrev pub points_at : ℕ → List Operation → ℕ → List SyncPoint
 points_at block operations place =
-    points_behind (length (micro_operations_of block (take place operations)))
+    points_after (length (micro_operations_of block (take place operations)))
     (slice_index_or operations place Say)
 
 -- the sync points of all operations

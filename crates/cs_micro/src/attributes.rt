@@ -21,20 +21,22 @@ impl fmt::Display for TargetText<'_> {
     }
 }
 
-/// Rights, to be printed: the permissions as three octal digits, then the owner and the group.
+/// Rights, to be printed: the permissions as three octal digits, as cs_list_lines prints them too,
+/// then the owner and the group.
 #[derive(Clone, Copy)]
 pub struct RightsText<'a>(pub &'a Rights);
 
 impl fmt::Display for RightsText<'_> {
     ghost output = { λ text. Some (rights_text text.0.now) };
 
-    /// Prints them with blanks between, as in `644 ann users`.
+    /// Prints them with a blank between two, as in `644 ann users`.
     fn fmt<W: fmt::Write>(&self, f: &mut fmt::Formatter<W>) -> fmt::Result {
         let Rights {
             owner,
             group,
             permissions,
         } = self.0;
+        // The permissions are nine bits: three for each digit.
         let (first, second, third) = (permissions / 64, permissions / 8 % 8, permissions % 8);
         write!(f, "{first}{second}{third} {owner} {group}")
     }

@@ -1,5 +1,5 @@
-//! The blocks of a file that a write touches, and what it writes into each. `size` is the size of a
-//! block, `block` the number of one, and offsets are in bytes from the start of the file.
+//! The blocks of a file that a write touches, and what it writes into each. Here `block` is the
+//! number of a block, from 0, and offsets are in bytes from the start of the file.
 ghost use Rattle.std.specs.Prelude.{◌≡◌, ◌++◌, ◌+◌, ◌<◌, ◌≤◌, length, IfOk, OnOk};
 ghost use Rattle.std.specs.List.{flat_map};
 ghost use Rattle.cs_trace_lines.specs.Versions.{block_bytes};
@@ -12,32 +12,33 @@ use cs_names::limits::FILE_BYTES;
 use cs_trace::BlockSize;
 use std::alloc::{AllocError, Global};
 
-/// The number, from 0, of the block that has the byte at the offset `place` of a file.
-pub fn block_of(size: BlockSize, place: u64) -> u64
-    ensures value { result ≡ block_of (block_bytes size) place }
-    ensures few { result ≤ place }
+/// The number, from 0, of the block that has the byte at this offset of a file.
+pub fn block_of(block_size: BlockSize, offset: u64) -> u64
+    ensures value { result ≡ block_of (block_bytes block_size) offset }
+    ensures few { result ≤ offset }
 {
-    place / size.bytes()
+    offset / block_size.bytes()
 }
 
-/// The write into one block of those of the bytes that fall into it. At least one must. The bytes
-/// begin at `offset` in the file.
+/// The micro-operation that writes into one block those of the bytes that fall into it; the bytes
+/// must touch the block. The first byte's offset in the file is `offset`.
 fn write_block(
     alloc: Global,
-    size: BlockSize,
+    block_size: BlockSize,
     file: u32,
     block: u64,
     offset: u64,
     bytes: &[u8],
 ) -> Result<MicroOp, AllocError>
     requires end { offset + length bytes.now ≤ FILE_BYTES }
-    requires begins { start_of (block_bytes size) block < offset + length bytes.now }
-    requires ends { offset < start_of (block_bytes size) (block + 1) }
-    ensures { IfOk result (λ op. op ≡ block_write (block_bytes size) file offset bytes.now block) }
+    requires begins { start_of (block_bytes block_size) block < offset + length bytes.now }
+    requires ends { offset < start_of (block_bytes block_size) (block + 1) }
+    ensures { IfOk result
+        (λ op. op ≡ block_write (block_bytes block_size) file offset bytes.now block) }
 {
-    let start = size.bytes() * block;
+    let start = block_size.bytes() * block;
     let from = offset.max(start);
-    let to = (offset + bytes.len() as u64).min(start + size.bytes());
+    let to = (offset + bytes.len() as u64).min(start + block_size.bytes());
     let piece = &bytes[(from - offset) as usize..(to - offset) as usize];
     Ok(MicroOp::WriteBlock {
         file,
@@ -53,7 +54,7 @@ fn write_block(
 pub fn push_blocks(
     alloc: Global,
     ops: &mut Vec<MicroOp>,
-    size: BlockSize,
+    block_size: BlockSize,
     file: u32,
     offset: u64,
     bytes: &[u8],
@@ -61,20 +62,20 @@ pub fn push_blocks(
     requires some { 0 < length bytes.now }
     requires end { offset + length bytes.now ≤ FILE_BYTES }
     ensures { OnOk result (ops.new.items ≡ ops.old.items
-        ++ block_writes (block_bytes size) file offset bytes.now) }
+        ++ block_writes (block_bytes block_size) file offset bytes.now) }
 {
-    let first = block_of(size, offset);
-    let last = block_of(size, offset + bytes.len() as u64 - 1);
+    let first = block_of(block_size, offset);
+    let last = block_of(block_size, offset + bytes.len() as u64 - 1);
     for block in first..last + 1 {
-        ops.push(write_block(alloc, size, file, block, offset, bytes)?)?;
+        ops.push(write_block(alloc, block_size, file, block, offset, bytes)?)?;
     }
     Ok(())
 }
 
-/// A law: the parts of a write in the blocks that it touches, one after another, are its bytes. The
-/// call does nothing.
-pub fn blocks_make_up_a_write(size: BlockSize, offset: u64, bytes: &[u8])
+/// A law: the parts of a write in the blocks that it touches, one after another, are its bytes, of
+/// which there must be at least one. The call does nothing.
+pub fn blocks_make_up_a_write(block_size: BlockSize, offset: u64, bytes: &[u8])
     requires { 0 < length bytes.now }
-    ensures { flat_map (λ block. bytes_in (block_bytes size) block offset bytes.now)
-        (touched_blocks (block_bytes size) offset bytes.now) ≡ bytes.now }
+    ensures { flat_map (λ block. bytes_in (block_bytes block_size) block offset bytes.now)
+        (touched_blocks (block_bytes block_size) offset bytes.now) ≡ bytes.now }
 {}

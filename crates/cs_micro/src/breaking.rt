@@ -1,6 +1,6 @@
-//! Breaks a list of operations into micro-operations and sync points. `block` is the size of a
-//! block here, and `size` that of a file before the operation. An error is that memory ran out; the
-//! lists are then dropped, so only `push_micros` says what they have.
+//! Breaks a list of operations into micro-operations and sync points. Here `size` is the size of a
+//! file before the operation. An error is that memory ran out; the lists are dropped then, with
+//! what was appended so far.
 ghost use Rattle.std.specs.Prelude.{◌≡◌, ◌++◌, ◌∷◌, [], ◌+◌, ◌<◌, ◌≤◌, ◌↔◌, length, IfOk, IsErr};
 ghost use Rattle.std.specs.Prelude.{IsTrue, OnOk, ℕ};
 ghost use Rattle.std.specs.List.{All};
@@ -8,7 +8,7 @@ ghost use Rattle.cs_trace_lines.specs.Versions.{block_bytes};
 ghost use Rattle.cs_micro.specs.MicroOperations.{IsWithinLimit, set_attr_micros};
 ghost use Rattle.cs_micro.specs.MicroOperations.{micro_operations_of, micros_of, rename_micros};
 ghost use Rattle.cs_micro.specs.MicroOperations.{truncate_micros, same_rights, write_micros};
-ghost use Rattle.cs_micro.specs.SyncPoints.{points_behind, sync_points_of};
+ghost use Rattle.cs_micro.specs.SyncPoints.{points_after, sync_points_of};
 
 use crate::blocks::{block_of, push_blocks};
 use crate::copies::{copy_covers, copy_target};
@@ -19,35 +19,36 @@ use cs_names::limits::{FILE_BYTES, MICRO_OPERATIONS};
 use cs_trace::{BlockSize, Node, Operation, Rights, Target};
 use std::alloc::{AllocError, Global};
 
-/// How many micro-operations a write to a file of `size` bytes breaks into: one for each block that
-/// it touches, and one more if it grows the file. A write of no byte breaks into none. It allocates
-/// nothing.
-fn count_of_write(block: BlockSize, size: u64, offset: u64, bytes: &[u8]) -> usize
+/// How many micro-operations `push_write` appends for a write: one for each block that it touches,
+/// and one more if it grows the file; none if it has no bytes. Allocates nothing.
+fn count_of_write(block_size: BlockSize, size: u64, offset: u64, bytes: &[u8]) -> usize
     requires { 0 < length bytes.now → offset + length bytes.now ≤ FILE_BYTES }
     ensures { (file : ℕ)
-        → result ≡ length (write_micros (block_bytes block) file size offset bytes.now) }
+        → result ≡ length (write_micros (block_bytes block_size) file size offset bytes.now) }
 {
     if bytes.is_empty() {
         return 0;
     }
     let end = offset + bytes.len() as u64;
-    let blocks = block_of(block, end - 1) + 1 - block_of(block, offset);
+    let blocks = block_of(block_size, end - 1) + 1 - block_of(block_size, offset);
     let changes = if size < end { 1 } else { 0 };
     blocks as usize + changes
 }
 
-/// Whether owner, group and permissions are the same, so that a chmod or a chown changes nothing.
-fn are_same_rights(rights: &Rights, others: &Rights) -> bool
-    ensures { result ≡ same_rights rights.now others.now }
+/// Whether a chmod or a chown from the rights `before` to those `after` changes nothing: owner,
+/// group and permissions are the same.
+fn is_no_change(before: &Rights, after: &Rights) -> bool
+    ensures { result ≡ same_rights before.now after.now }
 {
-    rights == others
+    before == after
 }
 
-/// How many micro-operations an operation breaks into; 0 if it changes nothing, or is a sync. It
-/// allocates nothing.
-pub fn micro_count(block: BlockSize, operation: &Operation) -> usize
+/// How many micro-operations an operation breaks into, as `push_micros` appends them: 0 for a sync,
+/// a write of no bytes, a rename of a path to itself, and a truncate or a change of rights that
+/// changes nothing. Allocates nothing.
+pub fn micro_count(block_size: BlockSize, operation: &Operation) -> usize
     requires { IsWithinLimit operation.now }
-    ensures { result ≡ length (micros_of (block_bytes block) operation.now) }
+    ensures { result ≡ length (micros_of (block_bytes block_size) operation.now) }
 {
     match operation {
         Operation::Creat { .. }
@@ -62,23 +63,24 @@ pub fn micro_count(block: BlockSize, operation: &Operation) -> usize
             offset,
             bytes,
             ..
-        } => count_of_write(block, *size, *offset, bytes.as_slice()),
+        } => count_of_write(block_size, *size, *offset, bytes.as_slice()),
         Operation::Truncate { size, length, .. } => usize::from(size != length),
-        Operation::SetAttr { before, after, .. } => usize::from(!are_same_rights(before, after)),
+        Operation::SetAttr { before, after, .. } => usize::from(!is_no_change(before, after)),
         Operation::Sync(_) => 0,
     }
 }
 
-/// Whether the operations break into at most MICRO_OPERATIONS micro-operations together. It
-/// allocates nothing.
-pub fn has_room(block: BlockSize, operations: &[Operation]) -> bool
+/// Whether the operations break into at most MICRO_OPERATIONS micro-operations together. Allocates
+/// nothing.
+pub fn has_room(block_size: BlockSize, operations: &[Operation]) -> bool
     requires { All IsWithinLimit operations.now }
     ensures { IsTrue result
-        ↔ (length (micro_operations_of (block_bytes block) operations.now) ≤ MICRO_OPERATIONS) }
+        ↔ (length (micro_operations_of (block_bytes block_size) operations.now)
+        ≤ MICRO_OPERATIONS) }
 {
     let mut total = 0;
     for operation in operations {
-        let count = micro_count(block, operation);
+        let count = micro_count(block_size, operation);
         if count > MICRO_OPERATIONS - total {
             return false;
         }
@@ -107,7 +109,7 @@ fn push_create(
     Ok(())
 }
 
-/// Appends the removal of the entry at the path, of a file or a directory as `kind` says.
+/// Appends the removal of the entry at the path; `kind` is what the entry names.
 fn push_delete(
     alloc: Global,
     ops: &mut Vec<MicroOp>,
@@ -162,12 +164,12 @@ fn push_link(
 }
 
 /// Appends the micro-operations of a write to a file of `size` bytes: a change of size, if the
-/// write grows the file, and then the write into each block that it touches. Nothing if it has no
-/// bytes.
+/// write grows the file, and then the write into each block that it touches. Nothing if the write
+/// has no bytes. `count_of_write` counts the same.
 fn push_write(
     alloc: Global,
     ops: &mut Vec<MicroOp>,
-    block: BlockSize,
+    block_size: BlockSize,
     file: u32,
     size: u64,
     offset: u64,
@@ -175,9 +177,9 @@ fn push_write(
 ) -> Result<(), AllocError>
     requires { 0 < length bytes.now → offset + length bytes.now ≤ FILE_BYTES }
     ensures value { OnOk result (ops.new.items ≡ ops.old.items
-        ++ write_micros (block_bytes block) file size offset bytes.now) }
+        ++ write_micros (block_bytes block_size) file size offset bytes.now) }
     ensures memory { IsErr result
-        → 0 < length (write_micros (block_bytes block) file size offset bytes.now) }
+        → 0 < length (write_micros (block_bytes block_size) file size offset bytes.now) }
 {
     if bytes.is_empty() {
         return Ok(());
@@ -186,7 +188,7 @@ fn push_write(
     if size < end {
         ops.push(MicroOp::ChangeFileSize { file, length: end })?;
     }
-    push_blocks(alloc, ops, block, file, offset, bytes)
+    push_blocks(alloc, ops, block_size, file, offset, bytes)
 }
 
 /// Appends a change of a file's size from `size` bytes to `to`; nothing if they are the same.
@@ -200,8 +202,8 @@ fn push_size(ops: &mut Vec<MicroOp>, file: u32, size: u64, to: u64) -> Result<()
     Ok(())
 }
 
-/// Appends a change of the target's rights to `after`; nothing if they were the same `before`.
-fn push_rights(
+/// Appends a change of the target's rights from `before` to `after`; nothing if they are the same.
+fn push_set_attr(
     alloc: Global,
     ops: &mut Vec<MicroOp>,
     target: &Target,
@@ -212,7 +214,7 @@ fn push_rights(
         ++ set_attr_micros target.now before.now after.now) }
     ensures memory { IsErr result → 0 < length (set_attr_micros target.now before.now after.now) }
 {
-    if are_same_rights(before, after) {
+    if is_no_change(before, after) {
         return Ok(());
     }
     ops.push(MicroOp::SetAttr {
@@ -222,7 +224,7 @@ fn push_rights(
     Ok(())
 }
 
-/// Appends an acknowledgement to the application's users, whose text isn't kept.
+/// Appends an acknowledgement to the application's users, without its text.
 fn push_say(ops: &mut Vec<MicroOp>) -> Result<(), AllocError>
     ensures { OnOk result (ops.new.items ≡ ops.old.items ++ MicroOp.Say ∷ []) }
 {
@@ -230,18 +232,18 @@ fn push_say(ops: &mut Vec<MicroOp>) -> Result<(), AllocError>
     Ok(())
 }
 
-/// Appends the micro-operations of one operation. After an error, some of them may have been
-/// appended.
+/// Appends the micro-operations of one operation; `micro_count` counts the same. After an error,
+/// some of them may have been appended.
 fn push_micros(
     alloc: Global,
     ops: &mut Vec<MicroOp>,
-    block: BlockSize,
+    block_size: BlockSize,
     operation: &Operation,
 ) -> Result<(), AllocError>
     requires { IsWithinLimit operation.now }
     ensures value { OnOk result (ops.new.items ≡ ops.old.items
-        ++ micros_of (block_bytes block) operation.now) }
-    ensures memory { IsErr result → 0 < length (micros_of (block_bytes block) operation.now) }
+        ++ micros_of (block_bytes block_size) operation.now) }
+    ensures memory { IsErr result → 0 < length (micros_of (block_bytes block_size) operation.now) }
 {
     match operation {
         Operation::Creat { path, file, rights } => {
@@ -259,13 +261,21 @@ fn push_micros(
             size,
             offset,
             bytes,
-        } => push_write(alloc, ops, block, *file, *size, *offset, bytes.as_slice()),
+        } => push_write(
+            alloc,
+            ops,
+            block_size,
+            *file,
+            *size,
+            *offset,
+            bytes.as_slice(),
+        ),
         Operation::Truncate { file, size, length } => push_size(ops, *file, *size, *length),
         Operation::SetAttr {
             target,
             before,
             after,
-        } => push_rights(alloc, ops, target, before, after),
+        } => push_set_attr(alloc, ops, target, before, after),
         Operation::Sync(_) => Ok(()),
         Operation::Say => push_say(ops),
     }
@@ -280,8 +290,8 @@ fn push_sync(
     operation: &Operation,
 ) -> Result<(), AllocError>
     ensures value { OnOk result (syncs.new.items ≡ syncs.old.items
-        ++ points_behind count operation.now) }
-    ensures memory { IsErr result → 0 < length (points_behind count operation.now) }
+        ++ points_after count operation.now) }
+    ensures memory { IsErr result → 0 < length (points_after count operation.now) }
 {
     if let Operation::Sync(covers) = operation {
         syncs.push(SyncPoint {
@@ -293,26 +303,26 @@ fn push_sync(
 }
 
 /// The micro-operations of these operations, and their sync points, both in the order of the
-/// operations. It runs out of memory only if there is at least one of either.
+/// operations. Memory can run out only if there is at least one of either.
 pub fn micros_and_syncs(
     alloc: Global,
-    block: BlockSize,
+    block_size: BlockSize,
     operations: &[Operation],
 ) -> Result<(Vec<MicroOp>, Vec<SyncPoint>), AllocError>
     requires { All IsWithinLimit operations.now }
     ensures ops { IfOk result (λ both. both.0.items
-        ≡ micro_operations_of (block_bytes block) operations.now) }
+        ≡ micro_operations_of (block_bytes block_size) operations.now) }
     ensures syncs { IfOk result (λ both. both.1.items
-        ≡ sync_points_of (block_bytes block) operations.now) }
+        ≡ sync_points_of (block_bytes block_size) operations.now) }
     ensures memory { IsErr result
-        → 0 < length (micro_operations_of (block_bytes block) operations.now)
-        + length (sync_points_of (block_bytes block) operations.now) }
+        → 0 < length (micro_operations_of (block_bytes block_size) operations.now)
+        + length (sync_points_of (block_bytes block_size) operations.now) }
 {
     let mut ops = Vec::new(alloc);
     let mut syncs = Vec::new(alloc);
     for operation in operations {
         push_sync(alloc, &mut syncs, ops.len(), operation)?;
-        push_micros(alloc, &mut ops, block, operation)?;
+        push_micros(alloc, &mut ops, block_size, operation)?;
     }
     Ok((ops, syncs))
 }

@@ -4,7 +4,7 @@ ghost use Rattle.std.specs.Prelude.{◌≡◌, IfOk};
 use cs_trace::{Covers, Target};
 use std::alloc::{AllocError, Global};
 
-/// A copy of whose rights are set. Only that of a directory allocates.
+/// A copy of the target of a chmod or a chown. Only that of a directory allocates, for its path.
 pub fn copy_target(alloc: Global, target: &Target) -> Result<Target, AllocError>
     ensures { IfOk result (λ copy. copy ≡ target.now) }
 {
@@ -14,7 +14,7 @@ pub fn copy_target(alloc: Global, target: &Target) -> Result<Target, AllocError>
     }
 }
 
-/// A copy of what a sync covers. Only that of a directory allocates.
+/// A copy of what a sync covers. Only that of a directory allocates, for its path.
 pub fn copy_covers(alloc: Global, covers: &Covers) -> Result<Covers, AllocError>
     ensures { IfOk result (λ copy. copy ≡ covers.now) }
 {

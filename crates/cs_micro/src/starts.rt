@@ -7,7 +7,7 @@ ghost use Rattle.cs_micro.specs.Micros.{paths_of_files};
 use cs_names::Path;
 use std::alloc::{AllocError, Global};
 
-/// For each file, a list that has only its first path, the one in `files`.
+/// For each file, in the order of `files`, a list of one path: the file's path there.
 fn own_paths(alloc: Global, files: &[Path]) -> Result<Vec<Vec<Path>>, AllocError>
     ensures value { IfOk result (λ starts. map (λ paths. paths.items) starts.items
         ≡ map (λ path. path ∷ []) files.now) }
@@ -23,7 +23,8 @@ fn own_paths(alloc: Global, files: &[Path]) -> Result<Vec<Vec<Path>>, AllocError
 }
 
 /// The paths of each file, in the order of the files' numbers: its first path, from `files`, and
-/// then those that `links` has with its number, in their order.
+/// then those that `links` has with its number, in their order. Each number in `links` must be that
+/// of one of `files`.
 pub fn paths_of_files(
     alloc: Global,
     files: &[Path],

@@ -3,6 +3,7 @@ use Rattle.std.proofs.Common.{◌≡◌, ◌≢◌, ℕ, zero, suc, [], Option, 
 use Rattle.std.proofs.lemmas.Bool.{false≢true}
 use Rattle.std.specs.FinMap.{len}
 use Rattle.std.specs.Option.{option_map, option_and_then, is_some}
+use Rattle.cs_tree_model.specs.declared.record.MetadataBuf.{MetadataBuf}
 use Rattle.cs_tree_model.specs.declared.record.Record.{Record}
 use Rattle.cs_tree_model.specs.Laws.Counts.{len-files}
 use Rattle.cs_tree_model.specs.Laws.Lookups.{links_of_tree, tree_round}
@@ -43,6 +44,17 @@ module _ (at : Nodes) (kids : Lookup) (next : ℕ) (h : IsIndexed at kids next) 
 
 pub indexed_of : (t : Tree) → IsTree t → IsIndexed (node_in t) (number_in t) t.next
 indexed_of t h = record { table = table_of_tree t h; links = links_of_tree t h }
+
+-- a file of a tree has a directory
+pub has_directory : (t : Tree) → IsTree t → (n : ℕ) (m : MetadataBuf) → Some m ≡ option_map metadata_of (record_numbered t n)
+    → parent_numbered t n ≡ None → ⊥
+has_directory t h n m has none = by (node_in t n)
+    (laws.record_in (node_in t) (number_in t) t.next (indexed_of t h) t (tree_round t h) n)
+    (sym none ∙ laws.parent_in (node_in t) (number_in t) t.next (indexed_of t h) t (tree_round t h) n)
+  where
+    by : (o : Option table.Node) → record_numbered t n ≡ option_map (λ d. d.file) o → None ≡ option_map (λ d. d.parent) o → ⊥
+    by None e p = false≢true (sym (ap is_some (has ∙ ap (option_map metadata_of) e)))
+    by (Some d) e p = false≢true (ap is_some p)
 
 -- ---- the layers
 

@@ -1,5 +1,5 @@
-//! A directory's own answers: who has a name in it, for the names whose answer differs from the
-//! lower directory's.
+//! A directory's own answers for names: which file has the name there, or that no file has it. An
+//! own answer overrides what the lower directory has.
 ghost use Rattle.std.specs.Prelude.{◌≡◌, None, Some, IfNone, IfSome, IsSome, OnOk, OnErr};
 ghost use Rattle.std.specs.Option.{option_copied};
 ghost use Rattle.std.specs.FinMap as map;
@@ -11,15 +11,15 @@ use std::alloc::{AllocError, Global};
 use std::collections::BTreeMap;
 use std::marker::Model;
 
-/// The answer for a name: the number of the file that has it, or None if no file has it any more.
+/// The answer for a name: the number of the file that has it, or None if no file has it.
 #[derive(Drop)]
 pub struct Answer {
-    /// The name, kept so that a listing can lend it.
+    /// The map's key as a `Name`, so that a listing can lend it.
     pub name: Name,
     pub number: Option<u64>,
 }
 
-/// A directory's own answers by name. For every other name the lower directory is asked.
+/// A directory's own answers by name. For all other names the lower directory decides.
 #[derive(Drop)]
 pub struct Answers {
     entries: BTreeMap<String, Answer>,
@@ -52,8 +52,8 @@ impl Answers {
         }
     }
 
-    /// The answer for the name: the number of its file, or None inside if no file has it. None
-    /// outside if there is no own answer, so the lower directory must be asked.
+    /// The own answer for the name: the number of its file, or `Some(None)` if no file has it. None
+    /// if there is no own answer, so that the lower directory decides.
     pub fn get(&self, name: &str) -> Option<Option<u64>>
         ensures { result ≡ map.get self.now name.now }
     {
@@ -63,8 +63,9 @@ impl Answers {
         }
     }
 
-    /// The first name after `last`, or the first of all if that is None, with its answer. None if
-    /// there is no such name, or it doesn't come before the bound.
+    /// The first name with an own answer after `last`, or the first of all if `last` is None, and
+    /// its answer. None if there is no such name, or if there is a bound and the name doesn't come
+    /// before it.
     pub fn first_after(
         &self,
         last: Option<&Name>,
@@ -79,6 +80,7 @@ impl Answers {
             (option_copied bound.entry) None) }
     {
         let all = &self.entries;
+        // the answer has the name, too, as a Name
         let (_key, answer) = first_after(all, last, bound)?;
         Some((&answer.name, answer.number))
     }
@@ -94,13 +96,16 @@ impl Answers {
         Ok(())
     }
 
-    /// Replaces the answer for a name that has one. It takes no memory.
+    /// Replaces the answer for a name, which the caller knows to have one. So, unlike `insert`, it
+    /// takes no memory.
     pub fn replace(&mut self, name: &str, number: Option<u64>)
         requires { IsSome (map.get self.old name.now) }
         ensures { self.new ≡ map.insert self.old name.now number }
     {
-        if let Some(answer) = self.entries.get_mut(name) {
-            answer.number = number;
-        }
+        let Some(answer) = self.entries.get_mut(name) else {
+            // the caller's name has an answer
+            unreachable!();
+        };
+        answer.number = number;
     }
 }

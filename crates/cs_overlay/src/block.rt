@@ -22,7 +22,7 @@ impl Model for Block {
 }
 
 impl Block {
-    /// Wraps a block's bytes.
+    /// The block that has these bytes.
     pub fn of(bytes: Vec<u8>) -> Block
         ensures { result ≡ bytes.items }
     {
@@ -36,14 +36,14 @@ impl Block {
         &self.bytes
     }
 
-    /// Keeps the first `length` bytes and drops the rest; a shorter block stays as it is.
+    /// Keeps the first `length` bytes and drops the rest; a block that has no more is unchanged.
     pub fn truncate(&mut self, length: usize)
         ensures { self.new ≡ take length self.old }
     {
         self.bytes.truncate(length);
     }
 
-    /// Replaces the bytes from `start` on by the piece, which doesn't reach past the end.
+    /// Replaces the block's bytes from `start` on by the piece, which ends within the block.
     pub fn overwrite(&mut self, start: usize, piece: &[u8])
         requires { start + length piece.now ≤ length self.old }
         ensures { self.new ≡ put_in start piece.now self.old }
@@ -51,19 +51,21 @@ impl Block {
         overwrite_bytes(&mut self.bytes, start, piece);
     }
 
-    /// Appends zeros until the block has at least `n` bytes; a longer block stays as it is. After
-    /// an error some of the zeros may be there, which no read sees.
-    pub fn lengthen(&mut self, n: usize) -> Result<(), AllocError>
+    /// Appends zeros until the block has at least `needed` bytes; a block that has them is
+    /// unchanged. After an error some of the zeros may be there. No read shows them, since bytes
+    /// past the block's end read as zero anyway.
+    pub fn lengthen(&mut self, needed: usize) -> Result<(), AllocError>
         ensures longer { (z : ℕ) × (self.new ≡ self.old ++ replicate z 0) }
-        ensures there { OnOk result (n ≤ length self.new) }
+        ensures there { OnOk result (needed ≤ length self.new) }
     {
-        let end = self.bytes.len().max(n);
+        let end = self.bytes.len().max(needed);
         self.bytes.resize(end, 0)?;
         Ok(())
     }
 }
 
-/// At most `count` bytes from `start` on: fewer at the end, none past it.
+/// At most `count` bytes from `start` on: fewer if the bytes end before, none at their end or past
+/// it.
 fn part_of(bytes: &[u8], start: usize, count: usize) -> &[u8]
     ensures { result.now ≡ take count (drop start bytes.now) }
 {
@@ -73,8 +75,8 @@ fn part_of(bytes: &[u8], start: usize, count: usize) -> &[u8]
     &rest[..end]
 }
 
-/// Appends `count` bytes of the source from `start` on, and zeros for those past its end. After an
-/// error some of them may be there.
+/// Appends exactly `count` bytes: those of the source from `start` on, and zeros for those past its
+/// end. After an error `out` may have some of them.
 pub fn append_part(
     out: &mut Vec<u8>,
     source: &[u8],

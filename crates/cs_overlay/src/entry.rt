@@ -1,5 +1,5 @@
-//! Reads of one number. The overlay's entry there decides, which is a node, or None if the file was
-//! removed; without an entry the lower tree is read.
+//! Reads of one number. The overlay's entry there decides: a node, or None if the file was removed.
+//! If there is no entry, the lower tree is read.
 ghost use Rattle.std.specs.Prelude.{◌≡◌, ◌≢◌, [], IfOk, IsErr, IsSomeAnd, take, drop};
 ghost use Rattle.std.specs.Option.{option_copied, option_map};
 ghost use Rattle.cs_tree_model.specs.Record.{metadata_of_ref};
@@ -27,8 +27,9 @@ pub fn record<'a, L: TreeRead>(
     }
 }
 
-/// The number of the file of that name in the directory; None if no file has it. It asks the lower
-/// tree if the directory has no answer of its own.
+/// The number of the file of that name in the directory; None if the directory has no such file, or
+/// `directory` isn't a directory's number. `entry` is the directory's; if it has no answer for the
+/// name, the lower tree decides.
 pub fn find<L: TreeRead>(
     lower: &L,
     entry: Option<&Option<Node>>,
@@ -47,7 +48,7 @@ pub fn find<L: TreeRead>(
     }
 }
 
-/// The number of the directory that has the file; None if no file has the number.
+/// The number of the file's directory; the root's is the root. None if no file has the number.
 pub fn parent<L: TreeRead>(lower: &L, entry: Option<&Option<Node>>, number: u64) -> Option<u64>
     ensures { result ≡ parent_at (L.tree lower.now) number (option_copied entry.entry) }
 {
@@ -74,8 +75,8 @@ pub fn name<'a, L: TreeRead>(
     }
 }
 
-/// At most `count` bytes of the file from `offset` on, none past its end. None if the number isn't
-/// a file's. If no byte is returned, it takes no memory.
+/// At most `count` bytes of the file from `offset` on, none at its end or past it. None if the
+/// number is a directory's, or no file has it. If no byte is returned, it takes no memory.
 pub fn read<L: TreeRead>(
     alloc: Global,
     lower: &L,

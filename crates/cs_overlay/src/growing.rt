@@ -1,5 +1,7 @@
 //! Copies of the lower file's blocks, made before a write changes them. No read shows the
-//! difference. `kept` is the number of the lower file's first bytes that still show.
+//! difference. `kept` is the number of the lower file's first bytes that still show. `number` is
+//! that of the lower file; if the lower tree has no such file, nothing shows. Block k has the 4,096
+//! bytes from 4,096 k on.
 ghost use Rattle.std.specs.Prelude.{◌≡◌, ◌≤◌, ◌<◌, ◌^◌, ℕ, List, Some, length, IfOk, IfSome};
 ghost use Rattle.std.specs.Prelude.{IsSome, OnOk};
 ghost use Rattle.std.specs.Ordering.{nat_cmp};
@@ -11,8 +13,9 @@ use cs_tree_model::TreeRead;
 use std::alloc::{AllocError, Global};
 use std::collections::BTreeMap;
 
-/// The block as the file shows it while it has no copy: what still shows of the lower file, so
-/// fewer than 4,096 bytes, or none, at and past the end of that.
+/// What still shows of the lower file in a block that the file has no copy of: 4,096 bytes, fewer
+/// if what shows ends in the block, none if it ends before. The caller's index is below 2^51, so
+/// that the block ends within 2^63 bytes.
 fn shown_block<L: TreeRead>(
     alloc: Global,
     lower: &L,
@@ -24,6 +27,7 @@ fn shown_block<L: TreeRead>(
     ensures { IfOk result (λ b. b ≡ block_of (lower_bytes (L.tree lower.now) number) kept index) }
 {
     let start = index * 4096;
+    // 0 if what shows ends before the block
     let count = kept.saturating_sub(start).min(4096) as usize;
     let Some(bytes) = lower.read_at(alloc, number, start, count)? else {
         return Ok(Block::of(Vec::new(alloc)));
@@ -31,24 +35,25 @@ fn shown_block<L: TreeRead>(
     Ok(Block::of(bytes))
 }
 
-/// Appends zeros to a block until it has at least `end` bytes; does nothing if the file has no copy
-/// of the block. After an error some of the zeros may be there.
+/// Appends zeros to the file's copy of a block until the copy has at least `needed` bytes. Without
+/// a copy it does nothing, but the caller has made one. After an error some of the zeros may be
+/// there.
 fn lengthen_block(
     blocks: &mut BTreeMap<u64, Block>,
     index: u64,
-    end: usize,
+    needed: usize,
 ) -> Result<(), AllocError>
     ensures longer { AreLonger (get nat_cmp blocks.old) (get nat_cmp blocks.new) }
-    ensures there { OnOk result (IfSome (get nat_cmp blocks.new index) (λ s. end ≤ length s)) }
+    ensures there { OnOk result (IfSome (get nat_cmp blocks.new index) (λ s. needed ≤ length s)) }
 {
     if let Some(block) = blocks.get_mut(&index) {
-        block.lengthen(end)?;
+        block.lengthen(needed)?;
     }
     Ok(())
 }
 
-/// Copies a block of the lower file up, unless the file has a copy already. After an error the file
-/// has none.
+/// Copies a block of the lower file up, unless the file has a copy of it already. After an error
+/// the file has no copy of it.
 fn copy_block_up<L: TreeRead>(
     alloc: Global,
     lower: &L,
@@ -73,8 +78,8 @@ fn copy_block_up<L: TreeRead>(
     Ok(())
 }
 
-/// Copies a block of the lower file up, unless the file has a copy already, and lengthens the copy
-/// to at least `end` bytes. After an error no read shows a difference.
+/// Copies a block of the lower file up, unless the file has a copy of it already, and lengthens the
+/// copy to at least `needed` bytes. After an error no read shows a difference.
 fn make_block_reach<L: TreeRead>(
     alloc: Global,
     lower: &L,
@@ -82,7 +87,7 @@ fn make_block_reach<L: TreeRead>(
     kept: u64,
     blocks: &mut BTreeMap<u64, Block>,
     index: u64,
-    end: usize,
+    needed: usize,
 ) -> Result<(), AllocError>
     requires { index < 2 ^ 51 }
     ensures same { (i : ℕ)
@@ -91,15 +96,17 @@ fn make_block_reach<L: TreeRead>(
     ensures keeps { (a b : ℕ) → Reaches (get nat_cmp blocks.old) a b
         → Reaches (get nat_cmp blocks.new) a b }
     ensures there { OnOk result
-        ((s : List ℕ) × (get nat_cmp blocks.new index ≡ Some s) × (end ≤ length s)) }
+        ((s : List ℕ) × (get nat_cmp blocks.new index ≡ Some s) × (needed ≤ length s)) }
 {
     copy_block_up(alloc, lower, number, kept, blocks, index)?;
-    lengthen_block(blocks, index, end)?;
+    lengthen_block(blocks, index, needed)?;
     Ok(())
 }
 
-/// Copies up all blocks from `offset` to `end`, so that a write there takes no memory. After an
-/// error some may be copied; no read shows the difference.
+/// Copies up each block that the file's bytes from `offset` on and before `end` touch, and makes
+/// the copies long enough for these bytes, so that a write there takes no memory. Does nothing if
+/// `end` isn't above `offset`. After an error some blocks may be copied; no read shows the
+/// difference.
 pub fn copy_blocks_up<L: TreeRead>(
     alloc: Global,
     lower: &L,

@@ -1,6 +1,6 @@
-//! A tree that changes, over a lower one that is shared and never changes. It keeps only what
-//! differs: a node for each file that changed, and in it the blocks or the answers for names that
-//! did.
+//! A tree that changes, over a lower one that is shared and never changes. It stores only what
+//! differs: a node for each file that changed, and in it the file's blocks, or the directory's
+//! answers for names, that changed.
 #![tactic(auto)]
 
 mod answers;

@@ -1,6 +1,6 @@
 //! Listings of a directory: its own answers merged with the lower directory's entries. Each
-//! function returns the first entry after `last`, or the first of all if that is None, and None if
-//! there is none before the bound.
+//! function returns the first entry after `last`, or the first of all if `last` is None. It returns
+//! None if there is no such entry, or if the entry doesn't come before a bound that is given.
 ghost use Rattle.std.specs.Prelude.{◌≡◌, Some, IfSome, IsSome};
 ghost use Rattle.std.specs.Option.{option_copied, option_map};
 ghost use Rattle.std.specs.FinMap.{get};
@@ -12,9 +12,9 @@ use crate::node::{Body, Node};
 use cs_names::Name;
 use cs_tree_model::{ListedEntry, TreeRead};
 
-/// The next entry of a directory that has these answers of its own. Each step of the loop looks at
-/// one of them: it asks the lower directory for an entry before it, and passes it if no file has
-/// the name.
+/// The next entry of a directory that has these own answers. Each step of the
+/// loop looks at one answer: an entry of the lower directory before the answer's name comes first,
+/// and a name that no file has is passed over.
 fn next_of_both<'a, L: TreeRead>(
     lower: &'a L,
     answers: &'a Answers,
@@ -45,8 +45,8 @@ fn next_of_both<'a, L: TreeRead>(
     }
 }
 
-/// The next entry of a directory whose node has this body. The body of a file has no answers, so
-/// then it is the lower tree's next entry.
+/// The next entry of a directory whose node has this body; None if there is none. The body of a
+/// file has no answers, so then it is the lower tree's next entry.
 fn next_in_node<'a, L: TreeRead>(
     lower: &'a L,
     body: &'a Body,
@@ -67,8 +67,9 @@ fn next_in_node<'a, L: TreeRead>(
     }
 }
 
-/// The next entry of a directory, given the overlay's entry at its number: a node, None if the
-/// directory was removed, or no entry, and then the lower tree is asked.
+/// The next entry of a directory. `entry` is what the overlay has at the directory's number: a
+/// node, `Some(None)` if the directory was removed, so that nothing is listed, or None if the lower
+/// tree's directory is unchanged.
 pub fn entry_after<'a, L: TreeRead>(
     lower: &'a L,
     entry: Option<&'a Option<Node>>,

@@ -1,4 +1,4 @@
-//! The nodes of an overlay: the files that differ from the lower tree's.
+//! The nodes of an overlay: the files and directories that differ from the lower tree's.
 ghost use Rattle.std.specs.Prelude.{◌≡◌, ◌+◌, ◌<◌, ◌^◌, ℕ, List, Option, None, Some, OnOk, OnErr};
 ghost use Rattle.std.specs.Prelude.{IfOk, IfSome, IsSome, length};
 ghost use Rattle.std.specs.Option.{option_copied};
@@ -37,8 +37,8 @@ impl Body {
         }
     }
 
-    /// The directory's own answer for a name: the number of its file, or None inside if no file has
-    /// it. None outside if there is no own answer, and in a file.
+    /// The directory's own answer for a name: the number of its file, or `Some(None)` if no file
+    /// has it. None if there is no own answer, or if this is a file's body.
     pub fn answer(&self, name: &str) -> Option<Option<u64>>
         ensures { result ≡ own_in self.now name.now }
     {
@@ -49,8 +49,8 @@ impl Body {
     }
 }
 
-/// A file that differs from the lower tree's of its number, or that the lower tree doesn't have.
-/// The root's directory is the root, in which it has no name.
+/// A file or directory that may differ from the lower tree's of its number, or whose number the
+/// lower tree doesn't have. The root's directory is the root itself, and the root's name is None.
 #[derive(Drop)]
 pub struct Node {
     pub parent: u64,
@@ -75,7 +75,8 @@ impl Node {
             return Ok(None);
         };
         let Some(parent) = lower.parent_of(number) else {
-            return Ok(None);
+            // each file has a directory, and the root's is the root
+            unreachable!();
         };
         let name = try_clone_name(lower.name_of(number))?;
         let metadata = metadata.to_owned()?;
@@ -88,9 +89,10 @@ impl Node {
         }))
     }
 
-    /// The node of a new file or directory, which the stamp's user made at the stamp's moment. It
-    /// has no bytes or entries, and version 0.
-    pub fn new_file(
+    /// The node of a new file, or of a new directory if the mode has DMDIR, which the stamp's user
+    /// made at the stamp's moment. It has no bytes or entries, and version 0. The lower tree has no
+    /// file of the caller's number.
+    pub fn of_new(
         alloc: Global,
         number: u64,
         parent: u64,
@@ -107,6 +109,7 @@ impl Node {
         let (kind, body) = if is_directory_mode(new.mode) {
             (Kind::Directory, Body::Directory(Answers::new(alloc)))
         } else {
+            // the lower tree has no file of this number, so none of its bytes show
             let empty = Patched::of_lower(alloc, 0);
             (Kind::File { length: 0 }, Body::File(empty))
         };
@@ -129,8 +132,9 @@ impl Node {
         })
     }
 
-    /// Sets the directory's answer for a name: the file that has it, or that no file has it. Does
-    /// nothing to a file. After an error the node is unchanged.
+    /// Sets the directory's answer for a name: the number of its file, or None if no file has it.
+    /// A file's node would be unchanged, but names are only in directories. After an error the node
+    /// is unchanged.
     pub fn insert_answer(&mut self, name: Name, answer: Option<u64>) -> Result<(), AllocError>
         ensures ok { OnOk result (self.new ≡ with_answer self.old name answer) }
         ensures err { OnErr result (self.new ≡ self.old) }
@@ -141,19 +145,23 @@ impl Node {
         Ok(())
     }
 
-    /// Replaces the directory's answer for a name that has one; does nothing to a file. It takes no
-    /// memory.
+    /// Replaces the directory's answer for a name, which the caller knows to have one, so that the
+    /// node is no file's. Unlike `insert_answer` it takes no memory.
     pub fn set_answer(&mut self, name: &str, answer: Option<u64>)
         requires { IsSome (own_in self.old.body name.now) }
         ensures { self.new ≡ with_answer self.old name.now answer }
     {
-        if let Body::Directory(answers) = &mut self.body {
-            answers.replace(name, answer);
+        match &mut self.body {
+            Body::Directory(answers) => answers.replace(name, answer),
+            // a file's body has no answers
+            Body::File(_) => unreachable!(),
         }
     }
 
-    /// Writes bytes into the file, and stamps it. `number` is the lower file's. It copies only
-    /// the blocks that the bytes touch. After an error no read shows a difference.
+    /// Writes bytes, at least one, into the file at an offset, and stamps the node. `number` is the
+    /// file's, here and in the lower tree. Only the blocks that the bytes touch are copied. After
+    /// an error no read shows a difference. A directory's node would only be stamped, but the store
+    /// writes to files only.
     pub fn write<L: TreeRead>(
         &mut self,
         alloc: Global,
@@ -182,31 +190,32 @@ impl Node {
         Ok(())
     }
 
-    /// Sets the file's length to `n`, and its mtime and muid to the stamp's. The version stays.
-    /// After an error no read shows a difference.
-    fn set_length(&mut self, n: u64, stamp: Stamp) -> Result<(), AllocError>
+    /// Sets the file's length, and its mtime and muid to the stamp's. The version is unchanged.
+    /// After an error no read shows a difference. A directory would get only mtime and muid, but no
+    /// change sets a directory's length.
+    fn set_length(&mut self, length: u64, stamp: Stamp) -> Result<(), AllocError>
         ensures ok { OnOk result
             ((low : Option (List ℕ)) (m : ℕ) → IsNode low m self.old
             → IsStep low m
-            (λ r. record (record_with_length n r) { mtime = stamp.now; muid = stamp.user }) self.old
-            self.new) }
+            (λ r. record (record_with_length length r) { mtime = stamp.now; muid = stamp.user })
+            self.old self.new) }
         ensures err { OnErr result
             ((low : Option (List ℕ)) (m : ℕ) → IsNode low m self.old
             → IsStep low m (λ r. r) self.old self.new) }
         ensures vers { self.new.metadata.vers ≡ self.old.metadata.vers }
     {
         if let Body::File(file) = &mut self.body {
-            file.resize(n)?;
-            self.metadata.kind = Kind::File { length: n };
+            file.resize(length)?;
+            self.metadata.kind = Kind::File { length };
         }
         self.metadata.mtime = stamp.now;
         self.metadata.muid = stamp.user;
         Ok(())
     }
 
-    /// Sets the fields that a change names, except the name. `group` is a copy of the change's
-    /// group, which the caller makes before it changes anything. After an error no read shows a
-    /// difference.
+    /// Sets the fields that a change has, except the name. `group` is a copy of the change's group,
+    /// which the caller makes before it changes anything. Only setting a length can fail, and then
+    /// no read shows a difference.
     pub fn change(
         &mut self,
         fields: &Change,
@@ -232,7 +241,7 @@ impl Node {
     }
 }
 
-/// Copies a file's name; None if there is none, as of the root.
+/// Copies a name; None if there is none, as of the root or of a change that renames nothing.
 pub fn try_clone_name(name: Option<&Name>) -> Result<Option<Name>, AllocError>
     ensures { IfOk result (λ copy. copy ≡ option_copied name.entry) }
 {

@@ -8,8 +8,8 @@ ghost use Rattle.cs_tree_model.specs.Tree.{record_numbered};
 
 use crate::node::{Node, try_clone_name};
 use crate::table::{
-    change, copy_up, insert_answer, insert_both_answers, make_room, move_name, set_entry,
-    stamp_directory, write,
+    change_entry, copy_directory_up, copy_up, insert_answer, insert_both_answers, move_name,
+    set_entry, stamp_directory, write_to_entry,
 };
 use crate::{entry, listing};
 use cs_frozen::Lower;
@@ -22,8 +22,8 @@ use std::sync::Arc;
 
 /// A tree that differs from a lower one, which is shared and never changes. It takes memory only
 /// for what differs: the first change of a file copies its record's fields, and no entry of a
-/// directory. A write copies the blocks that it touches. A look-up asks the lower tree at most
-/// once.
+/// directory. A write copies the blocks that it touches. A look-up of a name makes at most one in
+/// the lower tree.
 #[derive(Drop)]
 pub struct Overlay<L: TreeRead> {
     lower: Arc<L>,
@@ -31,6 +31,7 @@ pub struct Overlay<L: TreeRead> {
     nodes: HashMap<u64, Option<Node>>,
     // the greatest number that was ever given to a file
     greatest: u64,
+    // the number of files, the root and all directories included
     count: usize,
 }
 
@@ -69,8 +70,9 @@ impl<L: TreeRead> Overlay<L> {
     }
 
     /// The tree, read as if nothing had ever changed it: the same paths and contents, with fresh
-    /// numbers, versions, times and users. It copies no record and no byte of a file, and allocates
-    /// only tables of numbers. If it runs out of memory, the overlay is returned.
+    /// numbers, versions and times, and the owner as the last writer. No record and no byte of a
+    /// file is copied: it allocates tables of numbers, and for a time the paths. If memory runs
+    /// out, the error returns the overlay.
     pub fn freeze(self, alloc: Global) -> Result<Lower<Overlay<L>>, (Overlay<L>, AllocError)>
         ensures ok { IfOk result (λ lower. lower ≡ fresh self.files) }
         ensures err { IfErr result (λ back. back.0 ≡ self) }
@@ -78,8 +80,9 @@ impl<L: TreeRead> Overlay<L> {
         cs_frozen::freeze(alloc, self)
     }
 
-    /// Makes a change of a file that keeps its name. `group` is a copy of the change's group, made
-    /// before anything changes, so that after an error the tree is unchanged.
+    /// Sets the length, mode, group and mtime that a change has; the caller's doesn't rename.
+    /// `group` is a copy of the change's group, made before anything changes, so that after an
+    /// error the tree is unchanged.
     fn set_fields(
         &mut self,
         alloc: Global,
@@ -97,12 +100,14 @@ impl<L: TreeRead> Overlay<L> {
         ensures err { OnErr result (self.new ≡ self.old) }
     {
         copy_up(alloc, &*self.lower, &mut self.nodes, number)?;
-        change(&mut self.nodes, number, fields, group, stamp)?;
+        change_entry(&mut self.nodes, number, fields, group, stamp)?;
         Ok(())
     }
 
-    /// Makes a change of a file that renames it. `group` and `name` are copies of the change's,
-    /// made before anything changes, so that after an error the tree is unchanged.
+    /// Renames a file in its directory, and sets what else the change has. The caller's file isn't
+    /// the root, and the new name is free. `group` and `name` are copies of the change's, made
+    /// before anything changes, so that after an error the tree is unchanged. Answers for both
+    /// names are inserted first, so that after `change_entry` nothing can fail.
     fn rename(
         &mut self,
         alloc: Global,
@@ -125,9 +130,11 @@ impl<L: TreeRead> Overlay<L> {
         ensures err { OnErr result (self.new ≡ self.old) }
     {
         let Some(directory) = self.parent_of(number) else {
+            // the caller names a file of the tree
             unreachable!();
         };
         let Some(old) = self.name_of(number) else {
+            // it isn't the root
             unreachable!();
         };
         let old = old.try_clone()?;
@@ -139,7 +146,7 @@ impl<L: TreeRead> Overlay<L> {
         insert_both_answers(
             alloc, lower, nodes, directory, number, old_answer, new_answer,
         )?;
-        change(nodes, number, fields, group, moment)?;
+        change_entry(nodes, number, fields, group, moment)?;
         move_name(nodes, directory, number, old.as_str(), name, stamp);
         Ok(())
     }
@@ -148,27 +155,29 @@ impl<L: TreeRead> Overlay<L> {
 impl<L: TreeRead> TreeRead for Overlay<L> {
     ghost tree = { λ t. t };
 
-    /// The fields that the node has, or if there is no node the lower tree; None if neither has the
-    /// number, or its file was removed.
+    /// The node's record, or the lower tree's if the overlay has no entry at the number. None if no
+    /// file has the number.
     fn record(&self, number: u64) -> Option<Metadata<'_>> {
         entry::record(&*self.lower, self.nodes.get(&number), number)
     }
 
-    /// The directory's own answer for the name, or else the lower tree's; None if no file has it.
+    /// The directory's own answer for the name, or else the lower tree's; None if the directory has
+    /// no such file, or `directory` isn't a directory's number.
     fn find_number(&self, directory: u64, name: &str) -> Option<u64> {
         entry::find(&*self.lower, self.nodes.get(&directory), directory, name)
     }
 
-    /// The directory's number, which the node has, or else the lower tree; None if no file has the
-    /// number.
+    /// The number of the file's directory, from the node or else the lower tree; the root's is the
+    /// root. None if no file has the number.
     fn parent_of(&self, number: u64) -> Option<u64> {
         entry::parent(&*self.lower, self.nodes.get(&number), number)
     }
 
-    /// The name, which the node has, or else the lower tree; None for the root, and if no file has
+    /// The file's name, from the node or else the lower tree; None for the root, and if no file has
     /// the number.
     fn name_of(&self, number: u64) -> Option<&Name> {
         let nodes = &self.nodes;
+        // the root has no name
         if number == 0 {
             return None;
         }
@@ -176,7 +185,7 @@ impl<L: TreeRead> TreeRead for Overlay<L> {
     }
 
     /// The next entry, from the directory's own answers merged with the lower directory's entries;
-    /// None if there is none before the bound.
+    /// None if there is none before the bound, or `directory` isn't a directory's number.
     fn entry_after(
         &self,
         directory: u64,
@@ -187,18 +196,19 @@ impl<L: TreeRead> TreeRead for Overlay<L> {
         listing::entry_after(&*self.lower, entry, directory, last, bound)
     }
 
-    /// The number of files, which the overlay keeps.
+    /// The number of records, the root's included, which the overlay keeps in a field.
     fn count(&self) -> usize {
         self.count
     }
 
-    /// The greatest number ever given, which the overlay keeps.
+    /// The greatest number ever given to a file, here or in the lower tree, even if that file was
+    /// removed.
     fn last_number(&self) -> u64 {
         self.greatest
     }
 
-    /// Joins the file's own blocks with what still shows of the lower file; None if the number
-    /// isn't a file's.
+    /// At most `count` bytes from `offset` on, from the file's own blocks and what still shows of
+    /// the lower file; None if the number isn't a file's.
     fn read_at(
         &self,
         alloc: Global,
@@ -213,8 +223,9 @@ impl<L: TreeRead> TreeRead for Overlay<L> {
 }
 
 impl<L: TreeRead> TreeStore for Overlay<L> {
-    /// Adds a node and the directory's answer for the name. The directory's node is copied up
-    /// first. After an error the tree is unchanged.
+    /// Adds a node and the directory's answer for the name, and stamps the directory, whose node is
+    /// copied up first. Returns the file's number, the next after the greatest ever given. After an
+    /// error the tree is unchanged.
     fn add(
         &mut self,
         alloc: Global,
@@ -229,12 +240,13 @@ impl<L: TreeRead> TreeStore for Overlay<L> {
             return Err(AllocError);
         };
         let Some(above) = self.record(directory) else {
+            // the caller names a directory of the tree
             unreachable!();
         };
         let group = above.group.try_clone()?;
         let key = name.try_clone()?;
-        let node = Node::new_file(alloc, number, directory, name, group, new, &stamp)?;
-        make_room(alloc, &*self.lower, &mut self.nodes, directory)?;
+        let node = Node::of_new(alloc, number, directory, name, group, new, &stamp)?;
+        copy_directory_up(alloc, &*self.lower, &mut self.nodes, directory)?;
         insert_answer(&mut self.nodes, directory, key, Some(number))?;
         stamp_directory(&mut self.nodes, directory, stamp);
         set_entry(&mut self.nodes, number, Some(node));
@@ -243,17 +255,19 @@ impl<L: TreeRead> TreeStore for Overlay<L> {
         Ok(number)
     }
 
-    /// Marks the number as removed, and its name as one that no file has. After an error the tree
-    /// is unchanged.
+    /// Marks the number as removed, and its name as one that no file has, and stamps the directory.
+    /// After an error the tree is unchanged.
     fn remove(&mut self, alloc: Global, number: u64, stamp: Stamp) -> Result<(), AllocError> {
         let Some(directory) = self.parent_of(number) else {
+            // the caller names a file of the tree
             unreachable!();
         };
         let Some(name) = self.name_of(number) else {
+            // it isn't the root
             unreachable!();
         };
         let name = name.try_clone()?;
-        make_room(alloc, &*self.lower, &mut self.nodes, directory)?;
+        copy_directory_up(alloc, &*self.lower, &mut self.nodes, directory)?;
         insert_answer(&mut self.nodes, directory, name, None)?;
         stamp_directory(&mut self.nodes, directory, stamp);
         set_entry(&mut self.nodes, number, None);
@@ -261,8 +275,8 @@ impl<L: TreeRead> TreeStore for Overlay<L> {
         Ok(())
     }
 
-    /// Copies the node and the blocks up, and then writes into them. After an error the tree is
-    /// unchanged.
+    /// Copies the node and the blocks up, writes into the blocks, and stamps the node. After an
+    /// error the tree is unchanged.
     fn write_at(
         &mut self,
         alloc: Global,
@@ -272,7 +286,7 @@ impl<L: TreeRead> TreeStore for Overlay<L> {
         stamp: Stamp,
     ) -> Result<(), AllocError> {
         copy_up(alloc, &*self.lower, &mut self.nodes, number)?;
-        write(
+        write_to_entry(
             alloc,
             &*self.lower,
             &mut self.nodes,
@@ -284,7 +298,8 @@ impl<L: TreeRead> TreeStore for Overlay<L> {
         Ok(())
     }
 
-    /// Copies the nodes up, and then changes them. After an error the tree is unchanged.
+    /// Copies the nodes up, and then changes them: `rename` if the change has a name, and else
+    /// `set_fields`. After an error the tree is unchanged.
     fn change(
         &mut self,
         alloc: Global,
@@ -301,7 +316,8 @@ impl<L: TreeRead> TreeStore for Overlay<L> {
     }
 }
 
-/// Copies the name of a user or group; None if there is none.
+/// Copies the name of a user or group; None if there is none. cs_tree has the same function, for
+/// its own store.
 fn try_clone_user(name: &Option<UserName>) -> Result<Option<UserName>, AllocError>
     ensures { IfOk result (λ again. again ≡ name.now) }
 {

@@ -17,14 +17,16 @@ use std::collections::BTreeMap;
 pub struct Patched {
     /// The number of bytes of the file.
     pub size: u64,
-    /// The number of the lower file's first bytes that still show if no block covers them.
+    /// The number of the lower file's first bytes that still show, unless the file has its own
+    /// block there.
     pub kept: u64,
     /// The file's own blocks by number: block k has the bytes from 4,096 k on.
     pub blocks: BTreeMap<u64, Block>,
 }
 
 impl Patched {
-    /// The lower file, which has `size` bytes, without changes.
+    /// The lower file, which has `size` bytes, without changes; with a size of 0 an empty file,
+    /// even if there is no lower one. It takes no memory.
     pub fn of_lower(alloc: Global, size: u64) -> Patched
         ensures bytes { (lower : List ℕ) → length lower ≡ size → file_bytes lower result ≡ lower }
         ensures hides { (lower : List ℕ) → NothingHidden lower result }
@@ -37,70 +39,73 @@ impl Patched {
         }
     }
 
-    /// Sets the length to `n`: new bytes read as zero, and bytes that were cut off never show
-    /// again. After an error no read shows a difference.
-    pub fn resize(&mut self, n: u64) -> Result<(), AllocError>
-        ensures size { OnOk result (self.new.size ≡ n) }
+    /// Sets the length: new bytes read as zero, and bytes that were cut off never show again. After
+    /// an error no read shows a difference.
+    pub fn resize(&mut self, size: u64) -> Result<(), AllocError>
+        ensures size { OnOk result (self.new.size ≡ size) }
         ensures hides { (lower : List ℕ) → NothingHidden lower self.old
             → NothingHidden lower self.new }
         ensures ok { OnOk result
             ((lower : List ℕ) → NothingHidden lower self.old
-            → file_bytes lower self.new ≡ take n (file_bytes lower self.old ++ replicate n 0)) }
+            → file_bytes lower self.new
+            ≡ take size (file_bytes lower self.old ++ replicate size 0)) }
         ensures err { OnErr result
             ((lower : List ℕ) → file_bytes lower self.new ≡ file_bytes lower self.old) }
         ensures err_size { OnErr result (self.new.size ≡ self.old.size) }
     {
-        if n < self.size {
-            self.shrink(n)?;
+        if size < self.size {
+            self.shrink(size)?;
         } else {
-            self.grow(n);
+            self.grow(size);
         }
         Ok(())
     }
 
-    /// Sets the length to `n`, which isn't greater than now. After an error no read shows a
+    /// Sets the length; the caller's isn't above the present one. After an error no read shows a
     /// difference.
-    fn shrink(&mut self, n: u64) -> Result<(), AllocError>
-        requires shorter { n ≤ self.old.size }
-        ensures size { OnOk result (self.new.size ≡ n) }
+    fn shrink(&mut self, size: u64) -> Result<(), AllocError>
+        requires shorter { size ≤ self.old.size }
+        ensures size { OnOk result (self.new.size ≡ size) }
         ensures hides { OnOk result ((lower : List ℕ) → NothingHidden lower self.new) }
         ensures bytes { OnOk result
             ((lower : List ℕ)
-            → file_bytes lower self.new ≡ take n (file_bytes lower self.old ++ replicate n 0)) }
+            → file_bytes lower self.new
+            ≡ take size (file_bytes lower self.old ++ replicate size 0)) }
         ensures err { OnErr result
             ((lower : List ℕ) (i : ℕ) → file_byte lower self.new i ≡ file_byte lower self.old i) }
         ensures err_size { OnErr result (self.new.size ≡ self.old.size) }
     {
-        truncate_blocks(&mut self.blocks, n)?;
-        self.kept = self.kept.min(n);
-        self.size = n;
+        truncate_blocks(&mut self.blocks, size)?;
+        self.kept = self.kept.min(size);
+        self.size = size;
         Ok(())
     }
 
-    /// Sets the length to `n`, which isn't less than now: the new bytes read as zero.
-    fn grow(&mut self, n: u64)
-        requires longer { self.old.size ≤ n }
-        ensures size { self.new.size ≡ n }
+    /// Sets the length; the caller's isn't below the present one. The new bytes read as zero.
+    fn grow(&mut self, size: u64)
+        requires longer { self.old.size ≤ size }
+        ensures size { self.new.size ≡ size }
         ensures hides { (lower : List ℕ) → NothingHidden lower self.old
             → NothingHidden lower self.new }
         ensures bytes { (lower : List ℕ) → NothingHidden lower self.old
-            → file_bytes lower self.new ≡ take n (file_bytes lower self.old ++ replicate n 0) }
+            → file_bytes lower self.new
+            ≡ take size (file_bytes lower self.old ++ replicate size 0) }
     {
-        self.size = n;
+        self.size = size;
     }
 }
 
-/// Drops the bytes of the blocks from the file's byte `n` on, and whole blocks after it. After an
-/// error the blocks are unchanged.
-fn truncate_blocks(blocks: &mut BTreeMap<u64, Block>, n: u64) -> Result<(), AllocError>
+/// Drops what the blocks have from the file's byte `size` on: the rest of the block with that byte,
+/// and all blocks after it. After an error the blocks are unchanged.
+fn truncate_blocks(blocks: &mut BTreeMap<u64, Block>, size: u64) -> Result<(), AllocError>
     ensures ok { OnOk result
-        ((k : ℕ) → get nat_cmp blocks.new k ≡ cut_blocks n (get nat_cmp blocks.old) k) }
+        ((k : ℕ) → get nat_cmp blocks.new k ≡ cut_blocks size (get nat_cmp blocks.old) k) }
     ensures err { OnErr result (IsUnchanged blocks.old blocks.new) }
 {
-    let last = n / 4096;
+    let last = size / 4096;
     blocks.split_off(&(last + 1))?;
     if let Some(block) = blocks.get_mut(&last) {
-        block.truncate((n % 4096) as usize);
+        block.truncate((size % 4096) as usize);
     }
     Ok(())
 }

@@ -1,4 +1,4 @@
-//! Reads of a range of a file, block by block.
+//! Reads of a range of a file, block by block. Block k has the 4,096 bytes from 4,096 k on.
 ghost use Rattle.std.specs.Prelude.{◌≡◌, ◌≢◌, ◌≤◌, ◌<◌, ◌+◌, ◌-◌, ◌%◌, ◌^◌, ◌++◌, [], length, map};
 ghost use Rattle.std.specs.Prelude.{min, take, drop, IfOk, IsErr, OnOk};
 ghost use Rattle.std.specs.List.{range_with_len};
@@ -14,9 +14,10 @@ use cs_tree_model::TreeRead;
 use std::alloc::{AllocError, Global};
 
 impl Patched {
-    /// At most `count` bytes of the file, from `offset` on: fewer at its end, none past it.
-    /// `number` is the lower file's. If no byte is returned, it takes no memory. Bytes that all
-    /// come from the lower file are copied once if the file has no block of its own.
+    /// At most `count` bytes of the file, from `offset` on: fewer if the file ends before, none at
+    /// its end or past it. `number` is the lower file's. If no byte is returned, it takes no
+    /// memory. If the file has no block of its own and all the bytes show from the lower file, they
+    /// are copied only once.
     pub fn read_at<L: TreeRead>(
         &self,
         alloc: Global,
@@ -33,6 +34,7 @@ impl Patched {
             → take count
             (drop offset (file_bytes (lower_bytes (L.tree lower.now) number) self.now)) ≢ [] }
     {
+        // 0 if the offset is at the file's end or past it
         let n = (count as u64).min(self.size.saturating_sub(offset)) as usize;
         if n == 0 {
             return Ok(Vec::new(alloc));
@@ -46,7 +48,7 @@ impl Patched {
     }
 
     /// The `n` bytes from `offset` on, joined block by block. `shown` is what shows of the lower
-    /// file from `offset` on. The error also means that no memory has room for `n` bytes.
+    /// file from `offset` on. The error may also mean that no memory has room for `n` bytes.
     fn join_pieces(
         &self,
         alloc: Global,
@@ -77,32 +79,33 @@ impl Patched {
     }
 }
 
-/// Appends `count` bytes from `at` on, all in one block: from the block, or if the file doesn't
-/// have it from what shows of the lower file.
+/// Appends `count` bytes of the file from its byte `at` on; the caller's are all in one block. They
+/// come from the file's own block, or if there is none from `shown`: what shows of the lower file
+/// from its byte `shown_from` on. After an error `out` may have some of them.
 fn append_piece(
     out: &mut Vec<u8>,
     block: Option<&Block>,
     shown: &[u8],
-    offset: u64,
+    shown_from: u64,
     at: u64,
     count: usize,
 ) -> Result<(), AllocError>
     requires fits { length out.old.items + count < 2 ^ 63 }
-    requires after { offset ≤ at }
+    requires after { shown_from ≤ at }
     requires within { at % 4096 + count ≤ 4096 }
     ensures { OnOk result
         (out.new.items ≡ out.old.items
-        ++ map (piece_byte (option_copied block.entry) shown.now offset)
+        ++ map (piece_byte (option_copied block.entry) shown.now shown_from)
         (range_with_len at count)) }
 {
     match block {
         Some(block) => append_part(out, block.bytes(), (at % 4096) as usize, count),
-        None => append_part(out, shown, (at - offset) as usize, count),
+        None => append_part(out, shown, (at - shown_from) as usize, count),
     }
 }
 
-/// At most `count` bytes of what shows of the lower file, from `offset` on: fewer at the end of
-/// what shows, none past it.
+/// At most `count` bytes of what shows of the lower file, from `offset` on: fewer if that ends
+/// before, none at its end or past it, or if there is no lower file.
 fn lower_part<L: TreeRead>(
     alloc: Global,
     lower: &L,
@@ -115,6 +118,7 @@ fn lower_part<L: TreeRead>(
         (λ v. v.items
         ≡ take (min (kept - offset) count) (drop offset (lower_bytes (L.tree lower.now) number))) }
 {
+    // 0 if what shows ends before the offset
     let m = kept.saturating_sub(offset).min(count as u64) as usize;
     let Some(bytes) = lower.read_at(alloc, number, offset, m)? else {
         return Ok(Vec::new(alloc));

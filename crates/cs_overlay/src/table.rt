@@ -18,8 +18,8 @@ use cs_tree_model::{Change, Stamp, TreeRead};
 use std::alloc::{AllocError, Global};
 use std::collections::HashMap;
 
-/// Makes a node for a file from the lower tree, unless the table has an entry for it. No read shows
-/// the difference, even after an error.
+/// Makes a node for a file of the lower tree, unless the table has an entry for it. The caller's
+/// file is there, so its entry is a node. No read shows the difference, even after an error.
 pub fn copy_up<L: TreeRead>(
     alloc: Global,
     lower: &L,
@@ -34,15 +34,17 @@ pub fn copy_up<L: TreeRead>(
     if nodes.contains_key(&number) {
         return Ok(());
     }
-    if let Some(node) = Node::copy_of(alloc, lower, number)? {
-        nodes.insert(number, Some(node))?;
-    }
+    let Some(node) = Node::copy_of(alloc, lower, number)? else {
+        // without an entry the file is one of the lower tree
+        unreachable!();
+    };
+    nodes.insert(number, Some(node))?;
     Ok(())
 }
 
-/// Copies a directory's node up, and reserves memory for one entry more. No read shows the
-/// difference, even after an error.
-pub fn make_room<L: TreeRead>(
+/// Copies a directory's node up, and reserves memory for one more entry of the table. No read shows
+/// the difference, even after an error.
+pub fn copy_directory_up<L: TreeRead>(
     alloc: Global,
     lower: &L,
     nodes: &mut HashMap<u64, Option<Node>>,
@@ -58,8 +60,8 @@ pub fn make_room<L: TreeRead>(
     Ok(())
 }
 
-/// Sets the answer for a name in a directory's entry, which is a node. After an error the entry is
-/// unchanged.
+/// Sets the answer for a name in a directory's entry, which the caller knows to be a node. After an
+/// error the entry is unchanged.
 fn insert_node_answer(
     entry: &mut Option<Node>,
     name: Name,
@@ -71,12 +73,13 @@ fn insert_node_answer(
 {
     match entry {
         Some(node) => node.insert_answer(name, answer),
+        // the entry is a node
         None => unreachable!(),
     }
 }
 
-/// Sets a directory's answer for a name: the file that has it, or that no file has it. After an
-/// error the table is unchanged.
+/// Sets the answer for a name in a directory, which the caller knows to have a node: the number of
+/// the name's file, or None if no file has it. After an error the table is unchanged.
 pub fn insert_answer(
     nodes: &mut HashMap<u64, Option<Node>>,
     directory: u64,
@@ -92,12 +95,13 @@ pub fn insert_answer(
 {
     match nodes.get_mut(&directory) {
         Some(entry) => insert_node_answer(entry, name, answer),
+        // the directory has a node
         None => unreachable!(),
     }
 }
 
-/// Stamps the node of an entry; does nothing if the file was removed.
-fn stamp_node(entry: &mut Option<Node>, stamp: Stamp)
+/// Stamps the node of an entry. Does nothing if the file was removed, but the callers' wasn't.
+fn stamp_entry(entry: &mut Option<Node>, stamp: Stamp)
     requires { IfSome entry.old (λ d. d.metadata.vers + 1 < 2 ^ 32) }
     ensures { entry.new ≡ option_map (λ d. with_stamp d stamp) entry.old }
 {
@@ -106,7 +110,8 @@ fn stamp_node(entry: &mut Option<Node>, stamp: Stamp)
     }
 }
 
-/// Stamps a directory after a change of its entries; does nothing if it has no node.
+/// Stamps a directory after a change of its names. Does nothing if it has no node, but the callers
+/// have copied it up.
 pub fn stamp_directory(nodes: &mut HashMap<u64, Option<Node>>, number: u64, stamp: Stamp)
     requires { CanStampNode (get nat_eq nodes.old) number }
     ensures step { SameNodes (step_at (get nat_eq nodes.old) number (λ d. with_stamp d stamp))
@@ -114,24 +119,25 @@ pub fn stamp_directory(nodes: &mut HashMap<u64, Option<Node>>, number: u64, stam
     ensures spare { spare nodes.new ≡ spare nodes.old }
 {
     if let Some(entry) = nodes.get_mut(&number) {
-        stamp_node(entry, stamp);
+        stamp_entry(entry, stamp);
     }
 }
 
-/// Sets the entry at a number, in a table that has room for it: a node, or None if the file was
-/// removed.
+/// Sets the entry at a number: a node, or None if the file was removed. The caller has reserved
+/// room for it.
 pub fn set_entry(nodes: &mut HashMap<u64, Option<Node>>, number: u64, node: Option<Node>)
     requires { 0 < spare nodes.old }
     ensures { SameNodes (with_at (get nat_eq nodes.old) number (Some node)) (get nat_eq nodes.new) }
 {
     match nodes.insert(number, node) {
         Ok(_) => {}
+        // there is room
         Err(_) => unreachable!(),
     }
 }
 
-/// Writes bytes into the entry of a file, which is a node, and stamps it. After an error no read
-/// shows a difference.
+/// Writes bytes, at least one, into a file's entry, which the caller knows to be a node, and stamps
+/// it. After an error no read shows a difference.
 fn write_node<L: TreeRead>(
     alloc: Global,
     lower: &L,
@@ -159,13 +165,14 @@ fn write_node<L: TreeRead>(
 {
     match entry {
         Some(node) => node.write(alloc, lower, number, offset, bytes, stamp),
+        // the entry is a node
         None => unreachable!(),
     }
 }
 
-/// Writes bytes into a file that has a node, and stamps it. After an error no read shows a
-/// difference.
-pub fn write<L: TreeRead>(
+/// Writes bytes, at least one, into a file, which the caller knows to have a node, and stamps it.
+/// After an error no read shows a difference.
+pub fn write_to_entry<L: TreeRead>(
     alloc: Global,
     lower: &L,
     nodes: &mut HashMap<u64, Option<Node>>,
@@ -187,12 +194,13 @@ pub fn write<L: TreeRead>(
 {
     match nodes.get_mut(&number) {
         Some(entry) => write_node(alloc, lower, entry, number, offset, bytes, stamp),
+        // the file has a node
         None => unreachable!(),
     }
 }
 
-/// Sets the fields that a change names, except the name, in an entry that is a node. After an error
-/// no read shows a difference.
+/// Sets the fields that a change has, except the name, in an entry, which the caller knows to be a
+/// node. `group` is a copy of the change's group. After an error no read shows a difference.
 fn change_node(
     entry: &mut Option<Node>,
     fields: &Change,
@@ -216,14 +224,15 @@ fn change_node(
 {
     match entry {
         Some(node) => node.change(fields, group, stamp),
+        // the entry is a node
         None => unreachable!(),
     }
 }
 
-/// Sets the fields that a change names, except the name, of a file that has a node. `group` is a
-/// copy of the change's group, which the caller makes before it changes anything. After an error no
+/// Sets the fields that a change has, except the name, of a file, which the caller knows to have a
+/// node. `group` is a copy of the change's group, made before anything changes. After an error no
 /// read shows a difference.
-pub fn change(
+pub fn change_entry(
     nodes: &mut HashMap<u64, Option<Node>>,
     number: u64,
     fields: &Change,
@@ -245,6 +254,7 @@ pub fn change(
 {
     match nodes.get_mut(&number) {
         Some(entry) => change_node(entry, fields, group, stamp),
+        // the file has a node
         None => unreachable!(),
     }
 }
@@ -276,9 +286,9 @@ pub fn insert_both_answers<L: TreeRead>(
     Ok(())
 }
 
-/// Exchanges the answers for the old and the new name in a directory's entry, so that the new name
-/// is the file's and the old one nobody's, and stamps it. Does nothing if the directory was
-/// removed.
+/// Exchanges the answers for the old and the new name in a directory's entry, so that the file has
+/// the new name and no file has the old one, and stamps the directory. Does nothing if the
+/// directory was removed, but the caller's wasn't.
 fn exchange_answers(entry: &mut Option<Node>, old: &str, new: &str, number: u64, stamp: Stamp)
     requires vers { IfSome entry.old (λ d. d.metadata.vers + 1 < 2 ^ 32) }
     requires old { IfSome entry.old (λ d. IsSome (own_in d.body old.now)) }
@@ -295,7 +305,8 @@ fn exchange_answers(entry: &mut Option<Node>, old: &str, new: &str, number: u64,
     }
 }
 
-/// Sets the name in the node of an entry; does nothing if the file was removed.
+/// Sets the name in the node of an entry. Does nothing if the file was removed, but the caller's
+/// wasn't.
 fn set_node_name(entry: &mut Option<Node>, name: Name)
     ensures { entry.new ≡ option_map (λ d. with_name d name) entry.old }
 {
@@ -304,8 +315,9 @@ fn set_node_name(entry: &mut Option<Node>, name: Name)
     }
 }
 
-/// Renames a file in its directory, which has its own answers for both names, and stamps the
-/// directory. Does nothing to a node that isn't there. It takes no memory.
+/// Renames a file in its directory, which the caller has given own answers for both names, and
+/// stamps the directory. `name` is the new name. Does nothing to a node that isn't there, but the
+/// caller has copied up both. It takes no memory.
 pub fn move_name(
     nodes: &mut HashMap<u64, Option<Node>>,
     directory: u64,

@@ -1,4 +1,4 @@
-//! Writes of a range of a file, block by block.
+//! Writes of a range of a file, block by block. Block k has the 4,096 bytes from 4,096 k on.
 ghost use Rattle.std.specs.Prelude.{◌≡◌, ◌≤◌, ◌<◌, ◌+◌, ◌^◌, ◌%◌, ◌/◌, ℕ, List, length, max};
 ghost use Rattle.std.specs.Prelude.{IfSome, IsSome, OnOk, OnErr};
 ghost use Rattle.std.specs.Option.{option_map};
@@ -16,9 +16,9 @@ use std::alloc::{AllocError, Global};
 use std::collections::BTreeMap;
 
 impl Patched {
-    /// Writes bytes into the file. `number` is the lower file's. If the offset is past the end, the
-    /// bytes between are zeros. It copies only the blocks that the bytes touch. After an error no
-    /// read shows a difference.
+    /// Writes bytes, at least one, into the file. `number` is the lower file's. If the offset is
+    /// past the end, the bytes between are zeros. Only the blocks that the bytes touch are copied.
+    /// After an error no read shows a difference.
     pub fn write_at<L: TreeRead>(
         &mut self,
         alloc: Global,
@@ -55,8 +55,9 @@ impl Patched {
         Ok(())
     }
 
-    /// Writes bytes into a file that has its own copy of each block that they touch, long enough
-    /// for them. If the offset is past the end, the bytes between are zeros. It takes no memory.
+    /// Writes bytes, at least one, into a file; the caller has given it an own copy of each block
+    /// that they touch, long enough for them. If the offset is past the end, the bytes between are
+    /// zeros. It takes no memory.
     fn write_in_place(&mut self, offset: u64, bytes: &[u8])
         requires reaches { Reaches (get nat_cmp self.old.blocks) offset
             (offset + length bytes.now) }
@@ -74,8 +75,8 @@ impl Patched {
     }
 }
 
-/// Replaces bytes of the blocks, which are there and reach as far as the new bytes. It takes no
-/// memory.
+/// Replaces the file's bytes from `offset` on by these. The caller's blocks are there for all of
+/// them, and long enough. It takes no memory.
 fn write_blocks(blocks: &mut BTreeMap<u64, Block>, offset: u64, bytes: &[u8])
     requires reaches { Reaches (get nat_cmp blocks.old) offset (offset + length bytes.now) }
     requires room { offset + length bytes.now < 2 ^ 63 }
@@ -93,7 +94,8 @@ fn write_blocks(blocks: &mut BTreeMap<u64, Block>, offset: u64, bytes: &[u8])
     }
 }
 
-/// Writes a piece at the file's byte `at` into the only block that it touches, which is there.
+/// Writes a piece at the file's byte `at` into the only block that it touches. The caller's block
+/// is there, and long enough.
 fn write_block(blocks: &mut BTreeMap<u64, Block>, at: u64, piece: &[u8])
     requires there { IsSome (get nat_cmp blocks.old (at / 4096)) }
     requires reaches { IfSome (get nat_cmp blocks.old (at / 4096))
@@ -101,7 +103,9 @@ fn write_block(blocks: &mut BTreeMap<u64, Block>, at: u64, piece: &[u8])
     ensures { Updates nat_cmp blocks.old blocks.new (at / 4096)
         (option_map (put_in (at % 4096) piece.now) (get nat_cmp blocks.old (at / 4096))) }
 {
-    if let Some(block) = blocks.get_mut(&(at / 4096)) {
-        block.overwrite((at % 4096) as usize, piece);
+    match blocks.get_mut(&(at / 4096)) {
+        Some(block) => block.overwrite((at % 4096) as usize, piece),
+        // the caller's block is there
+        None => unreachable!(),
     }
 }

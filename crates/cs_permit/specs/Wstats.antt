@@ -21,8 +21,8 @@ use Rattle.cs_permit.specs.Refusals.{Check}
 use Rattle.cs_permit.specs.Rules.{file_at, is_directory, is_gone, may_access, on_file, parent_lacks}
 
 -- the number of the file of that name in the directory of the file n
-abbrev pub number_beside : Tree → ℕ → NameBytes → Option ℕ
-number_beside t n x = option_and_then (λ d. number_in t d x) (parent_numbered t n)
+abbrev pub number_of_sibling : Tree → ℕ → NameBytes → Option ℕ
+number_of_sibling t n x = option_and_then (λ d. number_in t d x) (parent_numbered t n)
 
 -- a bit outside those that may be given, or DMDIR changed, or a directory with DMAPPEND or DMEXCL
 abbrev pub is_bad_mode : MetadataBuf → ℕ → Bool
@@ -51,7 +51,7 @@ name_rules t us c =
     -- no write right in the parent: a new name without w in the parent
     ∷ (Q6, if_new (new_name t c) (λ x. parent_lacks t us c.user Write c.number))
     -- name exists
-    ∷ (Q7, if_new (new_name t c) (λ x. is_some (number_beside t c.number x)))
+    ∷ (Q7, if_new (new_name t c) (λ x. is_some (number_of_sibling t c.number x)))
     ∷ []
 
 -- a new length

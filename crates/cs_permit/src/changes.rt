@@ -12,7 +12,7 @@ use cs_tree_model::{Metadata, TreeRead};
 use cs_wire::Qid;
 
 /// The new value of a field of two bytes; None for "don't touch" (all ones) and for the present
-/// value.
+/// value. `new_u32` and `new_u64` do the same for wider fields.
 fn new_u16(present: u16, sent: u16) -> Option<u16>
     ensures { result ≡ new_number ones_2 present sent }
 {
@@ -24,7 +24,7 @@ fn new_u16(present: u16, sent: u16) -> Option<u16>
 }
 
 /// The new value of a field of four bytes; None for "don't touch" (all ones) and for the present
-/// value.
+/// value. As `new_u16`.
 fn new_u32(present: u32, sent: u32) -> Option<u32>
     ensures { result ≡ new_number ones_4 present sent }
 {
@@ -36,7 +36,7 @@ fn new_u32(present: u32, sent: u32) -> Option<u32>
 }
 
 /// The new value of a field of eight bytes; None for "don't touch" (all ones) and for the present
-/// value.
+/// value. As `new_u16`.
 fn new_u64(present: u64, sent: u64) -> Option<u64>
     ensures { result ≡ new_number ones_8 present sent }
 {
@@ -58,7 +58,8 @@ fn new_text<'a>(present: &str, sent: &'a str) -> Option<&'a str>
     }
 }
 
-/// The new name; None if the wstat leaves the name. The present name of the root is `/`.
+/// The new name; None if the wstat doesn't change the name. The present name of the root, or of a
+/// file that is gone, is `/`.
 pub fn new_name<'a, T: TreeRead>(tree: &T, call: &'a WstatCall) -> Option<&'a str>
     ensures { option_copied result ≡ new_name (T.tree tree.now) call.now }
 {
@@ -68,28 +69,29 @@ pub fn new_name<'a, T: TreeRead>(tree: &T, call: &'a WstatCall) -> Option<&'a st
     )
 }
 
-/// The new length; None if the wstat leaves the length. The present length of a directory is 0.
+/// The new length; None if the wstat doesn't change the length. The present length of a directory
+/// is 0.
 pub fn new_length(call: &WstatCall, file: &Metadata) -> Option<u64>
     ensures { result ≡ new_length call.now (metadata_of_ref file.now) }
 {
     new_u64(shown_length(file.kind), call.stat.as_stat().length)
 }
 
-/// The new mode; None if the wstat leaves the mode.
+/// The new mode; None if the wstat doesn't change the mode.
 pub fn new_mode(call: &WstatCall, file: &Metadata) -> Option<u32>
     ensures { result ≡ new_mode call.now (metadata_of_ref file.now) }
 {
     new_u32(file.mode, call.stat.as_stat().mode)
 }
 
-/// The new mtime; None if the wstat leaves the mtime.
+/// The new mtime; None if the wstat doesn't change the mtime.
 pub fn new_mtime(call: &WstatCall, file: &Metadata) -> Option<u32>
     ensures { result ≡ new_mtime call.now (metadata_of_ref file.now) }
 {
     new_u32(file.mtime, call.stat.as_stat().mtime)
 }
 
-/// The new group; None if the wstat leaves the group.
+/// The new group; None if the wstat doesn't change the group.
 pub fn new_group<'a>(call: &'a WstatCall, file: &Metadata) -> Option<&'a str>
     ensures { option_copied result ≡ new_group call.now (metadata_of_ref file.now) }
 {
@@ -103,7 +105,7 @@ const ONES_QID: Qid = Qid {
     path: u64::MAX,
 };
 
-/// Whether the qids have the same kind, version and path.
+/// Whether two qids have the same kind, version and path.
 fn is_same_qid(a: Qid, b: Qid) -> bool
     ensures { result ≡ same_qid a b }
 {
@@ -111,7 +113,7 @@ fn is_same_qid(a: Qid, b: Qid) -> bool
 }
 
 /// Whether the wstat changes a field that no wstat may: type, dev, qid, atime, uid or muid. The
-/// present type and dev are 0.
+/// present type and dev are 0, as `stat_with` shows them; a qid counts as one value.
 pub fn changes_fixed(call: &WstatCall, file: &Metadata) -> bool
     ensures { result ≡ changes_fixed call.now (metadata_of_ref file.now) }
 {

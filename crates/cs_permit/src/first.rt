@@ -1,6 +1,6 @@
-//! The first rule of a call on a run that fails, without allocating. Each `first_of_` function has
-//! the rules of one kind of call, in their order, and returns None if all of them pass. Those of a
-//! read, of a name of a walk and of a wstat have files of their own.
+//! The first rule of a run that a call fails, found without allocating. Each `first_of_` function
+//! has the rules of one kind of call, in their order, and returns None if all of them pass. The
+//! rules of a read, of a name of a walk and of a wstat are in files of their own.
 ghost use Rattle.std.specs.Prelude.{◌≡◌, if◌then◌else◌};
 ghost use Rattle.cs_tree_model.specs.Record.{metadata_of_ref};
 ghost use Rattle.cs_permit.specs.Attaches.{attach_rules};
@@ -29,7 +29,7 @@ use cs_names::limits::{FILE_BYTES, TREE_RECORDS};
 use cs_tree_model::{Metadata, TreeRead};
 use cs_users::{Right, Users};
 
-/// A6 if the user isn't known, else None: it is the run's only rule of an attach.
+/// A6, the run's only rule of an attach, if the user isn't known; else None.
 fn first_of_attach(call: &AttachCall, users: &Users) -> Option<RuleId>
     ensures { result ≡ first_failing (attach_rules users.now call.now) }
 {
@@ -39,8 +39,9 @@ fn first_of_attach(call: &AttachCall, users: &Users) -> Option<RuleId>
     None
 }
 
-/// The first rule of a walk that fails: K5, or a rule that its first name fails; None if none does.
-/// Later names only shorten the reply (walk(5)).
+/// The first of the walk's rules that fails: K5 if its file is gone, else a rule of its first name
+/// (K6 to K8); None if none fails. A walk without names has no rule but K5. A rule of a later name
+/// only shortens the reply (walk(5)).
 pub fn first_of_walk<T: TreeRead>(call: &WalkCall, tree: &T, users: &Users) -> Option<RuleId>
     ensures { result ≡ first_failing (walk_rules (T.tree tree.now) users.now call.now) }
 {
@@ -51,7 +52,7 @@ pub fn first_of_walk<T: TreeRead>(call: &WalkCall, tree: &T, users: &Users) -> O
     first_of_element(tree, users, &call.user, call.number, name.as_str())
 }
 
-/// Whether one of the opens is of this file.
+/// Whether one of the opens is of this file. As `is_on` of cs_run.
 fn is_file_open(opens: &[OpenFile], file: u64) -> bool
     ensures { result ≡ is_open opens.now file }
 {
@@ -115,14 +116,15 @@ fn first_of_create<T: TreeRead>(call: &CreateCall, tree: &T, users: &Users) -> O
     None
 }
 
-/// Whether `count` bytes from `start` on end above the greatest length of a file.
+/// Whether `count` bytes from `start` on end above FILE_BYTES, the greatest length of a file. If
+/// `count` is 0, they end at `start`.
 fn ends_too_late(start: u64, count: u64) -> bool
     ensures { result ≡ ends_too_late start count }
 {
     count > FILE_BYTES || start > FILE_BYTES - count
 }
 
-/// The place at which a write begins: the end of an append-only file, else the offset of the call.
+/// The offset at which a write begins: the end of an append-only file, else the call's own offset.
 pub fn write_start(call: &WriteCall<'_>, file: &Metadata) -> u64
     ensures { result ≡ (if is_append_only (metadata_of_ref file.now) then shown_length file.now.kind
         else call.now.offset) }
@@ -134,7 +136,7 @@ pub fn write_start(call: &WriteCall<'_>, file: &Metadata) -> u64
     }
 }
 
-/// The first of E3 and E4 that fails; None if neither does. A write of no byte can't fail E4.
+/// The first of E3 and E4 that fails; None if neither does. A write without bytes can't fail E4.
 fn first_of_write<T: TreeRead>(call: &WriteCall<'_>, tree: &T) -> Option<RuleId>
     ensures { result ≡ first_failing (write_rules (T.tree tree.now) call.now) }
 {
@@ -148,7 +150,8 @@ fn first_of_write<T: TreeRead>(call: &WriteCall<'_>, tree: &T) -> Option<RuleId>
     None
 }
 
-/// Whether the directory of this number has an entry; false if it isn't a directory.
+/// Whether the directory of this number has an entry; false if no directory has the number.
+/// (`is_empty` of cs_tree_model is the opposite.)
 fn has_entries<T: TreeRead>(tree: &T, number: u64) -> bool
     ensures { result ≡ has_entries (T.tree tree.now) number }
 {
@@ -162,6 +165,7 @@ fn first_of_remove<T: TreeRead>(call: &RemoveCall, tree: &T, users: &Users) -> O
     if is_gone(tree, call.number) {
         return Some(RuleId::M2);
     }
+    // 0 is the root
     if call.number == 0 {
         return Some(RuleId::M3);
     }
@@ -174,7 +178,7 @@ fn first_of_remove<T: TreeRead>(call: &RemoveCall, tree: &T, users: &Users) -> O
     None
 }
 
-/// H2 if the file is gone, else None: it is the run's only rule of a stat.
+/// H2, the run's only rule of a stat, if the file is gone; else None.
 fn first_of_stat<T: TreeRead>(call: &StatCall, tree: &T) -> Option<RuleId>
     ensures { result ≡ first_failing (stat_rules (T.tree tree.now) call.now) }
 {
@@ -184,7 +188,7 @@ fn first_of_stat<T: TreeRead>(call: &StatCall, tree: &T) -> Option<RuleId>
     None
 }
 
-/// The first rule of the run that the call fails; None if all pass. A close has no rule. It
+/// The first rule of the run that the call fails; None if all pass. A close has no rule. The search
 /// allocates nothing.
 #[tactic(auto, unfolding(crate::specs::Calls::failing_rule))]
 pub fn failing_rule<T: TreeRead>(

@@ -15,7 +15,8 @@ use crate::call::WstatCall;
 use cs_tree_model::TreeRead;
 use cs_users::Users;
 
-/// The rule that is named fails and none before it in the list does; if none is named, none fails.
+/// The rule that `first_failing` returns fails, and no rule before it in the list does. If it
+/// returns None, all pass.
 pub fn first_rule_that_fails()
     ensures denied { (checks : List Check) (rule : RuleId) → first_failing checks ≡ Some rule
         → IsFirstToFail checks rule }
@@ -23,23 +24,23 @@ pub fn first_rule_that_fails()
 {}
 
 /// The first failing rule of two lists in a row is that of the first list, or else that of the
-/// second; and if none fails, none does in either.
+/// second. If all rules of both pass, all of each do.
 pub fn first_rule_of_two_lists()
     ensures first { (xs ys : List Check) → first_failing (xs ++ ys)
         ≡ first_failing_or (first_failing xs) (first_failing ys) }
     ensures passed { (xs ys : List Check) → AllPass (xs ++ ys) → AllPass xs × AllPass ys }
 {}
 
-/// A directory with no first entry has no entry, and one with a first entry has it.
-pub fn first_entry_tells<T: TreeRead>(tree: &T, number: u64)
+/// A directory without a first entry has no entry at all; one with a first entry has an entry.
+pub fn first_entry_decides<T: TreeRead>(tree: &T, number: u64)
     ensures empty { has_entries (T.tree tree.now) number ≡ false → (x : NameBytes)
         → number_in (T.tree tree.now) number x ≡ None }
     ensures entry { has_entries (T.tree tree.now) number ≡ true
         → (x : NameBytes) × IsSome (number_in (T.tree tree.now) number x) }
 {}
 
-/// A wstat in which each field says "don't touch" or has the present value needs no right and
-/// changes nothing: so a whole stat that is sent back is granted.
+/// If the file is there, a wstat in which each field says "don't touch" or has the present value
+/// needs no right and changes nothing. So a client may send back the whole stat that it read.
 pub fn what_is_kept_needs_no_right<T: TreeRead>(tree: &T, users: &Users, call: &WstatCall)
     requires { IsSomeAnd (file_at (T.tree tree.now) call.now.number)
         (KeepsEach (T.tree tree.now) call.now) }

@@ -1,6 +1,6 @@
 //! The calls on a run as plain values, and the rules of every call: those that look at a
-//! connection's fids, and those that look at a run's tree, its opens and the users. Here a call is
-//! only judged, and nothing is changed. A user's rights on a file are worked out in cs_users.
+//! connection's fids, and those that look at a run's tree, its opens and the users. This crate
+//! decides about a call, and changes nothing. A user's rights on a file are worked out in cs_users.
 #![tactic(auto)]
 
 pub mod call;
@@ -32,7 +32,7 @@ pub use request::Request;
 pub use sent_bytes::SentBytes;
 pub use sent_stat::SentStat;
 pub use shown::{
-    entry_size, entry_stat, qid_at, qid_known, qid_of, shown_length, shown_name, stat_of_file,
+    entry_size, entry_stat, qid_at, qid_of, qid_or_zeros, shown_length, shown_name, stat_of_file,
     stat_ref,
 };
 pub use table::first_table_rule;

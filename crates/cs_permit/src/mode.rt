@@ -67,7 +67,7 @@ pub fn covers_write(mode: u8) -> bool
     mode % 4 == 1 || mode % 4 == 2
 }
 
-/// Whether the mode has a bit that no open's mode has.
+/// Whether the mode has a bit outside OPEN_BITS, which no open's mode may have.
 pub fn is_bad_open_mode(mode: u8) -> bool
     ensures { result ≡ is_bad_open_mode mode }
 {
@@ -81,8 +81,8 @@ pub fn is_append_or_exclusive(mode: u32) -> bool
     has_bit(mode, DMAPPEND) || has_bit(mode, DMEXCL)
 }
 
-/// Whether the permissions have a bit that no client may give a file.
-pub fn has_bit_outside(mode: u32) -> bool
+/// Whether the mode of a file has a bit outside GIVEN_BITS, which no client may give.
+pub fn has_bit_outside_given(mode: u32) -> bool
     ensures { result ≡ has_bit_outside given_bits mode }
 {
     mode & GIVEN_BITS != mode
@@ -90,11 +90,11 @@ pub fn has_bit_outside(mode: u32) -> bool
 
 /// Whether no file can be made with these permissions and opened in that mode: they have a bit that
 /// no client may give, or are those of a directory that is append-only, exclusive, or opened in
-/// another mode than 0.
+/// another mode than 0. `is_bad_mode` of `wstat` has the same tests of the bits.
 pub fn are_bad_permissions(perm: u32, mode: u8) -> bool
     ensures { result ≡ are_bad_permissions perm mode }
 {
-    has_bit_outside(perm)
+    has_bit_outside_given(perm)
         || (is_directory_mode(perm) && is_append_or_exclusive(perm))
         || (is_directory_mode(perm) && mode != 0)
 }

@@ -10,14 +10,15 @@ use crate::shown::entry_size;
 use cs_names::{Name, RuleId};
 use cs_tree_model::TreeRead;
 
-/// Whether a read of a directory may begin at its offset: 0, or the end of the fid's last read.
+/// Whether a read of a directory may begin at the call's offset: the offset is 0, or the end of the
+/// fid's last read.
 fn is_good_offset(call: &ReadCall) -> bool
     ensures { result ≡ is_good_offset call.now }
 {
     call.offset == 0 || call.offset == call.place.end
 }
 
-/// The name after which a read of a directory begins; None if it begins at the first entry.
+/// The name after which a read of a directory begins; None if the read begins at the first entry.
 pub fn name_before(call: &ReadCall) -> Option<&Name>
     ensures { option_copied result ≡ name_before call.now }
 {
@@ -28,7 +29,7 @@ pub fn name_before(call: &ReadCall) -> Option<&Name>
     }
 }
 
-/// Whether there is a next entry, and it has more bytes than the read asks for; false at the end.
+/// Whether the next entry has more bytes than the read asks for; false if no entry is left.
 fn needs_more<T: TreeRead>(tree: &T, call: &ReadCall) -> bool
     ensures { result ≡ needs_more (T.tree tree.now) call.now }
 {

@@ -1,5 +1,5 @@
-//! The tests that rules of several calls share. They look at one file and one user, and change
-//! nothing.
+//! The tests that rules of several calls share. Each looks at one file: at its kind or mode, at
+//! whether it is there, or at a user's rights on it or on its directory.
 ghost use Rattle.std.specs.Prelude.{◌≡◌};
 ghost use Rattle.cs_tree_model.specs.Record.{metadata_of_ref};
 ghost use Rattle.cs_permit.specs.Rules.{is_append_only, is_directory, is_exclusive, is_gone};
@@ -9,7 +9,7 @@ use cs_names::UserName;
 use cs_tree_model::{DMAPPEND, DMEXCL, Kind, Metadata, TreeRead};
 use cs_users::{Right, Users, has_bit};
 
-/// Whether the file's kind is Directory; its mode isn't looked at.
+/// Whether the file is a directory, by its kind; the mode isn't looked at.
 pub fn is_directory(file: &Metadata) -> bool
     ensures { result ≡ is_directory (metadata_of_ref file.now) }
 {
@@ -19,7 +19,7 @@ pub fn is_directory(file: &Metadata) -> bool
     }
 }
 
-/// Whether all writes go to the file's end: its mode has DMAPPEND.
+/// Whether all writes to the file go to its end: its mode has DMAPPEND.
 pub fn is_append_only(file: &Metadata) -> bool
     ensures { result ≡ is_append_only (metadata_of_ref file.now) }
 {
@@ -70,6 +70,7 @@ pub fn parent_lacks<T: TreeRead>(
     };
     match tree.record(parent) {
         Some(directory) => !may_access(users, user, right, &directory),
+        // never so: the tree has a record of each parent
         None => false,
     }
 }

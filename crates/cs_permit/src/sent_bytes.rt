@@ -5,7 +5,7 @@ use std::alloc::{AllocError, Global};
 use std::borrow::CowSlice;
 use std::marker::Model;
 
-/// Bytes as they came, borrowed or copied. Contracts see them as a list.
+/// The bytes of a write as they came, borrowed or copied. Contracts see them as a list.
 #[derive(Debug, Drop)]
 pub struct SentBytes<'a> {
     bytes: CowSlice<'a, u8>,
@@ -21,8 +21,8 @@ impl<'a> Model for SentBytes<'a> {
 }
 
 impl<'a> SentBytes<'a> {
-    /// Borrows the bytes.
-    pub fn lent(bytes: &'a [u8]) -> SentBytes<'a>
+    /// These bytes, borrowed.
+    pub fn borrow_from(bytes: &'a [u8]) -> SentBytes<'a>
         ensures { result ≡ bytes.now }
     {
         SentBytes {
@@ -30,7 +30,7 @@ impl<'a> SentBytes<'a> {
         }
     }
 
-    /// Copies the bytes.
+    /// A copy of these bytes, which borrows nothing.
     pub fn copy_of(alloc: Global, bytes: &[u8]) -> Result<SentBytes<'static>, AllocError>
         ensures { IfOk result (λ copy. copy ≡ bytes.now) }
     {
@@ -53,7 +53,7 @@ impl<'a> SentBytes<'a> {
         self.bytes.len()
     }
 
-    /// Copies the bytes, also if they are borrowed, so the copy borrows nothing.
+    /// A copy that borrows nothing, even if these bytes are borrowed.
     pub fn try_clone(&self, alloc: Global) -> Result<SentBytes<'static>, AllocError>
         ensures { IfOk result (λ copy. copy ≡ self.now) }
     {

@@ -21,7 +21,7 @@ impl Model for SentStat {
 }
 
 impl SentStat {
-    /// The stat as it came; nothing of it is checked here.
+    /// Wraps a stat as it came; nothing of it is checked here.
     pub fn new(stat: Stat) -> SentStat
         ensures { result ≡ sent_of stat }
     {
@@ -35,7 +35,7 @@ impl SentStat {
         &self.stat
     }
 
-    /// Copies the stat and its texts.
+    /// A copy of the stat, with its texts.
     pub fn try_clone(&self) -> Result<SentStat, AllocError>
         ensures { IfOk result (λ copy. copy ≡ self.now) }
     {
@@ -45,7 +45,7 @@ impl SentStat {
     }
 }
 
-/// Copies a message's stat and its texts.
+/// A copy of a message's stat and its texts.
 fn copy_stat(stat: &Stat) -> Result<Stat, AllocError>
     ensures { IfOk result (λ copy. sent_of copy ≡ sent_of stat.now) }
 {

@@ -15,7 +15,9 @@ use cs_names::{Name, UserName};
 use cs_tree_model::{Kind, ListedEntry, Metadata, TreeRead};
 use cs_wire::{Qid, StatRef};
 
-/// The most bytes of a stat in a reply (stat(5)): no file's stat is longer.
+/// The most bytes of a stat in a reply (stat(5)). No file's stat is longer: at most 51 bytes of
+/// numbers and lengths, 255 of a name, and 64 of each of three user names. The sum is rounded up.
+/// cs_run's `FileStat` writes this number out as 600.
 pub const STAT_BYTES: usize = 600;
 
 /// The qid of a file (intro(5)).
@@ -39,8 +41,9 @@ fn qid_from(mode: u32, vers: u32, number: u64) -> Qid
     }
 }
 
-/// The qid of a file whose metadata was looked up; zeros if there is no such file.
-pub fn qid_known(file: Option<Metadata>) -> Qid
+/// The qid of a file, or zeros if `file` is None. A run passes only files that are there, so no
+/// client sees the zeros.
+pub fn qid_or_zeros(file: Option<Metadata>) -> Qid
     ensures value { result ≡ qid_or_zeros (option_map metadata_of_ref file.entry) }
     ensures fits { IsQid result }
 {
@@ -54,15 +57,16 @@ pub fn qid_known(file: Option<Metadata>) -> Qid
     }
 }
 
-/// Looks up the file of a number, and returns its qid; zeros if no file has it.
+/// The qid of the file of a number, which is looked up; zeros if no file has the number. A run
+/// passes only numbers of files that are there, as for `qid_or_zeros`.
 pub fn qid_at<T: TreeRead>(tree: &T, number: u64) -> Qid
     ensures value { result ≡ qid_at (T.tree tree.now) number }
     ensures fits { IsQid result }
 {
-    qid_known(tree.record(number))
+    qid_or_zeros(tree.record(number))
 }
 
-/// A name as a text. Its clauses say that a message can have it.
+/// The name of a file as a text. By the clause `shown` a message can have this text.
 pub fn name_text(name: &Name) -> &str
     ensures value { result.now ≡ name.now }
     ensures shown { IsShown NAME_BYTES result.now }
@@ -91,7 +95,7 @@ pub fn shown_length(kind: Kind) -> u64
     }
 }
 
-/// A user's name as a text. Its clauses say that a message can have it.
+/// The name of a user as a text. By the clause `shown` a message can have this text.
 fn user_text(user: &UserName) -> &str
     ensures value { result.now ≡ user.now }
     ensures shown { IsShown USER_NAME_BYTES result.now }
@@ -108,7 +112,8 @@ struct StatTexts<'a> {
     muid: &'a str,
 }
 
-/// The stat of these fields, with 0 as type and dev, which are the server's own.
+/// The stat of these fields, with 0 as type and dev, which are the server's own; `changes_fixed`
+/// compares a wstat's with the same 0.
 fn stat_with<'a>(
     qid: Qid,
     mode: u32,
@@ -160,8 +165,8 @@ pub fn stat_of_file<'a>(name: &'a str, file: &Metadata<'a>) -> StatRef<'a>
     )
 }
 
-/// The stat of the file of a number, with borrowed texts; None if no file has it. It allocates
-/// nothing.
+/// The stat of the file of a number, with borrowed texts; None if no file has the number. It
+/// allocates nothing.
 pub fn stat_ref<T: TreeRead>(tree: &T, number: u64) -> Option<StatRef<'_>>
     ensures value { option_map fields_of result ≡ stat_at (T.tree tree.now) number }
     ensures fits { IfSome result (λ stat. IsStat STAT_BYTES (fields_of stat)) }
@@ -171,8 +176,8 @@ pub fn stat_ref<T: TreeRead>(tree: &T, number: u64) -> Option<StatRef<'_>>
     Some(stat_of_file(name, &file))
 }
 
-/// The stat of an entry of a directory, with borrowed texts; None if no file has its number. It
-/// allocates nothing.
+/// The stat of an entry of a directory, with borrowed texts; None if no file has the entry's
+/// number. It allocates nothing.
 pub fn entry_stat<'a, T: TreeRead>(tree: &'a T, entry: ListedEntry<'a>) -> Option<StatRef<'a>>
     ensures value { option_map fields_of result ≡ stat_as (T.tree tree.now) entry.entry.number
         (entry_name entry.entry) }
@@ -190,6 +195,7 @@ pub fn entry_size<T: TreeRead>(tree: &T, entry: ListedEntry) -> usize
 {
     match entry_stat(tree, entry) {
         Some(stat) => stat.entry_length(),
+        // not for an entry that the tree lists: its file is there
         None => 0,
     }
 }

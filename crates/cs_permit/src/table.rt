@@ -1,4 +1,4 @@
-//! The first rule of a request on a connection's fids that fails, without allocating. Each
+//! The first rule of a connection that a request on its fids fails, found without allocating. Each
 //! `first_table_rule_of_` function has the rules of one kind of request, in their order, and
 //! returns None if all of them pass.
 ghost use Rattle.std.specs.Prelude.{◌≡◌, ◌∷◌, []};
@@ -19,14 +19,14 @@ use cs_names::{Name, RuleId};
 fn is_unknown(fids: &FidTable, fid: u32) -> bool
     ensures { result ≡ is_unknown fids.now.fids fid }
 {
-    fids.look(fid).is_none()
+    fids.entry_of(fid).is_none()
 }
 
 /// The mode in which the fid is open; None if it isn't open or there is no such fid.
 fn open_mode(fids: &FidTable, fid: u32) -> Option<u8>
     ensures { result ≡ open_mode fids.now.fids fid }
 {
-    match fids.look(fid) {
+    match fids.entry_of(fid) {
         Some(FidEntry::Opened(opened)) => Some(opened.mode()),
         Some(FidEntry::Walked(_)) => None,
         None => None,
@@ -182,7 +182,8 @@ fn rule_if_unknown(fids: &FidTable, fid: u32, rule: RuleId) -> Option<RuleId>
     None
 }
 
-/// The first rule of the connection that the request fails; None if all pass. It allocates nothing.
+/// The first rule of the connection that the request fails; None if all pass. The search allocates
+/// nothing.
 #[tactic(auto, unfolding(crate::specs::Table::first_table_rule))]
 pub fn first_table_rule(request: &Request, fids: &FidTable) -> Option<RuleId>
     ensures { result ≡ first_table_rule fids.now.fids request.now }

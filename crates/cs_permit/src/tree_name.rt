@@ -20,7 +20,8 @@ fn is_zero(bytes: &[u8]) -> bool
     bytes == b"0".as_slice()
 }
 
-/// Whether the bytes are a number of 1 to 5 digits, without a zero before others.
+/// Whether the bytes are a number of 1 to 5 digits without a leading zero; 0 itself is one.
+/// PLAN_STATES has 5 digits, so no state has more (`NUMBER_DIGITS` of cs_registry is this 5).
 fn is_state_number(bytes: &[u8]) -> bool
     ensures { result ≡ is_state_number bytes.now }
 {
@@ -33,8 +34,8 @@ fn is_state_number(bytes: &[u8]) -> bool
 }
 
 impl<'a> TreeName<'a> {
-    /// The parts of an aname: a number of 1 to 5 digits without a zero before others, a slash, and
-    /// the name of a run; None if it has another form. It allocates nothing.
+    /// The two parts of an aname: a state's number (`is_state_number`) and, after one slash, the
+    /// name of a run. None if the aname has another form. It allocates nothing.
     pub fn read(aname: &'a [u8]) -> Option<TreeName<'a>>
         ensures { MatchOption result (tree_name_in aname.now ≡ None)
             (λ name. tree_name_in aname.now ≡ Some (name.state.now, name.run.now)) }
@@ -48,7 +49,7 @@ impl<'a> TreeName<'a> {
         Some(TreeName { state, run })
     }
 
-    /// Whether it names state 0.
+    /// Whether the tree is one of state 0.
     pub fn is_of_state_zero(&self) -> bool
         ensures { result ≡ is_zero self.now.state.now }
     {

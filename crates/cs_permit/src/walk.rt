@@ -18,8 +18,9 @@ fn is_up(name: &str) -> bool
     name == ".."
 }
 
-/// The number of the file to which a name leads from a directory: `..` to its parent, another legal
-/// name to its entry. None if the name isn't legal or there is no such file.
+/// The number of the file to which a name leads from the file `number`. `..` leads to the parent,
+/// and from the root to the root; another legal name leads to the entry of that name. None if the
+/// name isn't legal or there is no such file.
 // a walk spends a good part of its time on these few calls
 #[inline(always)]
 fn next_number<T: TreeRead>(tree: &T, number: u64, name: &str) -> Option<u64>

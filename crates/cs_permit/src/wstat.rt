@@ -1,38 +1,40 @@
 //! The rules of a wstat (stat(5)), in groups by the field that changes. Each `first_of_` function
-//! returns None if all rules of its group pass; without a change of the field they all do.
+//! returns None if all rules of its group pass. They all do if the wstat changes no field of the
+//! group.
 ghost use Rattle.std.specs.Prelude.{◌≡◌};
 ghost use Rattle.cs_tree_model.specs.Record.{metadata_of_ref};
 ghost use Rattle.cs_permit.specs.Refusals.{first_failing};
 ghost use Rattle.cs_permit.specs.Wstats.{field_rules, group_rules, is_bad_mode, is_owner_or_leader};
 ghost use Rattle.cs_permit.specs.Wstats.{length_rules, may_give, mode_rules, name_rules};
-ghost use Rattle.cs_permit.specs.Wstats.{number_beside, wstat_rules};
+ghost use Rattle.cs_permit.specs.Wstats.{number_of_sibling, wstat_rules};
 
 use crate::call::WstatCall;
 use crate::changes::{
     changes_attributes, changes_fixed, new_group, new_length, new_mode, new_name,
 };
-use crate::mode::{has_bit_outside, is_append_or_exclusive};
+use crate::mode::{has_bit_outside_given, is_append_or_exclusive};
 use crate::rules::{is_directory, may_access, parent_lacks};
 use cs_names::limits::FILE_BYTES;
 use cs_names::{Name, RuleId, UserName};
 use cs_tree_model::{DMDIR, Metadata, TreeRead};
 use cs_users::{Right, Users, owns};
 
-/// The number of the file of that name in the directory of the file `number`; None if there is no
-/// such file.
-fn number_beside<T: TreeRead>(tree: &T, number: u64, name: &str) -> Option<u64>
-    ensures { result ≡ number_beside (T.tree tree.now) number name.now }
+/// The number of the file of that name in the directory of the file `number`; None if no file has
+/// that number, or the directory has no such name.
+fn number_of_sibling<T: TreeRead>(tree: &T, number: u64, name: &str) -> Option<u64>
+    ensures { result ≡ number_of_sibling (T.tree tree.now) number name.now }
 {
     let parent = tree.parent_of(number)?;
     tree.find_number(parent, name)
 }
 
-/// The first of Q4 to Q7 that fails; None if none does, or if the name stays.
+/// The first of Q4 to Q7 that fails; None if none does, or if the name doesn't change.
 #[tactic(auto, unfolding(crate::specs::Wstats::name_rules))]
 fn first_of_name<T: TreeRead>(call: &WstatCall, tree: &T, users: &Users) -> Option<RuleId>
     ensures { result ≡ first_failing (name_rules (T.tree tree.now) users.now call.now) }
 {
     let name = new_name(tree, call)?;
+    // 0 is the root
     if call.number == 0 {
         return Some(RuleId::Q4);
     }
@@ -42,13 +44,13 @@ fn first_of_name<T: TreeRead>(call: &WstatCall, tree: &T, users: &Users) -> Opti
     if parent_lacks(tree, users, &call.user, Right::Write, call.number) {
         return Some(RuleId::Q6);
     }
-    if number_beside(tree, call.number, name).is_some() {
+    if number_of_sibling(tree, call.number, name).is_some() {
         return Some(RuleId::Q7);
     }
     None
 }
 
-/// The first of Q8 to Q10 that fails; None if none does, or if the length stays.
+/// The first of Q8 to Q10 that fails; None if none does, or if the length doesn't change.
 #[tactic(auto, unfolding(crate::specs::Wstats::length_rules))]
 pub fn first_of_length(call: &WstatCall, users: &Users, file: &Metadata) -> Option<RuleId>
     ensures { result ≡ first_failing (length_rules users.now call.now (metadata_of_ref file.now)) }
@@ -66,12 +68,13 @@ pub fn first_of_length(call: &WstatCall, users: &Users, file: &Metadata) -> Opti
     None
 }
 
-/// Whether the file can't have that mode: it has a bit that no client may give, it changes DMDIR,
-/// or a directory would be append-only or exclusive.
+/// Whether a wstat can't give the file that mode: the mode has a bit that no client may give, or
+/// changes DMDIR, or would make a directory append-only or exclusive. `are_bad_permissions` has the
+/// first and the last test for a create.
 fn is_bad_mode(file: &Metadata, mode: u32) -> bool
     ensures { result ≡ is_bad_mode (metadata_of_ref file.now) mode }
 {
-    has_bit_outside(mode)
+    has_bit_outside_given(mode)
         || mode & DMDIR != file.mode & DMDIR
         || (is_directory(file) && is_append_or_exclusive(mode))
 }
@@ -101,8 +104,8 @@ pub fn first_of_mode(call: &WstatCall, users: &Users, file: &Metadata) -> Option
     None
 }
 
-/// Whether the user may give the file that group: the owner must be a member of it, and any other
-/// user the leader of both it and the file's group.
+/// Whether the user may give the file that group: as the owner and a member of it, or as the leader
+/// of both it and the file's present group.
 fn may_give(users: &Users, user: &UserName, file: &Metadata, group: &str) -> bool
     ensures { result ≡ may_give users.now user.now (metadata_of_ref file.now) group.now }
 {
@@ -111,7 +114,7 @@ fn may_give(users: &Users, user: &UserName, file: &Metadata, group: &str) -> boo
         || (users.is_leader(user, file.group.as_bytes()) && users.is_leader(user, group.as_bytes()))
 }
 
-/// The first of Q13 and Q14 that fails; None if neither does, or if the group stays.
+/// The first of Q13 and Q14 that fails; None if neither does, or if the group doesn't change.
 #[tactic(auto, unfolding(crate::specs::Wstats::group_rules))]
 pub fn first_of_group(call: &WstatCall, users: &Users, file: &Metadata) -> Option<RuleId>
     ensures { result ≡ first_failing (group_rules users.now call.now (metadata_of_ref file.now)) }

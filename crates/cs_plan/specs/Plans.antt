@@ -14,7 +14,7 @@ places_below n = range_with_len 0 n
 
 -- ---- the set of a recipe
 
--- k stays where i is missing: it is another place, and doesn't need i by any chain
+-- k is kept if i is missing: it is another place, and doesn't need i by any chain
 abbrev pub is_kept : (ℕ → ℕ → Bool) → ℕ → ℕ → Bool
 is_kept needs i k = not (i == k || by_chain needs i k)
 
@@ -39,7 +39,7 @@ IsWithin n (Pick places) = All (λ k. k < n) places × (length places ≤ n)
 unfoldable pub prefixes : ℕ → List Recipe
 prefixes n = map Prefix (places_below (n + 1))
 
--- the holes whose last place is k, which stays, by their missing place
+-- the holes whose last place is k, if k is kept, by their missing place
 abbrev pub holes_at : (ℕ → ℕ → Bool) → ℕ → List Recipe
 holes_at needs k = map (λ i. Hole i (k + 1)) (filter (λ i. is_kept needs i k) (places_below k))
 
@@ -47,7 +47,7 @@ holes_at needs k = map (λ i. Hole i (k + 1)) (filter (λ i. is_kept needs i k) 
 unfoldable pub holes_of : (ℕ → ℕ → Bool) → ℕ → List Recipe
 holes_of needs n = flat_map (holes_at needs) (places_below n)
 
--- the prefixes, and the holes if they are asked for
+-- the prefixes, and the holes if `holes` is true
 abbrev pub families : (ℕ → ℕ → Bool) → ℕ → Bool → List Recipe
 families needs n holes = prefixes n ++ (if holes then holes_of needs n else [])
 

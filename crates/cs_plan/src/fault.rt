@@ -14,9 +14,10 @@ use std::fmt;
 /// Why there is no plan.
 #[derive(Clone, Copy, Debug, PartialEq, Eq)]
 pub enum PlanFault {
-    /// It would have more than PLAN_STATES states.
+    /// The plan would have more than PLAN_STATES states.
     PlanTooLarge,
-    /// A crash can't leave this pick, by its place from 0. It can leave the earlier picks.
+    /// The pick of this place, from 0, is refused: a crash can't leave it, its places don't ascend
+    /// strictly, or the trace has no micro-operation at one of them. The earlier picks are allowed.
     PickNotAllowed(u32),
     /// Out of memory.
     Memory,
@@ -25,7 +26,7 @@ pub enum PlanFault {
 impl fmt::Display for PlanFault {
     ghost output = { λ fault. Some (fault_text fault) };
 
-    /// Prints the fault as the program reports it.
+    /// Prints why there is no plan, as the program reports it.
     fn fmt<W: fmt::Write>(&self, f: &mut fmt::Formatter<W>) -> fmt::Result {
         match self {
             PlanFault::PlanTooLarge => f.write_str("plan too large"),
@@ -38,7 +39,7 @@ impl fmt::Display for PlanFault {
 impl From<AllocError> for PlanFault {
     ghost from_gives = { λ _ fault. fault ≡ plan.Memory };
 
-    /// A failed allocation is Memory.
+    /// Memory, whichever allocation failed for the plan.
     fn from(_refused: AllocError) -> PlanFault {
         PlanFault::Memory
     }
@@ -51,9 +52,9 @@ impl std::error::Error for PlanFault {}
 pub enum SceneFault {
     /// The trace has more than MICRO_OPERATIONS micro-operations.
     TooMany,
-    /// Its plan would have more than PLAN_STATES states.
+    /// The trace's plan would have more than PLAN_STATES states.
     PlanTooLarge,
-    /// A crash can't leave this pick, by its place from 0. It can leave the earlier picks.
+    /// The pick of this place, from 0, is refused, for the reasons of PlanFault's PickNotAllowed.
     PickNotAllowed(u32),
     /// Out of memory.
     Memory,
@@ -62,7 +63,7 @@ pub enum SceneFault {
 impl fmt::Display for SceneFault {
     ghost output = { λ fault. Some (scene_fault_text fault) };
 
-    /// Prints the fault as the program reports it.
+    /// Prints why there is no scene, as the program reports it.
     fn fmt<W: fmt::Write>(&self, f: &mut fmt::Formatter<W>) -> fmt::Result {
         match self {
             SceneFault::TooMany => f.write_str("too many micro-operations"),
@@ -76,7 +77,7 @@ impl fmt::Display for SceneFault {
 impl From<MicroFault> for SceneFault {
     ghost from_gives = { λ given fault. fault ≡ of_breaking given };
 
-    /// The fault of the same name.
+    /// The scene's fault that has the name of the trace's fault.
     fn from(fault: MicroFault) -> SceneFault {
         match fault {
             MicroFault::TooMany => SceneFault::TooMany,
@@ -88,7 +89,7 @@ impl From<MicroFault> for SceneFault {
 impl From<PlanFault> for SceneFault {
     ghost from_gives = { λ given fault. fault ≡ of_planning given };
 
-    /// The fault of the same name.
+    /// The scene's fault that has the name of the plan's fault, with the same pick.
     fn from(fault: PlanFault) -> SceneFault {
         match fault {
             PlanFault::PlanTooLarge => SceneFault::PlanTooLarge,
@@ -101,7 +102,7 @@ impl From<PlanFault> for SceneFault {
 impl From<AllocError> for SceneFault {
     ghost from_gives = { λ _ fault. fault ≡ scene.Memory };
 
-    /// A failed allocation is Memory.
+    /// Memory, whichever allocation failed for the scene.
     fn from(_refused: AllocError) -> SceneFault {
         SceneFault::Memory
     }
@@ -121,7 +122,7 @@ pub enum MakeFault {
 impl fmt::Display for MakeFault {
     ghost output = { λ fault. Some (make_fault_text fault) };
 
-    /// Prints the fault as the program reports it.
+    /// Prints why a state can't be made, as the program reports it.
     fn fmt<W: fmt::Write>(&self, f: &mut fmt::Formatter<W>) -> fmt::Result {
         f.write_str(match self {
             MakeFault::NoSuchState => "no such state",
@@ -133,7 +134,7 @@ impl fmt::Display for MakeFault {
 impl From<AllocError> for MakeFault {
     ghost from_gives = { λ _ fault. fault ≡ make.Memory };
 
-    /// A failed allocation is Memory.
+    /// Memory, whichever allocation failed for the state.
     fn from(_refused: AllocError) -> MakeFault {
         MakeFault::Memory
     }

@@ -16,7 +16,7 @@ struct OpLines<'a> {
 impl fmt::Display for OpLines<'_> {
     ghost output = { λ lines. Some (op_lines lines.ops.now) };
 
-    /// Prints a line for each micro-operation, in order: `op`, its place, and the micro-operation.
+    /// Prints a line for each micro-operation, in order: `op`, its place from 0, and its text.
     fn fmt<W: fmt::Write>(&self, f: &mut fmt::Formatter<W>) -> fmt::Result {
         for (place, op) in self.ops.iter().enumerate() {
             write!(f, "op {place} {op}\n")?;
@@ -34,8 +34,8 @@ struct StateLines<'a> {
 impl fmt::Display for StateLines<'_> {
     ghost output = { λ lines. Some (state_lines lines.scene.now) };
 
-    /// Prints a line for each state, in order: `state`, its number, its recipe, `says`, and how
-    /// many acknowledged lines it has.
+    /// Prints a line for each state, in order: `state`, its number from 0, its recipe, `says`, and
+    /// how many acknowledged lines the state has.
     fn fmt<W: fmt::Write>(&self, f: &mut fmt::Formatter<W>) -> fmt::Result {
         let ops = self.scene.micros().ops();
         for (number, recipe) in self.scene.plan().recipes().iter().enumerate() {

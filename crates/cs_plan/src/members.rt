@@ -12,8 +12,8 @@ use cs_micro::MicroOp;
 use cs_names::limits::MICRO_OPERATIONS;
 use std::alloc::{AllocError, Global};
 
-/// Whether the micro-operation at `place` can stay in a state without the one at `missing`: it is
-/// another one, and doesn't need that one by any chain.
+/// Whether a state without the micro-operation at `missing` can have the one at `place`: the two
+/// places differ, and `place` doesn't need `missing` by any chain.
 pub fn is_kept(order: &Order, missing: usize, place: usize) -> bool
     requires first { missing < length order.now }
     requires second { place < length order.now }
@@ -22,14 +22,15 @@ pub fn is_kept(order: &Order, missing: usize, place: usize) -> bool
     !(missing == place || order.needs_by_chain(missing, place))
 }
 
-/// The places from 0 up to the end, which isn't among them.
+/// The places from 0 up to `end`, without `end`: none if it is 0.
 fn places_before(alloc: Global, end: u32) -> Result<Vec<u32>, AllocError>
     ensures { IfOk result (λ places. places.items ≡ places_below end) }
 {
     (0..end).collect(alloc)
 }
 
-/// The places before the end, ascending, without the missing one and all that need it by any chain.
+/// The places of a hole: those before `end`, ascending, without `missing` and without all that need
+/// `missing` by any chain. `says_of_hole` counts the acknowledged lines at the same places.
 fn hole_of(alloc: Global, order: &Order, missing: u32, end: u32) -> Result<Vec<u32>, AllocError>
     requires first { missing < length order.now }
     requires second { end ≤ length order.now }
@@ -45,7 +46,9 @@ fn hole_of(alloc: Global, order: &Order, missing: u32, end: u32) -> Result<Vec<u
     Ok(places)
 }
 
-/// The places of the micro-operations that a state of this recipe has, in the trace's order.
+/// The places of the micro-operations that a state of this recipe has, in the recipe's order: they
+/// ascend in a prefix and in a hole, and in a pick that a crash can leave. `says_in` has the same
+/// cases: keep both alike.
 pub fn places_of(alloc: Global, order: &Order, recipe: &Recipe) -> Result<Vec<u32>, AllocError>
     requires { IsWithin (length order.now) recipe.now }
     ensures { IfOk result (λ places. places.items ≡ set_in order.now recipe.now) }
@@ -65,8 +68,8 @@ fn is_say_at(ops: &[MicroOp], place: u32) -> bool
     matches!(&ops[place as usize], MicroOp::Say)
 }
 
-/// How many acknowledged lines a prefix has: those at the places before the end.
-fn says_before(ops: &[MicroOp], end: u32) -> u32
+/// How many acknowledged lines a prefix has: those at the places before `end`.
+fn says_of_prefix(ops: &[MicroOp], end: u32) -> u32
     requires { end ≤ length ops.now }
     ensures { result ≡ says_of ops.now (places_below end) }
 {
@@ -79,8 +82,8 @@ fn says_before(ops: &[MicroOp], end: u32) -> u32
     count
 }
 
-/// Whether an acknowledged line is at the place, and can stay in a state without the
-/// micro-operation at `missing`.
+/// Whether an acknowledged line is at `place` and a state without the micro-operation at `missing`
+/// can have it.
 fn is_kept_say(ops: &[MicroOp], order: &Order, missing: u32, place: u32) -> bool
     requires long { length ops.now ≡ length order.now }
     requires first { missing < length order.now }
@@ -91,9 +94,9 @@ fn is_kept_say(ops: &[MicroOp], order: &Order, missing: u32, place: u32) -> bool
     is_say_at(ops, place) && is_kept(order, missing as usize, place as usize)
 }
 
-/// How many acknowledged lines a hole has: those before the end that can stay without the
-/// micro-operation at `missing`.
-fn says_around(ops: &[MicroOp], order: &Order, missing: u32, end: u32) -> u32
+/// How many acknowledged lines a hole has, at the places that `hole_of` returns: those before `end`
+/// that a state without the micro-operation at `missing` can have.
+fn says_of_hole(ops: &[MicroOp], order: &Order, missing: u32, end: u32) -> u32
     requires long { length ops.now ≡ length order.now }
     requires first { missing < length order.now }
     requires second { end ≤ length order.now }
@@ -109,7 +112,7 @@ fn says_around(ops: &[MicroOp], order: &Order, missing: u32, end: u32) -> u32
 }
 
 /// How many acknowledged lines a pick of these places has.
-fn says_among(ops: &[MicroOp], places: &[u32]) -> u32
+fn says_of_pick(ops: &[MicroOp], places: &[u32]) -> u32
     requires inside { All (λ place. place < length ops.now) places.now }
     requires few { length places.now ≤ MICRO_OPERATIONS }
     ensures { result ≡ says_of ops.now places.now }
@@ -123,7 +126,8 @@ fn says_among(ops: &[MicroOp], places: &[u32]) -> u32
     count
 }
 
-/// How many acknowledged lines a state of this recipe has. It allocates nothing.
+/// How many acknowledged lines a state of this recipe has, at the places that `places_of` returns.
+/// Allocates nothing.
 pub fn says_in(ops: &[MicroOp], order: &Order, recipe: &Recipe) -> u32
     requires long { length ops.now ≡ length order.now }
     requires few { length ops.now ≤ MICRO_OPERATIONS }
@@ -131,8 +135,8 @@ pub fn says_in(ops: &[MicroOp], order: &Order, recipe: &Recipe) -> u32
     ensures { result ≡ says_of ops.now (set_in order.now recipe.now) }
 {
     match recipe {
-        Recipe::Prefix(end) => says_before(ops, *end),
-        Recipe::Hole(missing, end) => says_around(ops, order, *missing, *end),
-        Recipe::Pick(places) => says_among(ops, places.as_slice()),
+        Recipe::Prefix(end) => says_of_prefix(ops, *end),
+        Recipe::Hole(missing, end) => says_of_hole(ops, order, *missing, *end),
+        Recipe::Pick(places) => says_of_pick(ops, places.as_slice()),
     }
 }

@@ -15,8 +15,8 @@ use cs_names::limits::PLAN_STATES;
 use std::alloc::{AllocError, Global};
 use std::marker::Model;
 
-/// The recipes of a trace's states, by their numbers: the prefixes, the holes if they are asked
-/// for, and the picks.
+/// The recipes of a trace's states, by their numbers: the prefixes, the holes if the plan was made
+/// with them, and the picks.
 #[derive(Debug, Drop)]
 pub struct Plan {
     recipes: Vec<Recipe>,
@@ -35,9 +35,10 @@ impl Model for Plan {
 }
 
 impl Plan {
-    /// The plan of an order: its prefixes; then its holes, if they are asked for; then the picks. A
-    /// hole is listed only if its last place stays. PlanTooLarge and PickNotAllowed are found
-    /// before anything is allocated.
+    /// The plan of an order: its prefixes; then its holes, if `holes` is true; then the picks. A
+    /// hole is listed only if it has the micro-operation before its end. Otherwise its state is
+    /// that of a prefix or of a hole with a lower end. Of several faults, the first in the order of
+    /// PlanFault is reported.
     pub fn make(
         alloc: Global,
         order: &Order,
@@ -73,7 +74,7 @@ impl Plan {
         self.recipes.len()
     }
 
-    /// The recipes in the order of their numbers.
+    /// The recipes of the states, in the order of the states' numbers.
     pub fn recipes(&self) -> &[Recipe]
         ensures { result.now ≡ self.now }
     {
@@ -88,21 +89,23 @@ impl Plan {
     }
 }
 
-/// The place, from 0, of the first pick that a crash can't leave; None if it can leave each of
-/// them. It allocates nothing.
+/// The place, from 0, of the first pick that `Order::is_allowed` refuses: a crash can't leave it,
+/// its places don't ascend strictly, or the order lacks one of them. None if all picks are allowed.
+/// Allocates nothing.
 fn first_refused(order: &Order, picks: &[Places]) -> Option<usize>
     ensures { MatchOption result (All (IsAllowedIn order.now) picks.now)
         (IsFirstRefused order.now picks.now) }
 {
-    for (w, pick) in picks.iter().enumerate() {
+    for (place, pick) in picks.iter().enumerate() {
         if !order.is_allowed(pick.as_slice()) {
-            return Some(w);
+            return Some(place);
         }
     }
     None
 }
 
-/// Appends a recipe for each pick, in their order.
+/// Appends a recipe for each pick, in their order. If memory runs out, the list may lack picks, and
+/// the caller drops it.
 fn push_picks(recipes: &mut Vec<Recipe>, picks: Vec<Places>) -> Result<(), AllocError>
     ensures { OnOk result (recipes.new.items ≡ recipes.old.items ++ map forms.Pick picks.items) }
 {
@@ -112,7 +115,7 @@ fn push_picks(recipes: &mut Vec<Recipe>, picks: Vec<Places>) -> Result<(), Alloc
     Ok(())
 }
 
-/// The recipes of a plan, by the numbers of the states: the families, then the picks.
+/// The recipes of a plan, by the numbers of the states: those of the families, then the picks.
 fn recipes_of(
     alloc: Global,
     order: &Order,

@@ -10,7 +10,7 @@ use std::alloc::Global;
 use std::marker::Model;
 use std::sync::Arc;
 
-/// A state that was made: its tree is that of its number in the scene that it has. Only
+/// A state that was made and can be published: its tree is that of its number in its scene. Only
 /// `Scene::make` makes one.
 #[derive(Drop)]
 pub struct Published {
@@ -44,7 +44,7 @@ impl Published {
         self.number
     }
 
-    /// The scene that the state is of.
+    /// The scene in which the state was made.
     pub fn scene(&self) -> &Arc<Scene>
         ensures { arc_value result.now ≡ self.now.scene }
     {
@@ -59,7 +59,7 @@ impl Published {
         &self.store
     }
 
-    /// The state's tree, moved out. The scene is dropped.
+    /// The state's tree, moved out. This handle of the scene is dropped.
     pub fn into_store(self) -> Built
         ensures tree { result ≡ self.tree }
         ensures published { IsPublished self }
@@ -69,8 +69,8 @@ impl Published {
 }
 
 impl Scene {
-    /// Makes the state of this number. The result is NoSuchState if and only if the plan has no
-    /// such number, so it is never Memory instead.
+    /// Makes the state of this number, with its number and scene (`build` makes only its tree).
+    /// NoSuchState if and only if the plan has no such number: Memory is never reported instead.
     pub fn make(alloc: Global, scene: &Arc<Scene>, number: u32) -> Result<Published, MakeFault>
         ensures number { IfOk result (λ made. made.number ≡ number) }
         ensures scene { IfOk result (λ made. made.scene ≡ arc_value scene.now) }

@@ -23,7 +23,8 @@ impl Model for Places {
 }
 
 impl Places {
-    /// The places of this list, in its order. Whether they ascend isn't checked.
+    /// The places of this list, in its order. Whether they ascend, and whether a trace has them,
+    /// isn't checked.
     pub fn of(places: Vec<u32>) -> Places
         ensures { result ≡ places.items }
     {
@@ -43,17 +44,16 @@ impl PartialEq for Places {
 
     ghost laws = { partial_equiv_from_equiv nat_list_eq_equiv };
 
-    /// Whether the places are equal, in the same order.
+    /// Whether both have equal places in the same order.
     fn eq(&self, other: &Places) -> bool {
         self.places == other.places
     }
 }
 
-/// Prints the places with commas between, or `-` for none.
 impl fmt::Display for Places {
     ghost output = { λ places. Some (places_text places) };
 
-    /// Prints `0,2,5`, for example.
+    /// Prints the places with commas between, as in `0,2,5`; `-` if there are none.
     fn fmt<W: fmt::Write>(&self, f: &mut fmt::Formatter<W>) -> fmt::Result {
         let Some((first, others)) = self.places.split_first() else {
             return f.write_str("-");
@@ -73,15 +73,15 @@ pub enum Recipe {
     Prefix(u32),
     /// Those before the second place, without the first place and all that need it by any chain.
     Hole(u32, u32),
-    /// Those at these places, which ascend.
+    /// Those at these places, which ascend strictly in a plan.
     Pick(Places),
 }
 
-/// Prints the state as the list of a plan does, without its number: its kind, and its places.
 impl fmt::Display for Recipe {
     ghost output = { λ recipe. Some (recipe_text recipe) };
 
-    /// Prints `hole 2 4`, for example.
+    /// Prints the recipe as the list of a plan does: its kind and its places, as in `prefix 3`,
+    /// `hole 2 4` and `pick 0,2,5`.
     fn fmt<W: fmt::Write>(&self, f: &mut fmt::Formatter<W>) -> fmt::Result {
         match self {
             Recipe::Prefix(end) => write!(f, "prefix {end}"),

@@ -28,7 +28,8 @@ fn are_same_records(records: &[(Path, Record)], others: &[(Path, Record)]) -> bo
     records == others
 }
 
-/// Whether the entries at the start are of equal kinds, and the files of equal numbers.
+/// Whether the entries at the start are of equal kinds, and the files of equal numbers, in the same
+/// order.
 fn are_same_nodes(nodes: &[Node], others: &[Node]) -> bool
     ensures { IsTrue result ↔ (nodes.now ≡ others.now) }
 {
@@ -42,7 +43,8 @@ fn are_same_paths(paths: &[Path], others: &[Path]) -> bool
     paths == others
 }
 
-/// Whether the further paths of files at the start, with the files' numbers, are equal.
+/// Whether the further paths of files at the start, with the files' numbers, are equal, in the same
+/// order.
 fn are_same_links(links: &[(Path, u32)], others: &[(Path, u32)]) -> bool
     ensures { IsTrue result ↔ (links.now ≡ others.now) }
 {
@@ -56,8 +58,8 @@ fn are_same_versions(version: Version, other: Version) -> bool
     version == other
 }
 
-/// Whether two traces have the same version, with profile and block size, the same start and the
-/// same operations. It allocates nothing.
+/// Whether two traces have the same version, with profile and block size, the same operations, and
+/// the same start.
 pub fn is_same_trace(trace: &Trace, other: &Trace) -> bool
     ensures { IsTrue result ↔ (trace.now ≡ other.now) }
 {

@@ -44,8 +44,9 @@ impl Model for Scene {
 }
 
 impl Scene {
-    /// The scene of a trace. Its plan has the prefixes, the holes if they are asked for, and these
-    /// picks.
+    /// The scene of a trace. Its plan has the prefixes, the holes if `holes` is true, and these
+    /// picks. Of several faults, the first in the order of SceneFault is reported, but Memory
+    /// may be reported in place of PlanTooLarge or PickNotAllowed.
     pub fn of(
         alloc: Global,
         trace: Trace,
@@ -90,7 +91,7 @@ impl Scene {
         &self.order
     }
 
-    /// The plan of states. A crash may leave each of them.
+    /// The plan of the trace's states. A crash may leave each of them.
     pub fn plan(&self) -> &Plan
         ensures value { result.now ≡ self.now.plan }
         ensures planned { IsPlan (order_in self.now) self.now.plan }
@@ -99,7 +100,7 @@ impl Scene {
     }
 
     /// How many acknowledged lines the state of this number has; None if the plan has no such
-    /// number. It allocates nothing.
+    /// number. Allocates nothing.
     pub fn says(&self, number: u32) -> Option<u32>
         ensures { result ≡ says_at self.now number }
     {
@@ -107,8 +108,8 @@ impl Scene {
         Some(says_in(self.atlas.micros().ops(), &self.order, recipe))
     }
 
-    /// Whether two scenes have the same trace and the same plan. It allocates nothing, but compares
-    /// all of both.
+    /// Whether two scenes have the same trace and the same plan. Allocates nothing, but is slow for
+    /// large traces, since it compares all of both.
     pub fn has_content_of(&self, other: &Scene) -> bool
         ensures { IsTrue result ↔ (self.now ≡ other.now) }
     {
@@ -116,7 +117,8 @@ impl Scene {
             && are_same_recipes(self.plan.recipes(), other.plan.recipes())
     }
 
-    /// The store of the state of this number. NoSuchState if the plan has no such number.
+    /// The tree of the state of this number, as yet unchanged. NoSuchState if and only if the plan
+    /// has no such number.
     pub(crate) fn build(&self, alloc: Global, number: u32) -> Result<Built, MakeFault>
         ensures state { IfOk result (λ tree. state_at self.now number ≡ Some tree) }
         ensures tree { IfOk result IsTree }
@@ -126,8 +128,9 @@ impl Scene {
         let Some(recipe) = self.plan.recipe(number) else {
             return Err(MakeFault::NoSuchState);
         };
+        // By this law, what the order allows is what the rules allow.
         rules_are_sentences(self.atlas.micros());
-        // by its contract the trace makes no more records than a tree may have
+        // By the contract of `operations`, a trace makes no more records than a tree may have.
         know(self.atlas.trace().operations());
         let places = places_of(alloc, &self.order, recipe)?;
         let tree = self.atlas.build(alloc, &places)?;

@@ -5,8 +5,8 @@ use Rattle.cs_plan.specs.Scenes.{Scene}
 use Rattle.cs_registry.specs.Registries.{Registry}
 use Rattle.cs_users.specs.Rows.{Row}
 use Rattle.cs_shared_runs.specs.Serving.{IsOnly}
-use Rattle.cs_publish.specs.declared.joining.Known.{Known}
-use Rattle.cs_publish.specs.declared.joining.Known.TheVariants.{ByType, ByContent}
+use Rattle.cs_publish.specs.declared.publishing_into.SameScene.{SameScene}
+use Rattle.cs_publish.specs.declared.publishing_into.SameScene.TheVariants.{ByType, ByContent}
 
 -- how many workers there may be
 abbrev pub is_crew : ℕ → Bool
@@ -24,6 +24,6 @@ all_published scene users =
 
 -- states of the scene may be published in a server's registry of it: without comparing contents
 -- only if the server's type allows no other scene
-abbrev pub MayPublish : (Scene → Type 0) → Known → Scene → Type 0
+abbrev pub MayPublish : (Scene → Type 0) → SameScene → Scene → Type 0
 MayPublish is_scene ByType scene = IsOnly is_scene scene
 MayPublish is_scene ByContent scene = ⊤

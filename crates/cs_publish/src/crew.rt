@@ -12,7 +12,8 @@ use std::alloc::Global;
 use std::sync::Wait;
 use std::thread::Scope;
 
-/// How many made states may wait to be published.
+/// How many made states may wait to be published. A worker waits if there are as many, so that
+/// memory stays bounded.
 const STATES_IN_FLIGHT: u32 = 64;
 
 /// Whether this number of workers is allowed: 1 to WORKERS.
@@ -23,8 +24,9 @@ pub(crate) fn is_crew(workers: u32) -> bool
 }
 
 /// A channel with the numbers below `count`, in ascending order, for the workers to take. Memory if
-/// it can't be made. (Channel can't happen: there is room for each number, and the receiver lives.)
-pub(crate) fn numbers_below<R: Wait>(
+/// the channel can't be made. (Channel can't happen: there is room for each number, and the
+/// receiver lives.)
+pub(crate) fn channel_of_numbers<R: Wait>(
     rt: &R,
     alloc: Global,
     count: u32,
@@ -40,8 +42,9 @@ pub(crate) fn numbers_below<R: Wait>(
     Ok(numbers)
 }
 
-/// A worker's loop: takes a number, makes its state and sends it, until no number is left or the
-/// receiver of the states is dropped. It skips a number that the plan doesn't have.
+/// Does a worker's work: takes a number, makes its state and sends it, until no number is left or
+/// the receiver of the states is dropped. If memory runs out for a state, the worker sends NoMemory
+/// in its place, and takes the next number.
 fn work<N: Staged, R: Wait, G: Gate>(
     rt: &R,
     alloc: Global,
@@ -57,7 +60,8 @@ fn work<N: Staged, R: Wait, G: Gate>(
         let made = match stage.make(alloc, ask(gate, number)) {
             Ok(state) => FromWorker::State(state),
             Err(MakeFault::Memory) => FromWorker::NoMemory,
-            // not reached: the numbers are those below the plan's length
+            // not reached, since the numbers are those below the plan's length; but no contract
+            // says what comes out of a channel, so not `unreachable!()`
             Err(MakeFault::NoSuchState) => continue,
         };
         if states.send(rt, made).is_err() {
@@ -66,9 +70,9 @@ fn work<N: Staged, R: Wait, G: Gate>(
     }
 }
 
-/// Starts `workers` workers, and returns the receiver of their states. They end when no number is
-/// left, or when the receiver is dropped. Memory if a worker can't be started; those that were
-/// started before end, since the receiver is dropped.
+/// Starts `workers` workers, and returns the receiver of their states. The workers end when no
+/// number is left, or when the receiver is dropped. Memory if the channel can't be made or a worker
+/// can't be started; the workers that were started before end, since the receiver is dropped.
 pub(crate) fn hire<'s, E, N: Staged, R: Wait + Sync, G: Gate>(
     scope: &'s Scope<'s, E>,
     rt: &'s R,
@@ -93,8 +97,8 @@ pub(crate) fn hire<'s, E, N: Staged, R: Wait + Sync, G: Gate>(
     Ok(made)
 }
 
-/// Waits for the next state that a worker made. Memory if a worker ran out of memory instead,
-/// Channel if all workers have ended.
+/// Waits for the next state that a worker made, and returns the state. Memory if a worker ran out
+/// of memory instead; Channel if all workers have ended.
 pub(crate) fn next_made<N: Staged, R: Wait>(
     rt: &R,
     made: &Receiver<FromWorker<N>>,

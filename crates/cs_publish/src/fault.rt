@@ -15,11 +15,13 @@ pub enum PublishAllFault {
 /// Why a state doesn't come from the workers.
 #[derive(Clone, Copy, Debug, PartialEq, Eq)]
 pub(crate) enum Lost {
+    /// Out of memory, or no thread could be started.
     Memory,
+    /// A number or a state was lost between threads.
     Channel,
 }
 
-/// The fault that a caller of this crate gets for a lost state; never Workers.
+/// The fault of the same name, as callers of this crate see it; never Workers.
 pub(crate) fn fault_of(lost: Lost) -> PublishAllFault
     ensures { result ≢ PublishAllFault.Workers }
 {

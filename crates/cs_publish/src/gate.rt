@@ -8,8 +8,9 @@ pub trait Gate: Sync {
     /// The gate was asked about the number.
     ghost asked: { Self → ℕ → Type 0 } = { λ gate number. Unit {0} };
 
-    /// Called with the number of a state before that is made. It may block the worker.
-    fn before(&self, number: u32)
+    /// A worker calls this with the number of a state before it makes the state, and waits until it
+    /// returns.
+    fn before_make(&self, number: u32)
         ensures { asked self.now number };
 }
 
@@ -18,8 +19,8 @@ pub trait Gate: Sync {
 pub struct NoGate;
 
 impl Gate for NoGate {
-    /// Returns at once.
-    fn before(&self, _number: u32) {}
+    /// Returns at once, whatever the number is.
+    fn before_make(&self, _number: u32) {}
 }
 
 /// A number about which the gate was asked. Only `ask` makes one, and a state is made only from
@@ -40,16 +41,16 @@ impl<'g, G: Gate> Model for AskedNumber<'g, G> {
     ghost invariant = { λ passed. G.asked passed.gate.now passed.number };
 }
 
-/// Asks the gate about the number, and returns the permission to make that state.
+/// Asks the gate about the number, and returns the permission to make the state of that number.
 pub(crate) fn ask<G: Gate>(gate: &G, number: u32) -> AskedNumber<'_, G>
     ensures { result ≡ number }
 {
-    gate.before(number);
+    gate.before_make(number);
     AskedNumber { gate, number }
 }
 
 impl<G: Gate> AskedNumber<'_, G> {
-    /// The number of the state to make. It uses the permission up.
+    /// The number of the state that may be made. The permission is used up.
     pub(crate) fn into_number(self) -> u32
         ensures { result ≡ self.entry }
     {

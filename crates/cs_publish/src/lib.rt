@@ -6,11 +6,11 @@
 mod crew;
 mod fault;
 mod gate;
-mod joining;
 mod publishing;
+mod publishing_into;
 mod stage;
 
 pub use fault::PublishAllFault;
 pub use gate::{Gate, NoGate};
-pub use joining::{publish_into, publish_own_into};
 pub use publishing::publish_all;
+pub use publishing_into::{publish_into, publish_own_into};

@@ -5,7 +5,7 @@ ghost use Rattle.cs_publish.specs.Crews.{all_published, is_crew};
 ghost use Rattle.cs_registry.specs.Registries.{AdmitsAll, empty};
 ghost use Rattle.cs_shared_runs.specs.Serving.{IsOnly};
 
-use crate::crew::{hire, is_crew, next_made, numbers_below};
+use crate::crew::{channel_of_numbers, hire, is_crew, next_made};
 use crate::fault::{Lost, PublishAllFault, fault_of};
 use crate::gate::Gate;
 use crate::stage::{FromWorker, Stage, Staged};
@@ -19,8 +19,9 @@ use std::sync::{Arc, Wait};
 use std::thread;
 use std::thread::Threads;
 
-/// Publishes the states that the workers make, until none is missing, and returns the registry. An
-/// error drops it.
+/// Publishes the states that the workers make, until none is missing, and returns the registry.
+/// Memory if a worker or the registry runs out of memory; Channel if the workers end too early or
+/// send a state twice. An error drops the registry.
 fn publish_made<H: Held, N: Staged, R: Wait>(
     rt: &R,
     alloc: Global,
@@ -47,7 +48,7 @@ fn publish_made<H: Held, N: Staged, R: Wait>(
 }
 
 /// Starts `workers` workers on these numbers, which are all of the plan's, publishes the states
-/// that they make, and returns the registry.
+/// that the workers make, and returns the registry. An error drops the registry.
 fn hire_and_publish<'s, H: Held, N: Staged, R: Threads + Wait + Sync, G: Gate>(
     rt: &'s R,
     alloc: Global,
@@ -75,7 +76,8 @@ fn hire_and_publish<'s, H: Held, N: Staged, R: Threads + Wait + Sync, G: Gate>(
     )
 }
 
-/// A registry of the scene that N names, with all its states published.
+/// A registry of the scene, which is the only one that N names, with all its states published. Its
+/// runs have these users. An error drops the registry.
 fn publish_scene<H: Held, N: Staged, R: Threads + Wait + Sync, G: Gate>(
     rt: &R,
     alloc: Global,
@@ -96,7 +98,7 @@ fn publish_scene<H: Held, N: Staged, R: Threads + Wait + Sync, G: Gate>(
     let Ok(states) = States::<H>::new(alloc, own, users) else {
         return Err(Lost::Memory);
     };
-    let numbers = numbers_below(rt, alloc, count)?;
+    let numbers = channel_of_numbers(rt, alloc, count)?;
     let stage = Stage::<N>::new(scene);
     hire_and_publish(rt, alloc, states, &stage, &numbers, workers, gate)
 }

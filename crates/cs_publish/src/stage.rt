@@ -67,7 +67,7 @@ pub(crate) enum FromWorker<N: Staged> {
 }
 
 impl<N: Staged> Stage<N> {
-    /// This scene, under the name of the type.
+    /// The stage of this scene, which is the one that the type names.
     pub(crate) fn new(scene: Arc<Scene>) -> Stage<N>
         requires { N.is_scene (arc_value scene) }
         ensures { result ≡ arc_value scene }
@@ -97,7 +97,7 @@ impl<N: Staged> Stage<N> {
 }
 
 impl<N: Staged> Made<N> {
-    /// The state, to be published.
+    /// The state itself, moved out to be published.
     pub(crate) fn into_state(self) -> Published
         ensures value { result ≡ self }
         ensures own { N.is_scene result.scene }

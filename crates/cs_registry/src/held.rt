@@ -19,8 +19,8 @@ pub trait Held: Drop {
     /// The value is that of a new run of the key, over the tree, with the users.
     ghost is_fresh: { Key → Tree → List Row → Self → Type 0 };
 
-    /// What is kept of a new run of that key. `lower` is the tree of the run's state; all runs over
-    /// the state share it.
+    /// What is kept of a new run of this key, or an error if memory runs out. `lower` is the tree
+    /// of the run's state, which all runs over the state share.
     fn fresh(
         alloc: Global,
         key: &RunKey,

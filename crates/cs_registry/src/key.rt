@@ -15,11 +15,12 @@ use cs_permit::TreeName;
 use std::hash::{Hash, Hasher};
 use std::marker::Model;
 
-/// A state's number has at most this many digits.
+/// A state's number has at most this many digits, since PLAN_STATES, 16384, has five. The specs
+/// write 5.
 const NUMBER_DIGITS: usize = 5;
 
-/// What names a run: the number of its state, and its own name. It needs no memory on the heap, so
-/// a lookup can't run out of it.
+/// What names a run: the number of its state, and its own name. A key is made without an
+/// allocation, so a lookup can't run out of memory.
 #[derive(Drop)]
 pub struct RunKey {
     number: u32,
@@ -42,12 +43,12 @@ impl RunKey {
     {
         RunKey {
             number,
-            name: short_name(name.as_str()),
+            name: name_in_array(name.as_str()),
         }
     }
 
-    /// The key of the run whose name these bytes are, over the state of that number. None if they
-    /// aren't a run's name.
+    /// The key of the run whose name these bytes are, over the state of that number. None if the
+    /// bytes aren't a legal name of a run.
     pub fn read(number: u32, name: &[u8]) -> Option<RunKey>
         ensures { MatchOption result (is_run_name name.now ≡ false)
             (λ key. (is_run_name name.now ≡ true)
@@ -59,15 +60,15 @@ impl RunKey {
         match RunName::check(name) {
             Ok(name) => Some(RunKey {
                 number,
-                name: short_name(name),
+                name: name_in_array(name),
             }),
             // a legal name passes the check
             Err(_) => unreachable!(),
         }
     }
 
-    /// The key of the run that a tree's name means; None if its parts aren't a number of at most
-    /// five digits and a run's name.
+    /// The key of the run that a tree's name means. None unless the name's first part is at most
+    /// NUMBER_DIGITS digits (no digits mean state 0) and the second is a legal name of a run.
     pub fn of_tree_name(name: &TreeName) -> Option<RunKey>
         ensures { result ≡ key_in name.now.state.now name.now.run.now }
     {
@@ -77,13 +78,13 @@ impl RunKey {
         RunKey::read(number_in(name.state), name.run)
     }
 
-    /// A copy of the key, which takes no memory on the heap.
+    /// A copy of the key. Allocates nothing.
     pub fn copy(&self) -> RunKey
         ensures { result ≡ self.now }
     {
         RunKey {
             number: self.number,
-            name: short_name(self.name.as_str()),
+            name: name_in_array(self.name.as_str()),
         }
     }
 
@@ -122,34 +123,35 @@ impl Hash for RunKey {
 
     ghost respects_eq = { Prim.search (hashing, rules) };
 
-    /// Feeds the number and then the name.
+    /// Feeds the hasher the number and then the name.
     fn hash<H: Hasher>(&self, state: &mut H) {
         state.write_u32(self.number);
         self.name.hash(state);
     }
 }
 
-/// A run's name, copied into a fixed array.
-fn short_name(name: &str) -> ArrayString<RUN_NAME_BYTES>
+/// A copy of a run's name in a fixed array. The caller knows that the name fits.
+fn name_in_array(name: &str) -> ArrayString<RUN_NAME_BYTES>
     requires { length name.now ≤ RUN_NAME_BYTES }
     ensures { result.bytes ≡ name.now }
 {
     match ArrayString::from(name) {
         Ok(name) => name,
-        // the name fits: a requires says so
+        // the requires says that the name fits
         Err(_) => unreachable!(),
     }
 }
 
-/// Whether all bytes are decimal digits, and there are no more than a state's number may have. True
-/// if there are no bytes.
+/// Whether all bytes are decimal digits and there are at most NUMBER_DIGITS of them. True if there
+/// are none.
 fn are_few_digits(bytes: &[u8]) -> bool
     ensures { result ≡ are_few_digits bytes.now }
 {
     bytes.len() <= NUMBER_DIGITS && is_all_digits(bytes)
 }
 
-/// The number that these decimal digits mean; 0 if there are none.
+/// The number that these decimal digits mean; 0 if there are none. The caller has checked that they
+/// are digits, and at most NUMBER_DIGITS.
 fn number_in(digits: &[u8]) -> u32
     requires { are_few_digits digits.now ≡ true }
     ensures { result ≡ number_in digits.now }

@@ -14,7 +14,7 @@ use Rattle.cs_permit.specs.Refusals.{first_failing}
 use Rattle.cs_permit.specs.Rules.{is_gone}
 use Rattle.cs_permit.specs.Walks.{element_rules, first_element, number_by_name, element_result as led, walk_rules}
 use Rattle.cs_permit.specs.declared.call.WalkCall.{WalkCall}
-use Rattle.cs_run.specs.Walks.{WalkResult, go_on, stopped_first, walk_from, walk_asked}
+use Rattle.cs_run.specs.Walks.{WalkResult, go_on, stopped_first, walk_from, requested_walk}
 
 first_by : (t : Tree) (n : ℕ) (rest : ℕ → WalkResult) (fails : Option RuleId) (m : Option ℕ) → (is_none m ≡ true → fails ≡ None → ⊥)
     → stopped_first (go_on rest t n (led fails m)) ≡ fails
@@ -31,7 +31,7 @@ stopped_first-way t us u n (x ∷ xs) =
     (last_fails _ _ (is_none (number_by_name t n x)))
 
 -- a walk from a file that is there is refused if it is stopped at its first name
-pub stopped_by_rules : (t : Tree) (us : List Row) (c : WalkCall) (w : WalkResult) → is_gone t c.number ≡ false → w ≡ walk_asked t us c
+pub stopped_by_rules : (t : Tree) (us : List Row) (c : WalkCall) (w : WalkResult) → is_gone t c.number ≡ false → w ≡ requested_walk t us c
     → stopped_first w ≡ first_failing (walk_rules t us c)
 stopped_by_rules t us c w there e =
     ap stopped_first e ∙ stopped_first-way t us c.user c.number c.names ∙ sym (rw there refl)

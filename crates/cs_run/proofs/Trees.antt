@@ -5,7 +5,7 @@ use Rattle.std.specs.Option.{is_some, option_map, option_and_then}
 use Rattle.cs_permit.specs.declared.call.OpenFile.{OpenFile}
 use Rattle.cs_permit.specs.Modes.{removes_on_close}
 use Rattle.cs_permit.specs.Rules.{file_at, is_directory, is_directory_kind}
-use Rattle.cs_run.specs.Effects.{removes}
+use Rattle.cs_run.specs.Effects.{removes_file}
 use Rattle.cs_tree_model.specs.Laws.Round.{found_in, numbered_in}
 use Rattle.cs_tree_model.specs.Record.{IsDirectory, kind_of, metadata_of}
 use Rattle.cs_tree_model.specs.Tree.{IsTree, NameBytes, Path, Tree, content_numbered, number_at, number_in, path_numbered, record_at}
@@ -65,7 +65,7 @@ some_mapped f None = refl
 some_mapped f (Some a) = refl
 
 -- the file that an open removes has bytes
-pub removed_has_bytes : (t : Tree) (o : OpenFile) → removes t (Some o) ≡ true → is_some (content_numbered t o.file) ≡ true
+pub removed_has_bytes : (t : Tree) (o : OpenFile) → removes_file t (Some o) ≡ true → is_some (content_numbered t o.file) ≡ true
 removed_has_bytes t o e = (and_parts (is_some (content_numbered t o.file)) (removes_on_close o.mode) e).0
 
 -- a file that is there and isn't a directory has bytes

@@ -26,8 +26,9 @@ use Rattle.cs_permit.specs.declared.call.Call.{Call}
 use Rattle.cs_permit.specs.declared.call.Call.TheVariants.{Close, Create, Open, Remove, Write, Wstat}
 use Rattle.cs_permit.specs.declared.call.OpenFile.{OpenFile}
 use Rattle.cs_permit.specs.declared.call.WstatCall.{WstatCall}
-use Rattle.cs_run.specs.Effects.{change_asked, changed_by, changes_some, closed_tree, effect_of, change_to_no_bytes, truncates_file}
-use Rattle.cs_run.specs.Effects.{new_file, removes, stamp, writes, open_effect, create_effect, write_effect, close_effect, remove_effect}
+use Rattle.cs_run.specs.Effects.{requested_change, changed_by, changes_some, closed_tree, effect_of, change_to_no_bytes, truncates_file}
+use Rattle.cs_run.specs.Effects.{requested_new, removes_file, stamp, writes}
+use Rattle.cs_run.specs.Effects.{open_effect, create_effect, write_effect, close_effect, remove_effect}
 use Rattle.cs_run.specs.Effects.{wstat_effect}
 use Rattle.cs_run.specs.Laws.{AllVersBelow, RaisesByOne}
 use Rattle.cs_run.specs.Opens.{open_numbered}
@@ -203,11 +204,11 @@ written_raises t n start w s = record {
 closed_raises : (t : Tree) (w : Turn) (user : List ℕ) (o : Option OpenFile) → RaisesByOne t (closed_tree t w user o)
 closed_raises t w user None = same t
 closed_raises t w user (Some o) =
-    choose (removes t (Some o)) t (tree_without_file o.file (stamp w user) t) (removed_raises t o.file (stamp w user))
+    choose (removes_file t (Some o)) t (tree_without_file o.file (stamp w user) t) (removed_raises t o.file (stamp w user))
 
-asked_raises : (t : Tree) (w : Turn) (c : WstatCall) (o : Option Change) → RaisesByOne t (option_map_or (changed_by t w c) o t)
-asked_raises t w c None = same t
-asked_raises t w c (Some x) =
+requested_raises : (t : Tree) (w : Turn) (c : WstatCall) (o : Option Change) → RaisesByOne t (option_map_or (changed_by t w c) o t)
+requested_raises t w c None = same t
+requested_raises t w c (Some x) =
     choose (changes_some x) t (tree_with_change c.number x (stamp w c.user) t) (changed_raises t c.number x (stamp w c.user))
 
 pub effect_raises : (s : RulesView) (w : Turn) (call : Call) → RaisesByOne s.tree (effect_of s w call).tree
@@ -216,15 +217,15 @@ effect_raises s w (Open c) =
     choose (truncates_file s.tree c) s.tree (tree_with_change c.number change_to_no_bytes (stamp w c.user) s.tree)
     (changed_raises s.tree c.number change_to_no_bytes (stamp w c.user))
 effect_raises s w (Create c) = record {
-  versions = λ k h. added_below k s.tree h c.number c.name (new_file s.tree c) (stamp w c.user);
-  next = added_next s.tree c.number c.name (new_file s.tree c) (stamp w c.user);
+  versions = λ k h. added_below k s.tree h c.number c.name (requested_new s.tree c) (stamp w c.user);
+  next = added_next s.tree c.number c.name (requested_new s.tree c) (stamp w c.user);
 }
 effect_raises s w (Write c) =
     choose (writes s.tree c) s.tree (written_to c.number (write_start s.tree c) c.bytes (stamp w c.user) s.tree)
     (written_raises s.tree c.number (write_start s.tree c) c.bytes (stamp w c.user))
 effect_raises s w (Close c) = closed_raises s.tree w c.user (open_numbered c.open_number w.pass s.opens)
 effect_raises s w (Remove c) = removed_raises s.tree c.number (stamp w c.user)
-effect_raises s w (Wstat c) = asked_raises s.tree w c (change_asked s.tree c)
+effect_raises s w (Wstat c) = requested_raises s.tree w c (requested_change s.tree c)
 effect_raises s w call = same s.tree
 
 pub step_raises : (s : RulesView) (w : Turn) (call : Call) (o : Outcome) → RaisesByOne s.tree (result_by_outcome s w call o).tree

@@ -9,10 +9,11 @@ use Rattle.cs_names.specs.declared.limits.TheConstants.{FILE_BYTES}
 use Rattle.cs_permit.specs.Changes.{if_new, new_length, new_mode, new_name}
 use Rattle.cs_permit.specs.Refusals.{AllPass}
 use Rattle.cs_permit.specs.Rules.{file_at, is_directory}
-use Rattle.cs_permit.specs.Wstats.{field_rules, group_rules, is_bad_mode, length_rules, mode_rules, name_rules, number_beside, wstat_rules}
+use Rattle.cs_permit.specs.Wstats.{field_rules, group_rules, is_bad_mode, length_rules, mode_rules, name_rules}
+use Rattle.cs_permit.specs.Wstats.{number_of_sibling, wstat_rules}
 use Rattle.cs_permit.specs.declared.call.WstatCall.{WstatCall}
 use Rattle.cs_run.proofs.Trees.{file_has_bytes}
-use Rattle.cs_run.specs.Effects.{change_asked, change_of}
+use Rattle.cs_run.specs.Effects.{requested_change, change_of}
 use Rattle.cs_tree_model.specs.Mode.{is_directory_mode}
 use Rattle.cs_tree_model.specs.Record.{metadata_of}
 use Rattle.cs_tree_model.specs.Stores.{KeepsKind}
@@ -46,7 +47,7 @@ record Granted (t : Tree) (us : List Row) (c : WstatCall) (x : Change) : Type 0 
   pass : AllPass (field_rules t us c file)
 
 module _ (t : Tree) (us : List Row) (c : WstatCall) (x : Change) (pass : AllPass (wstat_rules t us c))
-    (is : change_asked t c ≡ Some x) where
+    (is : requested_change t c ≡ Some x) where
   granted : Granted t us c x
   granted = by (file_at t c.number) refl is pass.1.1
     where
@@ -99,7 +100,7 @@ module _ (t : Tree) (us : List Row) (c : WstatCall) (x : Change) (pass : AllPass
   name_is_free =
       let g = granted in
       subst (λ (y : Change). IfSome y.name (λ y. IfSome (parent_numbered t c.number) (λ d. number_in t d y ≡ None))) g.same
-      (IfSome_then (new_name t c) (passes (new_name t c) (λ y. is_some (number_beside t c.number y)) g.pass.1.1.1.0)
+      (IfSome_then (new_name t c) (passes (new_name t c) (λ y. is_some (number_of_sibling t c.number y)) g.pass.1.1.1.0)
       (λ y e. by y (parent_numbered t c.number) e))
     where
       none : (o : Option ℕ) → is_some o ≡ false → o ≡ None

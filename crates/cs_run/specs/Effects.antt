@@ -34,7 +34,7 @@ use Rattle.cs_run.specs.declared.answer.Answer.TheVariants as a
 use Rattle.cs_run.specs.declared.turn.Turn.{Turn}
 use Rattle.cs_run.specs.Opens.{open_numbered, opens_without, opens_without_if}
 use Rattle.cs_run.specs.Pages.{data_read}
-use Rattle.cs_run.specs.Walks.{walk_asked}
+use Rattle.cs_run.specs.Walks.{requested_walk}
 
 -- What a call leaves: the tree, the opens, and what the client is answered.
 pub record CallResult : Type 0 where
@@ -102,13 +102,13 @@ created_mode perm dir =
     else bit_and perm (bit_or (all_but 0o666) (bit_and dir 0o666))
 
 -- what a new file is made of
-abbrev pub new_file : Tree → CreateCall → New
-new_file tree call = record { mode = created_mode call.perm (mode_at tree call.number) }
+abbrev pub requested_new : Tree → CreateCall → New
+requested_new tree call = record { mode = created_mode call.perm (mode_at tree call.number) }
 
 -- the tree with the new file
 abbrev pub created_tree : Tree → Turn → CreateCall → Tree
 created_tree tree turn call =
-    tree_with_file call.number call.name (new_file tree call) (stamp turn call.user) tree
+    tree_with_file call.number call.name (requested_new tree call) (stamp turn call.user) tree
 
 -- a create: the new file takes the next number, and one open more is on it
 unfoldable pub create_effect : Tree → List OpenFile → Turn → CreateCall → CallResult
@@ -138,15 +138,15 @@ write_effect tree opens turn call =
 
 -- the file of an open must be removed: it is still there, and the open's mode says so; no
 -- directory is opened so
-abbrev pub removes : Tree → Option OpenFile → Bool
-removes tree None = false
-removes tree (Some o) = is_some (content_numbered tree o.file) && removes_on_close o.mode
+abbrev pub removes_file : Tree → Option OpenFile → Bool
+removes_file tree None = false
+removes_file tree (Some o) = is_some (content_numbered tree o.file) && removes_on_close o.mode
 
 -- without the file of an open that asks so
 abbrev pub closed_tree : Tree → Turn → List ℕ → Option OpenFile → Tree
 closed_tree tree turn user None = tree
 closed_tree tree turn user (Some o) =
-    if removes tree (Some o) then tree_without_file o.file (stamp turn user) tree else tree
+    if removes_file tree (Some o) then tree_without_file o.file (stamp turn user) tree else tree
 
 -- a close ends its open, if there is one, and may remove its file
 unfoldable pub close_effect : Tree → List OpenFile → Turn → CloseCall → CallResult
@@ -173,8 +173,8 @@ change_of tree call file = record {
 }
 
 -- the change that a wstat asks for, if its file is there
-abbrev pub change_asked : Tree → WstatCall → Option Change
-change_asked tree call = option_map (change_of tree call) (file_at tree call.number)
+abbrev pub requested_change : Tree → WstatCall → Option Change
+requested_change tree call = option_map (change_of tree call) (file_at tree call.number)
 
 -- a change names a field
 abbrev pub changes_some : Change → Bool
@@ -191,7 +191,7 @@ changed_by tree turn call change =
 -- with all fields that are new, in one change
 abbrev pub changed_tree : Tree → Turn → WstatCall → Tree
 changed_tree tree turn call =
-    option_map_or (changed_by tree turn call) (change_asked tree call) tree
+    option_map_or (changed_by tree turn call) (requested_change tree call) tree
 
 -- a wstat changes the file
 unfoldable pub wstat_effect : Tree → List OpenFile → Turn → WstatCall → CallResult
@@ -210,7 +210,7 @@ abbrev pub effect_of : RulesView → Turn → Call → CallResult
 effect_of view turn (Attach call) =
     call_result view.tree view.opens (a.Attached (qid_at view.tree 0))
 effect_of view turn (Walk call) =
-    call_result view.tree view.opens (a.Walked (walk_asked view.tree view.users call))
+    call_result view.tree view.opens (a.Walked (requested_walk view.tree view.users call))
 effect_of view turn (Open call) = open_effect view.tree view.opens turn call
 effect_of view turn (Create call) = create_effect view.tree view.opens turn call
 effect_of view turn (Read call) =

@@ -11,8 +11,8 @@ use Rattle.cs_run.specs.declared.answer.Answer.TheVariants as a
 use Rattle.cs_run.specs.declared.answer.Outcome.{Outcome}
 use Rattle.cs_run.specs.declared.answer.Outcome.TheVariants as o
 use Rattle.cs_run.specs.declared.turn.Turn.{Turn}
-use Rattle.cs_run.specs.Effects.{CallResult, call_result, effect_of, change_asked, changes_some}
-use Rattle.cs_run.specs.Effects.{removes, writes}
+use Rattle.cs_run.specs.Effects.{CallResult, call_result, effect_of, requested_change, changes_some}
+use Rattle.cs_run.specs.Effects.{removes_file, writes}
 use Rattle.cs_run.specs.Marks.{CallMark, is_refused}
 use Rattle.cs_run.specs.Opens.{open_numbered, opens_without_if}
 use Rattle.cs_run.specs.Pages.{data_read}
@@ -36,10 +36,11 @@ takes_memory view turn (Create call) = true
 takes_memory view turn (Read call) = has_some (data_read view.tree call).bytes
 takes_memory view turn (Write call) = writes view.tree call
 takes_memory view turn (Close call) =
-    removes view.tree (open_numbered call.open_number turn.pass view.opens)
+    removes_file view.tree (open_numbered call.open_number turn.pass view.opens)
 takes_memory view turn (Remove call) = true
 takes_memory view turn (Stat call) = true
-takes_memory view turn (Wstat call) = option_map_or changes_some (change_asked view.tree call) false
+takes_memory view turn (Wstat call) =
+    option_map_or changes_some (requested_change view.tree call) false
 
 -- denied by a rule that fails; else short of memory, or granted
 abbrev pub outcome_by : Option RuleId → Bool → Outcome

@@ -30,8 +30,8 @@ walk_from tree users user number (x ∷ xs) =
     go_on (λ m. walk_from tree users user m xs) tree number (element tree users user number x)
 
 -- the walk that a call asks for
-abbrev pub walk_asked : Tree → List Row → WalkCall → WalkResult
-walk_asked tree users call = walk_from tree users call.user call.number call.names
+abbrev pub requested_walk : Tree → List Row → WalkCall → WalkResult
+requested_walk tree users call = walk_from tree users call.user call.number call.names
 
 -- ---- what it means that a walk is the longest
 

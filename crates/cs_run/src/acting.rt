@@ -29,8 +29,9 @@ use cs_tree_model::{TreeRead, TreeStore};
 use cs_users::Users;
 use std::alloc::{AllocError, Global};
 
-/// Does a call that no rule denies. If memory runs out, the tree is as it was, and so are the
-/// opens, except that the open that the call ends is released.
+/// Does a call all of whose rules pass, as the caller has checked. If memory runs out, the tree and
+/// the opens are as they were, except that the open that the call ends is released. (`act` does
+/// walks itself.)
 fn grant<T: TreeStore>(
     alloc: Global,
     call: &Call<'_>,
@@ -54,6 +55,7 @@ fn grant<T: TreeStore>(
         ≡ opens_without_if (closed_open_number call.now) turn.pass opens.old.items)) }
 {
     match call {
+        // 0 is the root
         Call::Attach(_) => Ok(Answer::Attached(qid_at(tree, 0))),
         Call::Walk(call) => Ok(Answer::Walked(walk(alloc, call, tree, users)?)),
         Call::Open(call) => act_open(alloc, call, tree, opens, turn),
@@ -96,9 +98,8 @@ fn is_exclusive_file<T: TreeRead>(tree: &T, number: u64) -> bool
     }
 }
 
-/// Some of the opens, from which the rules decide this open as they would from all of them. Only
-/// O10, for an exclusive file, asks whether the file is open already; for any other file these are
-/// none.
+/// Opens that suffice to decide this open by its rules, with the same result as all opens. Only
+/// O10, the rule of an exclusive file, looks at opens; for any other file none are needed.
 fn opens_deciding_open<'a, T: TreeRead>(
     call: &OpenCall,
     tree: &T,
@@ -114,8 +115,8 @@ fn opens_deciding_open<'a, T: TreeRead>(
     }
 }
 
-/// Some of the opens, from which the rules decide this call as they would from all of them. Only
-/// the rules of an open look at opens; for any other call these are none.
+/// Opens that suffice to decide this call by its rules, with the same result as all opens. Only the
+/// rules of an open look at opens; for any other call none are needed.
 fn opens_deciding<'a, T: TreeRead>(call: &Call<'_>, tree: &T, opens: &'a Opens) -> &'a [OpenFile]
     ensures { (users : List Row)
         → failing_rule (rules_view (T.tree tree.now) result.now users) call.now
@@ -127,8 +128,8 @@ fn opens_deciding<'a, T: TreeRead>(call: &Call<'_>, tree: &T, opens: &'a Opens) 
     }
 }
 
-/// Checks a call's rules, and does the call if none denies it and memory suffices. Otherwise only
-/// the open that the call ends is released.
+/// Does a call as `act` does, which uses this for all calls but walks: the call's rules are checked
+/// first. If one denies the call, or memory runs out, only the open that the call ends is released.
 // inline, a walk would pay at the entry of `act` for the stack of all other calls
 #[inline(never)]
 #[tactic(auto, unfolding(crate::specs::Outcomes::outcome))]
@@ -150,6 +151,7 @@ fn act_by_rules<T: TreeStore>(
         opens.release_if(closed_open_number(call), turn.pass);
         return (Outcome::Denied(rule), Answer::Denied(rule));
     }
+    // `grant` asks that all rules pass
     laws::first_rule_that_fails();
     match grant(alloc, call, tree, opens, users, turn) {
         Ok(answer) => (Outcome::Granted, answer),
@@ -157,9 +159,9 @@ fn act_by_rules<T: TreeStore>(
     }
 }
 
-/// Does a call if no rule denies it and memory suffices. Otherwise the tree is as it was, and so
-/// are the opens, except that a close or a remove releases its open even then. A read returns at
-/// most as many bytes as it asks for, and a walk at most as many qids as it has names.
+/// Does a call if no rule denies it and memory suffices. Otherwise the tree and the opens are as
+/// they were, except that a close or a remove releases its open even then. A read returns at most
+/// as many bytes as it asks for, and a walk at most as many qids as it has names.
 #[tactic(auto, unfolding(crate::specs::Outcomes::outcome))]
 pub fn act<T: TreeStore>(
     alloc: Global,

@@ -33,8 +33,8 @@ impl Walk {
     ghost use Rattle.cs_permit.specs.Sizes.{IsQid};
     ghost use Rattle.std.specs.List.{AllByRecursion};
 
-    /// A walk whose passed names have these qids and which ended at the file `last`. `stopped` is
-    /// the rule that stopped its next name, or None if all names passed.
+    /// A walk that ended at the file of number `last`. `qids` are those of the names that passed;
+    /// `stopped` is the rule that stopped the next name, or None if all names passed.
     pub(crate) fn new(qids: Vec<Qid>, stopped: Option<RuleId>, last: u64) -> Walk
         requires { AllByRecursion IsQid qids.items }
         ensures { result ≡ record { qids = qids.items; stopped = stopped; last = last } }
@@ -53,7 +53,7 @@ impl Walk {
         self.qids.as_slice()
     }
 
-    /// The same qids as `qids` lends, owned. Each is small enough for a reply.
+    /// The qids of the names that passed, in order, owned. Each fits into a reply.
     pub fn into_qids(self) -> Vec<Qid>
         ensures value { result.items ≡ self.qids }
         ensures fit { AllByRecursion IsQid result.items }
@@ -104,8 +104,8 @@ impl Model for Data {
 }
 
 impl Data {
-    /// What a read of these bytes returns. `place` is None for a file that is no directory, and if
-    /// no entry was read.
+    /// What a read that found these bytes returns. `place` is None for a file that is no directory,
+    /// and if no entry was read.
     pub(crate) fn new(bytes: Vec<u8>, place: Option<Place>) -> Data
         ensures { result ≡ record { bytes = bytes.items; place = place } }
     {
@@ -119,8 +119,8 @@ impl Data {
         self.bytes.as_slice()
     }
 
-    /// The bytes that the read returns, and the place of the fid's next read; None if that hasn't
-    /// moved.
+    /// The bytes that the read returns, and the place from which the fid's next read continues;
+    /// None if the place hasn't moved.
     pub fn into_parts(self) -> (Vec<u8>, Option<Place>)
         ensures bytes { result.0.items ≡ self.bytes }
         ensures place { result.1 ≡ self.place }
@@ -129,7 +129,10 @@ impl Data {
     }
 }
 
-/// A file's stat. Contracts see its fields (stat(5)).
+/// A file's stat, of at most 600 bytes, so that it fits into a reply. Contracts see its fields
+/// (stat(5)).
+// 600 is cs_permit's `STAT_BYTES`: its contracts bound each file's stat by it. If that constant
+// grows, `act_stat` no longer meets the `requires` of `new`, until each 600 here grows too
 #[derive(Debug, Drop)]
 pub struct FileStat {
     stat: Stat,
@@ -151,7 +154,7 @@ impl FileStat {
     ghost use Rattle.cs_permit.specs.Sizes.{IsStat};
     ghost use Rattle.cs_wire.specs.Messages.{stat_of};
 
-    /// Wraps a stat of which the caller knows that it fits into a reply.
+    /// Wraps a stat of at most 600 bytes, as every stat of cs_permit's `stat_ref` is.
     pub(crate) fn new(stat: Stat) -> FileStat
         requires { IsStat 600 (stat_of stat) }
         ensures { result ≡ stat_of stat }
@@ -159,7 +162,7 @@ impl FileStat {
         FileStat { stat }
     }
 
-    /// The stat, to be moved into a reply, into which it fits.
+    /// The stat itself, which fits into a reply.
     pub fn into_stat(self) -> Stat
         ensures value { stat_of result ≡ self }
         ensures fits { IsStat 600 (stat_of result) }

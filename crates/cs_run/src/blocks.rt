@@ -13,7 +13,7 @@ ghost use Rattle.cs_run.specs.Opens.{IsAscending, is_open};
 use cs_permit::OpenFile;
 use std::alloc::AllocError;
 
-/// How many opens a block holds at most.
+/// How many opens a block holds at most. Removing one moves fewer than these: under 3 KiB.
 const BLOCK: usize = 128;
 
 /// The place of an open: the index of its block, and its index within that block.
@@ -33,8 +33,9 @@ fn ends_below(block: &Vec<OpenFile>, number: u32) -> bool
     }
 }
 
-/// The index of the open of that number among these; None if none of them has it.
-fn index_of(opens: &[OpenFile], number: u32) -> Option<usize>
+/// The index of the open of that number among `opens`, which are in ascending order of their
+/// numbers. None if no open has the number.
+fn index_of_open(opens: &[OpenFile], number: u32) -> Option<usize>
     requires { IsAscending opens.now }
     ensures bound { IfSome result (λ at. at < length opens.now) }
     ensures found { IfSome result (λ at. (o : Opened) → (slice_index_or opens.now at o).number
@@ -47,8 +48,8 @@ fn index_of(opens: &[OpenFile], number: u32) -> Option<usize>
     }
 }
 
-/// How many blocks, all at the front, end below the number. Only the block after them can have an
-/// open of that number.
+/// How many blocks, all at the front, end below the number. Only the block after them, if there is
+/// one, can have an open of that number.
 fn blocks_below(blocks: &[Vec<OpenFile>], number: u32) -> usize
     requires ascending { IsAscending (all_opens blocks.now) }
     requires filled { AreFilled blocks.now }
@@ -62,7 +63,7 @@ fn blocks_below(blocks: &[Vec<OpenFile>], number: u32) -> usize
 }
 
 /// The place of the open of that number and pass; None if no open has both.
-pub(crate) fn place_of(blocks: &[Vec<OpenFile>], number: u32, pass: u32) -> Option<OpenPlace>
+pub(crate) fn open_place_of(blocks: &[Vec<OpenFile>], number: u32, pass: u32) -> Option<OpenPlace>
     requires ascending { IsAscending (all_opens blocks.now) }
     requires filled { AreFilled blocks.now }
     ensures value { position (is_open number pass) (all_opens blocks.now)
@@ -74,7 +75,7 @@ pub(crate) fn place_of(blocks: &[Vec<OpenFile>], number: u32, pass: u32) -> Opti
         return None;
     }
     let opens = blocks[block_index].as_slice();
-    let Some(at) = index_of(opens, number) else {
+    let Some(at) = index_of_open(opens, number) else {
         return None;
     };
     if opens[at].pass == pass {
@@ -105,7 +106,7 @@ fn add_block_if_full(blocks: &mut Vec<Vec<OpenFile>>) -> Result<(), AllocError>
 }
 
 /// Makes room for one more open in the last block, which may be a new one. An error leaves the
-/// opens as they are.
+/// opens as they are; at most an empty block is new.
 pub(crate) fn widen_last(blocks: &mut Vec<Vec<OpenFile>>) -> Result<(), AllocError>
     requires { AreFilled blocks.old.items }
     ensures opens { all_opens blocks.new.items ≡ all_opens blocks.old.items }
@@ -138,8 +139,8 @@ pub(crate) fn open_at(blocks: &[Vec<OpenFile>], place: OpenPlace) -> OpenFile
     opens[place.at]
 }
 
-/// The opens of the first block that has an open on that file; empty if no block has one.
-pub(crate) fn block_on_file(blocks: &[Vec<OpenFile>], file: u64) -> &[OpenFile]
+/// All opens of the first block that has an open on that file; empty if no block has one.
+pub(crate) fn first_block_on_file(blocks: &[Vec<OpenFile>], file: u64) -> &[OpenFile]
     ensures { is_on result.now file ≡ is_on (all_opens blocks.now) file }
 {
     for block in blocks {
@@ -150,7 +151,8 @@ pub(crate) fn block_on_file(blocks: &[Vec<OpenFile>], file: u64) -> &[OpenFile]
     &[]
 }
 
-/// Whether one of the opens is on that file; false if there are no opens.
+/// Whether one of the opens is on that file; false if there are no opens. (cs_permit's
+/// `is_file_open` is the same, but private.)
 fn is_on(opens: &[OpenFile], file: u64) -> bool
     ensures { result ≡ is_on opens.now file }
 {
@@ -181,6 +183,7 @@ fn drop_if_empty(blocks: &mut Vec<Vec<OpenFile>>, block_index: usize)
     ensures filled { AreFilled blocks.new.items }
 {
     if block_index + 1 < blocks.len() && blocks[block_index].is_empty() {
+        // the removed block is empty, so it is dropped
         let _empty = blocks.remove(block_index);
     }
 }

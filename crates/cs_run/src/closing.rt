@@ -1,6 +1,6 @@
 //! Closes (clunk(5)).
 ghost use Rattle.std.specs.Prelude.{◌≡◌, IfOk, OnOk, OnErr, Some, is_some, true, ℕ};
-ghost use Rattle.cs_run.specs.Effects.{close_effect, closed_tree, call_result, removes};
+ghost use Rattle.cs_run.specs.Effects.{close_effect, closed_tree, call_result, removes_file};
 ghost use Rattle.cs_run.specs.Opens.{open_numbered, opens_without};
 ghost use Rattle.cs_tree_model.specs.Stores.{CanStamp};
 ghost use Rattle.cs_tree_model.specs.Tree.{IsTree, content_numbered};
@@ -14,8 +14,9 @@ use cs_permit::{CloseCall, OpenFile};
 use cs_tree_model::{TreeRead, TreeStore};
 use std::alloc::{AllocError, Global};
 
-/// Whether the number is that of a file that isn't a directory; false if there is no such file.
-fn has_bytes<T: TreeRead>(tree: &T, number: u64) -> bool
+/// Whether the number is that of a regular file; false of a directory, and if no file has the
+/// number.
+fn is_of_regular_file<T: TreeRead>(tree: &T, number: u64) -> bool
     ensures value { result ≡ is_some (content_numbered (T.tree tree.now) number) }
     ensures is_tree { IsTree (T.tree tree.now) }
 {
@@ -27,15 +28,15 @@ fn has_bytes<T: TreeRead>(tree: &T, number: u64) -> bool
 
 /// Whether the close of this open removes its file: the open's mode says so, and the file still
 /// exists and isn't a directory.
-fn removes<T: TreeRead>(tree: &T, opened: OpenFile) -> bool
-    ensures value { result ≡ removes (T.tree tree.now) (Some opened) }
+fn removes_file<T: TreeRead>(tree: &T, opened: OpenFile) -> bool
+    ensures value { result ≡ removes_file (T.tree tree.now) (Some opened) }
     ensures is_tree { IsTree (T.tree tree.now) }
 {
-    has_bytes(tree, opened.file) && removes_on_close(opened.mode)
+    is_of_regular_file(tree, opened.file) && removes_on_close(opened.mode)
 }
 
-/// Removes the file of `closed`, the open that the close released, if the open's mode says so. With
-/// None, nothing is removed. If memory runs out, the tree is as it was.
+/// Removes the file of `closed`, the open that the close released, if the close removes it
+/// (`removes_file`). With None, nothing is removed. If memory runs out, the tree is as it was.
 fn remove_closed<T: TreeStore>(
     alloc: Global,
     call: &CloseCall,
@@ -46,21 +47,22 @@ fn remove_closed<T: TreeStore>(
     requires { (n : ℕ) → CanStamp (T.tree tree.old) n }
     ensures ok { OnOk result (T.tree tree.new ≡ closed_tree
         (T.tree tree.old) turn call.now.user closed) }
-    ensures memory { OnErr result (removes (T.tree tree.old) closed ≡ true) }
+    ensures memory { OnErr result (removes_file (T.tree tree.old) closed ≡ true) }
     ensures err { OnErr result (T.tree tree.new ≡ T.tree tree.old) }
 {
     let Some(opened) = closed else {
         return Ok(());
     };
-    if !removes(tree, opened) {
+    if !removes_file(tree, opened) {
         return Ok(());
     }
     let stamp = stamp_of(turn, &call.user)?;
     tree.remove(alloc, opened.file, stamp)
 }
 
-/// Ends an open, and removes its file if the open's mode says so. If memory runs out, the open is
-/// released, but the tree is as it was.
+/// Ends an open, and removes its file if the close does so (`removes_file`). If there is no such
+/// open, nothing changes, and the answer is the same. If memory runs out, the open is released, but
+/// the tree is as it was.
 #[tactic(auto, unfolding(crate::specs::Effects::close_effect))]
 pub fn act_close<T: TreeStore>(
     alloc: Global,
@@ -73,7 +75,8 @@ pub fn act_close<T: TreeStore>(
     ensures ok { IfOk result (λ answer. call_result (T.tree tree.new) opens.new.items answer
         ≡ close_effect (T.tree tree.old) opens.old.items turn call.now) }
     ensures memory { OnErr result
-        (removes (T.tree tree.old) (open_numbered call.now.open_number turn.pass opens.old.items)
+        (removes_file (T.tree tree.old)
+        (open_numbered call.now.open_number turn.pass opens.old.items)
         ≡ true) }
     ensures err { OnErr result ((T.tree tree.new ≡ T.tree tree.old)
         × (opens.new.items ≡ opens_without call.now.open_number turn.pass opens.old.items)) }

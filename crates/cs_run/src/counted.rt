@@ -8,7 +8,7 @@ use cs_tree_model::TreeStore;
 use cs_users::Users;
 
 /// A run that keeps no journal. It counts its calls: a call raises a version by one at most, so no
-/// version overflows before the count does. Contracts see its `run_of`.
+/// version overflows before the count does. Contracts see its parts by `run_of`.
 #[derive(Drop)]
 pub struct CountedRun<T: TreeStore + Drop> {
     pub(crate) tree: T,

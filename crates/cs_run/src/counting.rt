@@ -17,7 +17,7 @@ use cs_tree_model::{TreeRead, TreeStore};
 use cs_users::Users;
 use std::alloc::Global;
 
-/// The version of the file of that number, or 0 if there is none.
+/// The version of the file of that number; 0 if there is no such file.
 fn version_of<T: TreeRead>(tree: &T, number: u64) -> u32
     ensures bound { IfSome (record_numbered (T.tree tree.now) number) (λ r. r.vers ≤ result) }
     ensures least { (k : ℕ) → 0 < k → AllVersBelow k (T.tree tree.now) → result < k }
@@ -29,11 +29,13 @@ fn version_of<T: TreeRead>(tree: &T, number: u64) -> u32
     }
 }
 
-/// The greatest version among the tree's files. It looks at every file number up to the last.
+/// The greatest version among the tree's files. Every file number up to the last is looked up, the
+/// last too; a number without a file counts as version 0.
 pub fn greatest_version<T: TreeRead>(tree: &T) -> u32
     ensures { IsGreatestVersion (T.tree tree.now) result }
 {
     let last = tree.last_number();
+    // the last number may be u64::MAX, so no range goes past it
     let mut greatest = version_of(tree, last);
     for number in 0..last {
         greatest = greatest.max(version_of(tree, number));
@@ -91,6 +93,7 @@ impl<T: TreeStore + Drop> CountedRun<T> {
         ensures users { (run_of self.new).users ≡ (run_of self.old).users }
         ensures count { (run_of self.new).count ≡ (run_of self.old).count + 1 }
     {
+        // no version is above the count, so each can grow, and a call raises it by one at most
         laws::calls_raise_by_one();
         laws::versions_can_grow();
         let turn = Turn {

@@ -3,7 +3,7 @@ ghost use Rattle.std.specs.Prelude.{◌≡◌, ◌<◌, ◌^◌, IfOk, List, OnO
 ghost use Rattle.cs_permit.specs.Creates.{create_rules};
 ghost use Rattle.cs_permit.specs.Refusals.{AllPass};
 ghost use Rattle.cs_run.specs.Effects.{all_but, create_effect, created_mode, created_tree};
-ghost use Rattle.cs_run.specs.Effects.{call_result, mode_at, new_file};
+ghost use Rattle.cs_run.specs.Effects.{call_result, mode_at, requested_new};
 ghost use Rattle.cs_run.specs.Opens.{AreBelow};
 ghost use Rattle.cs_tree_model.specs.Stores.{CanStamp};
 ghost use Rattle.cs_users.specs.Rows.{Row};
@@ -15,18 +15,19 @@ use cs_permit::{CreateCall, OpenFile, qid_at};
 use cs_tree_model::{New, TreeRead, TreeStore, is_directory_mode};
 use std::alloc::{AllocError, Global};
 
-/// The mode of the file of that number, or 0 if there is none.
+/// The mode of the file of that number; 0 if there is no such file.
 fn mode_at<T: TreeRead>(tree: &T, number: u64) -> u32
     ensures { result ≡ mode_at (T.tree tree.now) number }
 {
     match tree.record(number) {
         Some(file) => file.mode,
+        // not for a granted create: its directory is there
         None => 0,
     }
 }
 
-/// The mode of a new file: `perm` as the create asks for it, masked by `directory`, the mode of its
-/// directory (open(5)).
+/// The mode of a new file or directory: `perm` as the create asks for it, masked by `directory`,
+/// the mode of its directory (open(5)). The x bits of a file aren't masked.
 fn created_mode(perm: u32, directory: u32) -> u32
     ensures { result ≡ created_mode perm directory }
 {
@@ -37,17 +38,18 @@ fn created_mode(perm: u32, directory: u32) -> u32
     }
 }
 
-/// The new file that a create asks for, with its mode masked by that of its directory.
-fn new_file<T: TreeRead>(tree: &T, call: &CreateCall) -> New
-    ensures { result ≡ new_file (T.tree tree.now) call.now }
+/// What the create asks the tree's `add` to make: a file or directory of this mode, masked by that
+/// of the directory that gets it.
+fn requested_new<T: TreeRead>(tree: &T, call: &CreateCall) -> New
+    ensures { result ≡ requested_new (T.tree tree.now) call.now }
 {
     New {
         mode: created_mode(call.perm, mode_at(tree, call.number)),
     }
 }
 
-/// Adds the new file to its directory and returns its number. If memory runs out, the tree is as it
-/// was.
+/// Adds the new file or directory to its directory, and returns the new number. If memory runs out,
+/// the tree is as it was.
 fn add_created<T: TreeStore>(
     alloc: Global,
     call: &CreateCall,
@@ -64,11 +66,12 @@ fn add_created<T: TreeStore>(
 {
     let name = call.name.try_clone()?;
     let stamp = stamp_of(turn, &call.user)?;
-    let new = new_file(tree, call);
+    let new = requested_new(tree, call);
     tree.add(alloc, call.number, name, new, stamp)
 }
 
-/// Makes a file in a directory, and opens it. If memory runs out, tree and opens are as they were.
+/// Makes a file or directory in a directory, and opens it. If memory runs out, tree and opens are
+/// as they were.
 #[tactic(auto, unfolding(crate::specs::Effects::create_effect))]
 pub fn act_create<T: TreeStore>(
     alloc: Global,

@@ -42,8 +42,8 @@ pub fn answers_fit()
         → FitsCall call (result_by_outcome s w call o).answer }
 {}
 
-/// A walk goes as far as it may: each of its names leads on from the file before, and the rule that
-/// it reports stops the next name, if one is left.
+/// A walk goes as far as it may: each name that passed leads on from the file before, and the rule
+/// that the walk reports stops the next name, if one is left.
 pub fn walks_are_longest()
     ensures { (t : Tree) (us : List Row) (user : List ℕ) (n : ℕ) (names : List (List ℕ)) →
         IsLongest t us user n names (walk_from t us user n names) }

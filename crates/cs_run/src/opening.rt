@@ -18,8 +18,7 @@ use cs_permit::{OpenCall, OpenFile, qid_at};
 use cs_tree_model::{Change, TreeRead, TreeStore};
 use std::alloc::{AllocError, Global};
 
-/// Whether the open empties its file: its mode says so, and the file isn't append-only. A file that
-/// isn't there counts as not append-only.
+/// Whether the open empties its file: its mode says so, and the file isn't append-only.
 fn truncates_file<T: TreeRead>(tree: &T, call: &OpenCall) -> bool
     ensures { result ≡ truncates_file (T.tree tree.now) call.now }
 {
@@ -28,6 +27,7 @@ fn truncates_file<T: TreeRead>(tree: &T, call: &OpenCall) -> bool
     }
     match tree.record(call.number) {
         Some(file) => !is_append_only(&file),
+        // not for a granted open: its file is there
         None => true,
     }
 }
@@ -45,8 +45,9 @@ fn change_to_no_bytes() -> Change
     }
 }
 
-/// Empties the file if its open does (`truncates_file`). If memory runs out, the tree is as it was.
-fn empty_opened<T: TreeStore>(
+/// Empties the file that is opened, if the open asks for that (`truncates_file`). If memory runs
+/// out, the tree is as it was.
+fn truncate_opened<T: TreeStore>(
     alloc: Global,
     call: &OpenCall,
     tree: &mut T,
@@ -65,8 +66,8 @@ fn empty_opened<T: TreeStore>(
     tree.change(alloc, call.number, &change_to_no_bytes(), stamp)
 }
 
-/// Opens a file: empties it if the mode says so, and adds the open. If memory runs out, tree and
-/// opens are as they were.
+/// Opens a file: empties it if the open asks for that (`truncates_file`), and adds the open. If
+/// memory runs out, tree and opens are as they were.
 #[tactic(auto, unfolding(crate::specs::Effects::open_effect))]
 pub fn act_open<T: TreeStore>(
     alloc: Global,
@@ -85,7 +86,7 @@ pub fn act_open<T: TreeStore>(
         × (opens.new.items ≡ opens.old.items)) }
 {
     opens.reserve()?;
-    empty_opened(alloc, call, tree, turn)?;
+    truncate_opened(alloc, call, tree, turn)?;
     let open = OpenFile {
         number: turn.place,
         file: call.number,

@@ -3,7 +3,9 @@ ghost use Rattle.std.specs.Prelude.{◌≡◌, ◌<◌, [], ◌∷◌, ◌++◌,
 ghost use Rattle.cs_permit.specs.Opens.{is_open};
 ghost use Rattle.cs_run.specs.Opens.{AreBelow, open_numbered, opens_without, opens_without_if};
 
-use crate::blocks::{block_on_file, open_at, place_of, push_last, remove_open, widen_last};
+use crate::blocks::{
+    first_block_on_file, open_at, open_place_of, push_last, remove_open, widen_last,
+};
 use cs_permit::OpenFile;
 use std::alloc::{AllocError, Global};
 use std::marker::Model;
@@ -14,6 +16,7 @@ use std::marker::Model;
 pub struct Opens {
     /// Only the last may be empty.
     blocks: Vec<Vec<OpenFile>>,
+    /// How many opens the blocks have in all.
     count: usize,
 }
 
@@ -49,18 +52,18 @@ impl Opens {
         self.count
     }
 
-    /// Some of the opens: one of these is on that file exactly if any open is.
+    /// A part of the opens, in which one is on that file exactly if any open is; empty if none is.
     pub(crate) fn block_on_file(&self, file: u64) -> &[OpenFile]
         ensures { is_open result.now file ≡ is_open self.now.items file }
     {
-        block_on_file(self.blocks.as_slice(), file)
+        first_block_on_file(self.blocks.as_slice(), file)
     }
 
     /// The open of that number and pass; None if no open has both.
     pub fn get(&self, number: u32, pass: u32) -> Option<OpenFile>
         ensures { result ≡ open_numbered number pass self.now.items }
     {
-        let place = place_of(self.blocks.as_slice(), number, pass)?;
+        let place = open_place_of(self.blocks.as_slice(), number, pass)?;
         Some(open_at(self.blocks.as_slice(), place))
     }
 
@@ -88,16 +91,18 @@ impl Opens {
         ensures value { result ≡ open_numbered number pass self.old.items }
         ensures opens { self.new.items ≡ opens_without number pass self.old.items }
     {
-        let place = place_of(self.blocks.as_slice(), number, pass)?;
+        let place = open_place_of(self.blocks.as_slice(), number, pass)?;
         self.count -= 1;
         Some(remove_open(&mut self.blocks, place))
     }
 
-    /// Removes the open of that number and pass, if `number` is Some and there is such an open.
+    /// Removes the open of that number and pass, if `number` is Some and there is such an open;
+    /// else all opens stay.
     pub(crate) fn release_if(&mut self, number: Option<u32>, pass: u32)
         ensures { self.new.items ≡ opens_without_if number pass self.old.items }
     {
         if let Some(number) = number {
+            // whether there was such an open makes no difference
             let _open = self.release(number, pass);
         }
     }

@@ -15,16 +15,18 @@ use cs_tree_model::{ListedEntry, TreeRead, laws};
 use cs_wire::StatRef;
 use std::alloc::{AllocError, Global};
 
-/// The bytes of consecutive entries of a directory, and the name of the last; without entries, the
-/// name after which they were to begin.
+/// The bytes of consecutive entries of a directory, and the name of the last. Without entries,
+/// `last` is the name after which they were to begin: None for the start of the directory.
 #[derive(Drop)]
 pub struct Page<'a> {
     pub bytes: Vec<u8>,
     pub last: Option<&'a Name>,
 }
 
-/// The stat of the file that an entry of the directory names.
-// the entry's file is found by its number: only the contract needs the directory
+/// The stat of the file that an entry of the directory names, of at most 600 bytes (the bound of
+/// `FileStat`).
+// the entry's file is found by its number, and is in the tree since the entry is: only the contract
+// needs the directory
 fn stat_of_entry<'a, T: TreeRead>(
     tree: &'a T,
     _directory: u64,
@@ -41,8 +43,8 @@ fn stat_of_entry<'a, T: TreeRead>(
     entry_stat(tree, entry).unwrap()
 }
 
-/// As many whole entries of a directory as fit into `room` bytes, from the first after the name
-/// `start` on, or from the directory's first if that is None. Perhaps none. It can run out of
+/// As many whole entries of a directory as fit into `room` bytes, perhaps none: from the first
+/// after the name `start` on, or from the directory's first if `start` is None. It can run out of
 /// memory only if an entry fits.
 pub(crate) fn read_page<'a, T: TreeRead>(
     alloc: Global,
@@ -57,6 +59,7 @@ pub(crate) fn read_page<'a, T: TreeRead>(
     ensures memory { OnErr result (has_some (page_after (T.tree tree.now) directory room
         (option_copied start.entry)).bytes ≡ true) }
 {
+    // after each entry the rest of the directory's names is left
     laws::listing_goes_on(tree, directory);
     let mut bytes: Vec<u8> = Vec::new(alloc);
     let mut last = start;

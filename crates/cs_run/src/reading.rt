@@ -23,7 +23,8 @@ fn end_after(start: u64, count: usize) -> u64
     start.saturating_add(count as u64)
 }
 
-/// A copy of the name; None if there is no name.
+/// A copy of the name; None if there is no name. It is the same as `try_clone_name` of cs_overlay,
+/// which that crate doesn't export.
 fn try_clone_name(name: Option<&Name>) -> Result<Option<Name>, AllocError>
     ensures { IfOk result (λ copy. copy ≡ option_copied name.entry) }
 {
@@ -49,7 +50,7 @@ fn place_after(call: &ReadCall, page: &Page) -> Result<Option<Place>, AllocError
 }
 
 /// Reads as many whole entries of a directory as fit into the bytes that the call asks for, from
-/// the call's place on. It can run out of memory only if an entry fits.
+/// the call's place on; perhaps none. It can run out of memory only if an entry fits.
 fn read_entries<T: TreeRead>(alloc: Global, call: &ReadCall, tree: &T) -> Result<Data, AllocError>
     requires { IsTree (T.tree tree.now) }
     ensures value { IfOk result (λ read. read ≡ entries_given (T.tree tree.now) call.now) }
@@ -73,8 +74,8 @@ fn is_of_directory<T: TreeRead>(tree: &T, number: u64) -> bool
     }
 }
 
-/// Reads bytes of a file, or whole entries of a directory. If the file is gone, it returns no
-/// bytes. It can run out of memory only if the read returns a byte.
+/// Reads bytes of a file, or whole entries of a directory. A read of a file that is gone returns no
+/// bytes. Memory can run out only for a read that returns a byte.
 // the bytes are asked for first, since a file is then looked up only once
 pub fn read<T: TreeRead>(alloc: Global, call: &ReadCall, tree: &T) -> Result<Data, AllocError>
     ensures value { IfOk result (λ read. read ≡ data_read (T.tree tree.now) call.now) }

@@ -14,7 +14,8 @@ use cs_permit::{RemoveCall, laws};
 use cs_tree_model::TreeStore;
 use std::alloc::{AllocError, Global};
 
-/// Removes the file from the tree. If memory runs out, the tree is as it was.
+/// Removes the file, which may be an empty directory, from the tree. If memory runs out, the tree
+/// is as it was.
 fn remove_file<T: TreeStore>(
     alloc: Global,
     call: &RemoveCall,
@@ -30,12 +31,13 @@ fn remove_file<T: TreeStore>(
     ensures err { OnErr result (T.tree tree.new ≡ T.tree tree.old) }
 {
     let stamp = stamp_of(turn, &call.user)?;
-    laws::first_entry_tells(tree, call.number);
+    // the rules refuse a directory with a first entry, so the file has no entry
+    laws::first_entry_decides(tree, call.number);
     tree.remove(alloc, call.number, stamp)
 }
 
-/// Removes a file, and releases the fid's open, if it has one. If memory runs out, the open is
-/// released, but the tree is as it was.
+/// Removes a file or an empty directory, and releases the fid's open, if it has one. If memory runs
+/// out, the open is released, but the tree is as it was.
 #[tactic(auto, unfolding(crate::specs::Effects::remove_effect))]
 pub fn act_remove<T: TreeStore>(
     alloc: Global,

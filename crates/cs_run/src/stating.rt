@@ -17,6 +17,7 @@ pub(crate) fn act_stat<T: TreeRead>(
     ensures { IfOk result (λ answer. answer ≡ stat_answer (T.tree tree.now) call.now) }
 {
     let Some(stat) = stat_ref(tree, call.number) else {
+        // not for a granted stat: cs_permit's `first_of_stat` has denied it by H2
         return Ok(Answer::Denied(RuleId::H2));
     };
     Ok(Answer::Stat(FileStat::new(stat.to_stat(alloc)?)))

@@ -10,20 +10,20 @@ ghost use Rattle.cs_permit.specs.declared.call.Call.TheVariants as c;
 ghost use Rattle.cs_permit.specs.declared.call.OpenFile.{OpenFile};
 ghost use Rattle.cs_run.specs.Effects.{call_result};
 ghost use Rattle.cs_run.specs.Outcomes.{IsOutcomeOf};
-ghost use Rattle.cs_run.specs.Walks.{walk_from, walk_asked};
+ghost use Rattle.cs_run.specs.Walks.{walk_from, requested_walk};
 ghost use Rattle.cs_run.specs.declared.turn.Turn.{Turn};
 ghost use Rattle.cs_tree_model.specs.Record.{metadata_of_ref};
 
 use crate::answer::{Answer, Outcome, Walk};
 use cs_names::{RuleId, UserName};
-use cs_permit::{WalkCall, first_of_walk, qid_known, walk_element};
+use cs_permit::{WalkCall, first_of_walk, qid_or_zeros, walk_element};
 use cs_tree_model::{Metadata, TreeRead};
 use cs_users::Users;
 use cs_wire::Qid;
 use std::alloc::{AllocError, Global};
 
-/// Walks these names from the file of number `start`, as far as the rules allow. `start_file` is
-/// that file's record, None if it is gone.
+/// The walk of these names from the file of number `start`, as far as the rules allow; without
+/// names it ends at `start`. `start_file` is the record of that file, None if the file is gone.
 // a record is large: not inline, it would be passed in memory
 #[inline(always)]
 fn walk_names<'a, T: TreeRead>(
@@ -47,7 +47,7 @@ fn walk_names<'a, T: TreeRead>(
         match walk_element(tree, users, user, last, file, name.as_str()) {
             Ok(next) => {
                 file = tree.record(next);
-                qids.push_reserved(qid_known(file));
+                qids.push_reserved(qid_or_zeros(file));
                 last = next;
             }
             Err(rule) => return Ok(Walk::new(qids, Some(rule), last)),
@@ -56,11 +56,11 @@ fn walk_names<'a, T: TreeRead>(
     Ok(Walk::new(qids, None, last))
 }
 
-/// The walk that a call asks for, as far as the rules allow. `start_file` is the record of the file
-/// from which it starts, None if that is gone.
+/// As `walk`, with the record of the file from which the call starts: `start_file` is that record,
+/// None if the file is gone.
 // a record is large, as above
 #[inline(always)]
-fn walk_from<'a, T: TreeRead>(
+fn requested_walk<'a, T: TreeRead>(
     alloc: Global,
     call: &WalkCall,
     tree: &'a T,
@@ -68,7 +68,8 @@ fn walk_from<'a, T: TreeRead>(
     start_file: Option<Metadata<'a>>,
 ) -> Result<Walk, AllocError>
     requires { option_map metadata_of_ref start_file ≡ file_at (T.tree tree.now) call.now.number }
-    ensures value { IfOk result (λ walk. walk ≡ walk_asked (T.tree tree.now) users.now call.now) }
+    ensures value { IfOk result (λ walk. walk
+        ≡ requested_walk (T.tree tree.now) users.now call.now) }
     ensures memory { OnErr result (0 < length call.now.names) }
 {
     walk_names(
@@ -93,14 +94,16 @@ pub fn walk<T: TreeRead>(
     tree: &T,
     users: &Users,
 ) -> Result<Walk, AllocError>
-    ensures value { IfOk result (λ walk. walk ≡ walk_asked (T.tree tree.now) users.now call.now) }
+    ensures value { IfOk result (λ walk. walk
+        ≡ requested_walk (T.tree tree.now) users.now call.now) }
     ensures memory { OnErr result (0 < length call.now.names) }
 {
-    walk_from(alloc, call, tree, users, tree.record(call.number))
+    requested_walk(alloc, call, tree, users, tree.record(call.number))
 }
 
 /// The walk that a call asks for, if its rules allow it. The error is the first rule that denies
-/// it, or None if no rule does and memory ran out.
+/// it, as by cs_permit's `first_of_walk`, or None if no rule does and memory ran out. A rule that
+/// stops a later name than the first isn't an error: it is in the walk.
 fn walk_allowed<T: TreeRead>(
     alloc: Global,
     call: &WalkCall,
@@ -109,7 +112,7 @@ fn walk_allowed<T: TreeRead>(
 ) -> Result<Walk, Option<RuleId>>
     ensures ok { IfOk result (λ walk.
         (first_failing (walk_rules (T.tree tree.now) users.now call.now) ≡ None)
-        × (walk ≡ walk_asked (T.tree tree.now) users.now call.now)) }
+        × (walk ≡ requested_walk (T.tree tree.now) users.now call.now)) }
     ensures err { IfErr result (λ first.
         first ≡ first_failing (walk_rules (T.tree tree.now) users.now call.now)) }
     ensures memory { IsErrOf result None → 0 < length call.now.names }
@@ -118,7 +121,7 @@ fn walk_allowed<T: TreeRead>(
     if file.is_none() {
         return Err(Some(RuleId::K5));
     }
-    let Ok(walk) = walk_from(alloc, call, tree, users, file) else {
+    let Ok(walk) = requested_walk(alloc, call, tree, users, file) else {
         return Err(first_of_walk(call, tree, users));
     };
     match walk.stopped_first() {
@@ -127,8 +130,8 @@ fn walk_allowed<T: TreeRead>(
     }
 }
 
-/// Does a walk if its rules allow it. They are checked as the walk goes: each name is looked up
-/// once, and so is the file from which it starts.
+/// Does a walk as `act` does. Its rules are checked as the walk goes, so that each name, and the
+/// file from which the walk starts, is looked up only once.
 // an answer is large: inline, it would be copied once more
 #[inline(never)]
 #[tactic(auto, unfolding(crate::specs::Outcomes::outcome))]

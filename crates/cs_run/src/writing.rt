@@ -12,7 +12,8 @@ use cs_permit::{WriteCall, write_start};
 use cs_tree_model::{Kind, TreeRead, TreeStore};
 use std::alloc::{AllocError, Global};
 
-/// The offset at which the write begins; None if it has no byte or the file is a directory or gone.
+/// The offset at which the write begins: cs_permit's `write_start`. None if the write has no byte,
+/// or the file is a directory or gone.
 fn start_of_write<T: TreeRead>(tree: &T, call: &WriteCall<'_>) -> Option<u64>
     ensures writes { is_some result ≡ writes (T.tree tree.now) call.now }
     ensures start { IfSome result (λ start. start ≡ write_start (T.tree tree.now) call.now) }
@@ -27,7 +28,8 @@ fn start_of_write<T: TreeRead>(tree: &T, call: &WriteCall<'_>) -> Option<u64>
     }
 }
 
-/// Writes the call's bytes, if it has any. If memory runs out, the tree is as it was.
+/// Writes the call's bytes at its `start_of_write`, or nothing if that is None. If memory runs out,
+/// the tree is as it was.
 fn write_bytes<T: TreeStore>(
     alloc: Global,
     call: &WriteCall<'_>,
@@ -47,8 +49,8 @@ fn write_bytes<T: TreeStore>(
     tree.write_at(alloc, call.number, start, call.bytes.as_slice(), stamp)
 }
 
-/// Writes all bytes of the call; the answer is their count. If memory runs out, the tree is as it
-/// was.
+/// Writes all bytes of the call into its file; the answer is their count. Nothing is written into a
+/// directory, on which no fid is open for writing. If memory runs out, the tree is as it was.
 #[tactic(auto, unfolding(crate::specs::Effects::write_effect))]
 pub fn act_write<T: TreeStore>(
     alloc: Global,

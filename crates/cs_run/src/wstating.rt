@@ -5,7 +5,7 @@ ghost use Rattle.cs_permit.specs.Changes.{new_group, new_name};
 ghost use Rattle.cs_permit.specs.Refusals.{AllPass};
 ghost use Rattle.cs_permit.specs.Wstats.{wstat_rules};
 ghost use Rattle.cs_permit.specs.declared.call.OpenFile.{OpenFile};
-ghost use Rattle.cs_run.specs.Effects.{change_asked, change_of, changed_by, changes_some};
+ghost use Rattle.cs_run.specs.Effects.{requested_change, change_of, changed_by, changes_some};
 ghost use Rattle.cs_run.specs.Effects.{call_result, wstat_effect};
 ghost use Rattle.cs_tree_model.specs.Record.{metadata_of_ref};
 ghost use Rattle.cs_tree_model.specs.Stores.{CanStamp};
@@ -18,9 +18,9 @@ use cs_permit::{WstatCall, new_group, new_length, new_mode, new_mtime, new_name}
 use cs_tree_model::{Change, Metadata, TreeRead, TreeStore};
 use std::alloc::{AllocError, Global};
 
-/// The new name, owned; None if the wstat changes no name. A granted wstat's name is legal, so a
-/// fault means that memory ran out.
-fn name_asked<T: TreeRead>(
+/// The new name, owned; None if the wstat changes no name. The wstat's rules have passed, so an
+/// error means that memory ran out.
+fn requested_name<T: TreeRead>(
     alloc: Global,
     tree: &T,
     call: &WstatCall,
@@ -33,13 +33,14 @@ fn name_asked<T: TreeRead>(
     };
     match Name::read(alloc, name.as_bytes()) {
         Ok(name) => Ok(Some(name)),
+        // only out of memory: Q5 denies a name that isn't legal
         Err(_) => Err(AllocError),
     }
 }
 
-/// The new group, owned; None if the wstat changes no group. A granted wstat's group is a known
-/// user's name, so a fault means that memory ran out.
-fn group_asked(
+/// The new group, owned; None if the wstat changes no group. The wstat's rules have passed, so an
+/// error means that memory ran out.
+fn requested_group(
     alloc: Global,
     call: &WstatCall,
     file: &Metadata,
@@ -52,6 +53,7 @@ fn group_asked(
     };
     match UserName::read(alloc, group.as_bytes()) {
         Ok(group) => Ok(Some(group)),
+        // only out of memory: Q13 denies a group that is no known user
         Err(_) => Err(AllocError),
     }
 }
@@ -69,8 +71,8 @@ fn change_of<T: TreeRead>(
     ensures memory { OnErr result (changes_some (change_of (T.tree tree.now) call.now
         (metadata_of_ref file.now)) ≡ true) }
 {
-    let name = name_asked(alloc, tree, call)?;
-    let group = group_asked(alloc, call, file)?;
+    let name = requested_name(alloc, tree, call)?;
+    let group = requested_group(alloc, call, file)?;
     Ok(Change {
         name,
         length: new_length(call, file),
@@ -80,15 +82,15 @@ fn change_of<T: TreeRead>(
     })
 }
 
-/// The change that a wstat asks for, or None if its file is gone.
-fn change_asked<T: TreeRead>(
+/// The change that a wstat asks for, which may have no field; None if its file is gone.
+fn requested_change<T: TreeRead>(
     alloc: Global,
     tree: &T,
     call: &WstatCall,
 ) -> Result<Option<Change>, AllocError>
-    ensures value { IfOk result (λ change. change ≡ change_asked (T.tree tree.now) call.now) }
+    ensures value { IfOk result (λ change. change ≡ requested_change (T.tree tree.now) call.now) }
     ensures memory { OnErr result (option_map_or changes_some
-        (change_asked (T.tree tree.now) call.now) false ≡ true) }
+        (requested_change (T.tree tree.now) call.now) false ≡ true) }
 {
     match tree.record(call.number) {
         Some(file) => Ok(Some(change_of(alloc, tree, call, &file)?)),
@@ -107,8 +109,8 @@ fn changes_some(change: &Change) -> bool
         || change.mtime.is_some()
 }
 
-/// Makes the change that the wstat asks for, if that has a field. If memory runs out, the tree is
-/// as it was.
+/// Makes `change`, the change that the wstat asks for, unless it has no field. If memory runs out,
+/// the tree is as it was.
 fn change_by<T: TreeStore>(
     alloc: Global,
     call: &WstatCall,
@@ -118,7 +120,7 @@ fn change_by<T: TreeStore>(
 ) -> Result<(), AllocError>
     requires granted { (users : List Row)
         × AllPass (wstat_rules (T.tree tree.old) users call.now) }
-    requires asked { change_asked (T.tree tree.old) call.now ≡ Some change.now }
+    requires requested { requested_change (T.tree tree.old) call.now ≡ Some change.now }
     requires vers { (n : ℕ) → CanStamp (T.tree tree.old) n }
     ensures ok { OnOk result (T.tree tree.new ≡ changed_by
         (T.tree tree.old) turn call.now change.now) }
@@ -132,8 +134,8 @@ fn change_by<T: TreeStore>(
     tree.change(alloc, call.number, change, stamp)
 }
 
-/// Changes all fields of a file for which the wstat has a new value. If memory runs out, the tree
-/// is as it was.
+/// Changes all fields of a file for which the wstat has a new value. If it has none, or the file is
+/// gone, nothing changes, and the answer is the same. If memory runs out, the tree is as it was.
 #[tactic(auto, unfolding(crate::specs::Effects::wstat_effect))]
 pub fn act_wstat<T: TreeStore>(
     alloc: Global,
@@ -148,10 +150,10 @@ pub fn act_wstat<T: TreeStore>(
         call_result (T.tree tree.new) opens answer
         ≡ wstat_effect (T.tree tree.old) opens turn call.now) }
     ensures memory { OnErr result (option_map_or changes_some
-        (change_asked (T.tree tree.old) call.now) false ≡ true) }
+        (requested_change (T.tree tree.old) call.now) false ≡ true) }
     ensures err { OnErr result (T.tree tree.new ≡ T.tree tree.old) }
 {
-    if let Some(change) = change_asked(alloc, tree, call)? {
+    if let Some(change) = requested_change(alloc, tree, call)? {
         change_by(alloc, call, tree, &change, turn)?;
     }
     Ok(Answer::Changed)

@@ -28,10 +28,10 @@ use Rattle.cs_apm.specs.declared.slot.Slot.TheVariants.{Nothing, Directory, File
 use Rattle.cs_apm.proofs.Building.{fits, inside, known_left, long_left, tree_left}
 use Rattle.cs_same_states.specs.Differences.{AreDiffering}
 use Rattle.cs_same_states.specs.Pairs.{AreAllowed, IsPair}
-use Rattle.cs_same_states.specs.Parts.{IsAlikeBy, IsStanding}
+use Rattle.cs_same_states.specs.Parts.{IsAlikeBy, KeepsSlot}
 use Rattle.cs_same_states.specs.Fixed.{AreFixed}
 use Rattle.cs_same_states.specs.Places.{AreListed, HasRank, IsUnlisted}
-use Rattle.cs_same_states.specs.Standing.{AreAlike, RecordsSame}
+use Rattle.cs_same_states.specs.Slots.{AreAlike, RecordsSame}
 use Rattle.cs_apm.specs.Rules.{op_at}
 use Rattle.cs_same_states.specs.declared.pairs.Pair.{Pair}
 use Rattle.cs_same_states.specs.declared.touched.Touched.{Touched}
@@ -124,7 +124,7 @@ module _ (p : Pair) (pair : IsPair p) (m : Micros) (ops : p.ops.now ≡ m.ops) (
       (settled : (k : ℕ) → k < length found
       → IsAlikeBy p fixed (few p.places.now) (few p.others.now) (op_at p.ops.now (get_or found k 0))) where
     same_slot : (s : Slot) → IsKnown (length p.tables.now.rights.items) (length p.tables.now.owners.items) s
-        → ((n : ℕ) → s ≡ File n → IsStanding fixed (few p.places.now) (few p.others.now) n) → RecordsSame p s s
+        → ((n : ℕ) → s ≡ File n → KeepsSlot fixed (few p.places.now) (few p.others.now) n) → RecordsSame p s s
     same_slot Nothing known stands = refl
     same_slot (Directory k) known stands = refl
     same_slot (File n) known stands =

@@ -7,7 +7,7 @@ use Rattle.std.specs.Prelude.{fold, slice_set}
 use Rattle.cs_apm.specs.Slots.{slot_at}
 use Rattle.cs_apm.specs.declared.slot.Slot.{Slot}
 use Rattle.cs_apm.specs.declared.slot.Slot.TheVariants.{Nothing, Directory, File}
-use Rattle.cs_same_states.specs.Standing.{AreFlagged, flag_at, flagged}
+use Rattle.cs_same_states.specs.Slots.{AreFlagged, flag_at, flagged}
 
 as_many : (flags : List Bool) (s : Slot) → length (flagged flags s) ≡ length flags
 as_many flags Nothing = refl

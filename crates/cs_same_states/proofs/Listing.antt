@@ -12,7 +12,7 @@ use Rattle.cs_apm.specs.Slots.{AreSteps, FitsIn, moved_slot, owned_slot, slot_at
 use Rattle.cs_apm.specs.declared.slot.Slot.{Slot}
 use Rattle.cs_apm.specs.declared.slot.Slot.TheVariants.{Nothing, Directory, File}
 use Rattle.cs_apm.specs.declared.slot.Step.{Step}
-use Rattle.cs_apm.specs.declared.slot.Step.TheVariants.{Set, Move, Own, Other}
+use Rattle.cs_apm.specs.declared.slot.Step.TheVariants.{Set, Move, SetRights, Other}
 use Rattle.cs_same_states.specs.Places.{AreDistinct, AreListed, AreRenumbered, HasRank, IsRenumbered, IsUnlisted, id_at}
 use Rattle.cs_same_states.specs.declared.touched.Touched.{Touched}
 
@@ -95,7 +95,7 @@ module _ (ids : List ℕ) (distinct : AreDistinct ids) (slots : List Slot) where
   step_both (Move i j) (Move r q) full few is fits h =
       subst (λ v. IsBeside (moved_slot i j full (slot_at full i)) (moved_slot r q few v)) (stands_same full few i r is.0 h)
       (moved_both full few i j r q (slot_at full i) is.0 is.1 fits.0 fits.1 h)
-  step_both (Own i k) (Own r l) full few is fits h =
+  step_both (SetRights i k) (SetRights r l) full few is fits h =
       subst (λ w. IsBeside (owned_slot i k full (slot_at full i)) (owned_slot r w few (slot_at few r))) is.1
       (subst (λ v. IsBeside (owned_slot i k full (slot_at full i)) (owned_slot r k few v)) (stands_same full few i r is.0 h)
       (owned_both full few i k r (slot_at full i) is.0 fits h))
@@ -131,7 +131,7 @@ module _ (slots : List Slot) (steps : List Step) (touched : Touched) (are : AreL
   fits_few (Set i s) (Set r u) is = (let k = is.0.0 in let l = as_many in omega (arith, k, l))
   fits_few (Move i j) (Move r q) is =
       ((let k = is.0.0 in let l = as_many in omega (arith, k, l)), (let k = is.1.0 in let l = as_many in omega (arith, k, l)))
-  fits_few (Own i k) (Own r l) is = (let k = is.0.0 in let l = as_many in omega (arith, k, l))
+  fits_few (SetRights i k) (SetRights r l) is = (let k = is.0.0 in let l = as_many in omega (arith, k, l))
   fits_few Other Other is = tt
   fits_few _ _ is = absurd is
 

@@ -24,7 +24,7 @@ use Rattle.cs_state.proofs.Showing.{left_size}
 use Rattle.cs_same_states.specs.Differences.{AreDiffering}
 use Rattle.cs_same_states.specs.Pairs.{IsPair, IsSettled, content_by, first_content, first_owner, owner_by, second_content, second_owner}
 use Rattle.cs_same_states.specs.Reaching.{changed_file, floor_in, reaches}
-use Rattle.cs_same_states.specs.Standing.{RecordsSame}
+use Rattle.cs_same_states.specs.Slots.{RecordsSame}
 use Rattle.cs_same_states.specs.declared.pairs.Pair.{Pair}
 use Rattle.cs_same_states.proofs.Bytes.{byte_same, floor_low, same_visible}
 use Rattle.cs_same_states.proofs.Keeping.{same_left, some_or_none}

@@ -4,7 +4,7 @@ use Rattle.cs_apm.specs.Slots.{slot_at}
 use Rattle.cs_apm.specs.declared.slot.Slot.TheVariants.{File}
 use Rattle.cs_apm.specs.declared.tables.Tables.{Tables}
 use Rattle.cs_same_states.specs.Places.{IsUnlisted}
-use Rattle.cs_same_states.specs.Standing.{flag_at}
+use Rattle.cs_same_states.specs.Slots.{flag_at}
 
 -- each file that is at the start in a slot that isn't listed has its flag
 abbrev pub AreFixed : Tables → List ℕ → List Bool → Type 0

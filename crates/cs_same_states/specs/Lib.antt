@@ -5,6 +5,6 @@ pub mod Windows
 pub mod Reaching
 pub mod Pairs
 pub mod Places
-pub mod Standing
+pub mod Slots
 pub mod Fixed
 pub mod Parts

@@ -1,6 +1,6 @@
-//! Which micro-operations change each file of a trace, and in which blocks. It is for digests only:
-//! a wrong digest costs time, never an answer, so nothing here has a contract. A number out of
-//! range is skipped.
+//! Which micro-operations change each file of a trace, and in which blocks. This is for digests
+//! only: a wrong digest costs time, never an answer, so nothing here has a contract. A number out
+//! of range is skipped. An error means out of memory, and the caller drops what it has so far.
 use crate::mixing::{digest_of_record, digest_of_rights};
 use cs_micro::MicroOp;
 use cs_trace::{BlockSize, Node, Target, Trace};
@@ -9,7 +9,7 @@ use std::alloc::{AllocError, Global};
 
 /// What a micro-operation does to a file.
 #[derive(Clone, Copy, Debug)]
-pub enum Change {
+pub enum FileChange {
     /// The file has this length.
     Size(u64),
     /// The file is written in the block at this place among those that are read.
@@ -25,13 +25,13 @@ pub struct File {
     pub rights: u64,
     /// How many bytes it has before any operation.
     pub length: u64,
-    /// The place of each micro-operation that changes it, and what that does.
-    pub changes: Vec<(u32, Change)>,
+    /// The place of each micro-operation that changes it, and the change.
+    pub changes: Vec<(u32, FileChange)>,
 }
 
 /// The number of the block into which the micro-operation writes, or in which it ends a file; None
 /// if it does neither.
-fn block_of(size: BlockSize, op: &MicroOp) -> Option<u64> {
+fn changed_block(size: BlockSize, op: &MicroOp) -> Option<u64> {
     match op {
         MicroOp::WriteBlock { block, .. } => Some(*block),
         MicroOp::ChangeFileSize { length, .. } => Some(*length / size.bytes()),
@@ -39,12 +39,12 @@ fn block_of(size: BlockSize, op: &MicroOp) -> Option<u64> {
     }
 }
 
-/// The numbers of the blocks that some micro-operation writes into or ends a file in, ascending and
-/// each once.
+/// The numbers of the blocks into which some micro-operation writes or in which it ends a file, of
+/// all files together, ascending and each once.
 pub fn blocks_of(alloc: Global, size: BlockSize, ops: &[MicroOp]) -> Result<Vec<u64>, AllocError> {
     let mut blocks = Vec::new(alloc);
     for op in ops {
-        if let Some(block) = block_of(size, op) {
+        if let Some(block) = changed_block(size, op) {
             blocks.push(block)?;
         }
     }
@@ -64,7 +64,8 @@ fn push_file(alloc: Global, files: &mut Vec<File>, rights: u64) -> Result<(), Al
 }
 
 /// Appends the file that the micro-operation makes, or adds its change to the file that it changes.
-/// Any other micro-operation adds nothing, nor does a write into a block that isn't read.
+/// A micro-operation that does neither adds nothing. Nor does a write into a block that isn't one
+/// of `blocks`; each block that `changed_block` returns is.
 fn push_change(
     alloc: Global,
     files: &mut Vec<File>,
@@ -78,16 +79,16 @@ fn push_change(
             rights,
             ..
         } => return push_file(alloc, files, digest_of_rights(rights)),
-        MicroOp::ChangeFileSize { file, length } => (*file, Change::Size(*length)),
+        MicroOp::ChangeFileSize { file, length } => (*file, FileChange::Size(*length)),
         MicroOp::SetAttr {
             target: Target::File(file),
             rights,
-        } => (*file, Change::Rights(digest_of_rights(rights))),
+        } => (*file, FileChange::Rights(digest_of_rights(rights))),
         MicroOp::WriteBlock { file, block, .. } => {
             let Some(index) = blocks.iter().position(|other| *other == *block) else {
                 return Ok(());
             };
-            (*file, Change::Write(index))
+            (*file, FileChange::Write(index))
         }
         _ => return Ok(()),
     };
@@ -97,7 +98,7 @@ fn push_change(
     Ok(())
 }
 
-/// The length of a file's content, 0 for a directory.
+/// The length of a file's content; 0 for a directory.
 fn length_of(content: &Content) -> u64 {
     match content.kind() {
         Kind::Directory => 0,
@@ -105,7 +106,8 @@ fn length_of(content: &Content) -> u64 {
     }
 }
 
-/// The files at the start, by their numbers, with no changes yet.
+/// The files at the start, by their numbers, with their lengths and rights and no changes yet. Both
+/// are 0 until the file's record is read; of a trace each file has a record.
 fn start_files(alloc: Global, trace: &Trace) -> Result<Vec<File>, AllocError> {
     let mut files = Vec::new(alloc);
     for _ in trace.files() {
@@ -123,7 +125,7 @@ fn start_files(alloc: Global, trace: &Trace) -> Result<Vec<File>, AllocError> {
 }
 
 /// All files, by their numbers, each with the changes that micro-operations make to it. `blocks`
-/// has the numbers of the blocks that are read, in ascending order.
+/// has the numbers of the blocks that are read, as `blocks_of` returns them.
 pub fn files_of(
     alloc: Global,
     trace: &Trace,
@@ -134,6 +136,7 @@ pub fn files_of(
     let mut place = 0u32;
     for op in ops {
         push_change(alloc, &mut files, blocks, place, op)?;
+        // A trace has few micro-operations, so this doesn't saturate.
         place = place.saturating_add(1);
     }
     Ok(files)

@@ -1,8 +1,8 @@
 //! Digests of the files of a state: of their bytes and their rights. Only those blocks of a file
 //! are read that some micro-operation writes into, or ends a file in. A wrong digest costs time,
 //! never an answer, so nothing here has a contract: a file out of range, or one that isn't there,
-//! has the digest 0, and a place out of range is no member.
-use crate::changes::{Change, File, blocks_of, files_of};
+//! has the digest 0, and a place out of range is no member. An error means out of memory.
+use crate::changes::{File, FileChange, blocks_of, files_of};
 use crate::mixing::{digest_of_bytes, mix};
 use cs_names::Path;
 use cs_plan::{MakeFault, Scene};
@@ -13,8 +13,8 @@ use std::collections::BTreeMap;
 use std::sync::Arc;
 
 /// What decides the bytes of a block of a file in a state: the last micro-operation that writes
-/// into it, the last that ends the file before the block's end, and where the file ends in it. All
-/// earlier ones are in the state too, since these need them.
+/// into it, the last that ends the file before the block's end, and the lesser of the file's end
+/// and the block's. All earlier ones are in the state too, since these need them.
 #[derive(Clone, Copy, Debug, PartialEq, Eq, PartialOrd, Ord)]
 struct BlockVersion {
     file: u32,
@@ -48,8 +48,10 @@ struct FileLeft {
 #[derive(Clone, Copy)]
 pub struct FileOfState<'a> {
     pub scene: &'a Arc<Scene>,
+    /// The state's number in the scene's plan.
     pub number: u32,
     pub path: &'a Path,
+    /// The file's number in the trace.
     pub file: u32,
 }
 
@@ -58,14 +60,15 @@ pub struct FileOfState<'a> {
 pub struct Contents {
     files: Vec<File>,
     block_size: BlockSize,
-    /// The blocks that are read, in ascending order.
+    /// The numbers of the blocks that are read, in ascending order.
     blocks: Vec<u64>,
+    /// The digests of the blocks that were read so far.
     digests: BTreeMap<BlockVersion, u64>,
 }
 
-/// The file after those of its changes that the members make. `block_count` is how many blocks are
-/// read.
-fn file_left(
+/// The file after those of its changes that the members make. `members` has, for each
+/// micro-operation, whether the state has it. `block_count` is how many blocks are read.
+fn file_after(
     alloc: Global,
     file: &File,
     members: &[bool],
@@ -78,6 +81,7 @@ fn file_left(
         writes: vec![in alloc; None; block_count]?,
     };
     for (place, change) in &file.changes {
+        // A place out of range is no member.
         if members.get(*place as usize).copied().unwrap_or(false) {
             left.apply(*place, *change)?;
         }
@@ -85,25 +89,25 @@ fn file_left(
     Ok(left)
 }
 
-/// Whether the change leaves the file shorter than `end`.
+/// Whether the change of size leaves the file shorter than `end`.
 fn is_below(cut: &Cut, end: u64) -> bool {
     cut.length < end
 }
 
 impl FileLeft {
-    /// Applies a change that the micro-operation at this place makes. After an error the file must
-    /// not be used.
-    fn apply(&mut self, place: u32, change: Change) -> Result<(), AllocError> {
+    /// Applies a change that the micro-operation at this place makes. After an error a change of
+    /// size is half made, so the file must not be used.
+    fn apply(&mut self, place: u32, change: FileChange) -> Result<(), AllocError> {
         match change {
-            Change::Rights(rights) => self.rights = rights,
-            Change::Size(length) => {
+            FileChange::Rights(rights) => self.rights = rights,
+            FileChange::Size(length) => {
                 self.length = length;
                 let kept = self.cuts.partition_point(|cut| is_below(cut, length));
                 self.cuts.truncate(kept);
                 self.cuts.push(Cut { place, length })?;
             }
-            Change::Write(index) => {
-                // the index is that of a block that is read, so it isn't out of range
+            FileChange::Write(index) => {
+                // The index is that of a block that is read, so it isn't out of range.
                 if let Some(write) = self.writes.get_mut(index) {
                     *write = Some(place);
                 }
@@ -112,8 +116,8 @@ impl FileLeft {
         Ok(())
     }
 
-    /// The place of the last micro-operation that leaves the file shorter than `end`; None if none
-    /// does.
+    /// The place of the last micro-operation that left the file shorter than `end`; None if none
+    /// did.
     fn cut_below(&self, end: u64) -> Option<u32> {
         let count = self.cuts.partition_point(|cut| is_below(cut, end));
         let last = count.checked_sub(1)?;
@@ -122,8 +126,8 @@ impl FileLeft {
     }
 }
 
-/// The digest of the block of that number of a file. The state is made to read it. 0 if there is no
-/// such state, or it has no file at the path.
+/// Makes the state, reads a block of its file, and returns the block's digest. `block` is the
+/// block's number. 0 if the plan has no such state, or the state has no file at the path.
 fn read_block_digest(
     alloc: Global,
     size: BlockSize,
@@ -139,6 +143,7 @@ fn read_block_digest(
     let Some(number) = number_of_path(store, state_file.path.names()) else {
         return Ok(0);
     };
+    // The block begins within the file, so this doesn't wrap.
     let offset = block.wrapping_mul(size.bytes());
     match store.read_at(alloc, number, offset, size.bytes() as usize)? {
         Some(bytes) => Ok(digest_of_bytes(&bytes)),
@@ -160,8 +165,8 @@ impl Contents {
         })
     }
 
-    /// The digest of a block of a file in this version. It is read only the first time, and then
-    /// kept. After an error none is kept.
+    /// The digest of a block of a file in this version. The block is read only the first time, and
+    /// its digest is kept. An error keeps no new digest, and all older ones stay.
     fn block_digest(
         &mut self,
         alloc: Global,
@@ -176,9 +181,9 @@ impl Contents {
         Ok(digest)
     }
 
-    /// The digest of the bytes and rights of a file of a state. `members` says of each
-    /// micro-operation whether the state has it. 0 if the trace has no file of that number. After
-    /// an error the digests of blocks that were read stay kept.
+    /// The digest of the bytes and rights of a file of a state. `members` has, for each
+    /// micro-operation, whether the state has it. 0 if the trace has no file of that number. After
+    /// an error the digests of the blocks that were read stay kept.
     pub fn digest_of_file(
         &mut self,
         alloc: Global,
@@ -188,13 +193,14 @@ impl Contents {
         let Some(file) = self.files.get(state_file.file as usize) else {
             return Ok(0);
         };
-        let left = file_left(alloc, file, members, self.blocks.len())?;
+        let left = file_after(alloc, file, members, self.blocks.len())?;
         let size = self.block_size.bytes();
         let mut digest = mix(left.rights, left.length);
         for (index, write) in left.writes.iter().enumerate() {
-            // there are as many writes as blocks, so no index is out of range
+            // There are as many writes as blocks, so no index is out of range.
             let block = self.blocks.get(index).copied().unwrap_or(0);
             if block <= left.length / size {
+                // The block begins within the file, so this doesn't saturate.
                 let end = block.saturating_add(1).saturating_mul(size);
                 let version = BlockVersion {
                     file: state_file.file,

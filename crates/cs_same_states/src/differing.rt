@@ -4,8 +4,8 @@ ghost use Rattle.cs_same_states.specs.Differences.{AreDiffering};
 
 use std::alloc::{AllocError, Global};
 
-/// The places that are in only one of two sets, in ascending order. Both sets must be in ascending
-/// order too.
+/// The places that are in only one of two sets, ascending if both sets are. If they aren't, a place
+/// of both may be among them too, but none is left out.
 pub fn places_in_one(alloc: Global, places: &[u32], others: &[u32]) -> Result<Vec<u32>, AllocError>
     ensures { IfOk result (λ found. AreDiffering places.now others.now found.items) }
 {

@@ -2,7 +2,7 @@
 //! an answer, so nothing here has a contract: trees are compared before two states are called
 //! equal.
 use crate::contents::{Contents, FileOfState};
-use crate::entries::{Entries, Entry};
+use crate::entries::{Entry, TouchedEntries};
 use crate::mixing::mix;
 use cs_plan::Scene;
 use std::alloc::{AllocError, Global};
@@ -11,22 +11,24 @@ use std::sync::Arc;
 /// What the digests of a trace's states are computed from.
 #[derive(Drop)]
 pub struct Digests {
-    entries: Entries,
+    entries: TouchedEntries,
     contents: Contents,
 }
 
 impl Digests {
-    /// The digests of a scene's states; none is computed yet.
+    /// What the digests of this scene's states are computed from. No digest is computed yet.
     pub fn of(alloc: Global, scene: &Scene) -> Result<Digests, AllocError> {
         Ok(Digests {
-            entries: Entries::of(alloc, scene)?,
+            entries: TouchedEntries::of(alloc, scene)?,
             contents: Contents::of(alloc, scene)?,
         })
     }
 
-    /// The digest of the state of this number. `members` says of each micro-operation whether the
-    /// state has it. It takes time in proportion to the paths that operations touch and the blocks
-    /// that they write. Digests of blocks are kept for later states, also after an error.
+    /// The digest of the state of this number in the scene, which must be the one that `of` was
+    /// given. `members` has, for each micro-operation, whether the state has it. The time is in
+    /// proportion to the paths that operations touch and the blocks that they write. Digests of
+    /// blocks are kept for later states, also after an error, which means out of memory. The 1 and
+    /// the 2 keep directories and files apart.
     pub fn digest_of_state(
         &mut self,
         alloc: Global,

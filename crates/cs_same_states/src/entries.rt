@@ -1,8 +1,8 @@
-//! What is at the paths at which the states of a trace differ. It is for digests only: a wrong
+//! What is at the paths at which the states of a trace differ. This is for digests only: a wrong
 //! digest costs time, never an answer, so nothing here has a contract. What is out of range is
-//! skipped.
+//! skipped. An error means out of memory; the caller then drops what was noted so far.
 use crate::mixing::{digest_of_record, digest_of_rights};
-use crate::places::Places;
+use crate::places::TouchedPaths;
 use cs_micro::MicroOp;
 use cs_names::Path;
 use cs_plan::Scene;
@@ -17,20 +17,24 @@ pub enum Entry {
     File { file: u32 },
 }
 
-/// What is at a path after a micro-operation that touches it. It is the same in each state that
-/// has the micro-operation as its last at the path, since it needs those before it there.
+/// What is at a path after a micro-operation that touches it: the same in each state that has the
+/// micro-operation as its last at the path, since it needs the earlier ones there.
 #[derive(Clone, Copy, Debug)]
 struct Effect {
+    /// The place of the micro-operation in the trace.
     op_place: usize,
+    /// The place of the path in `TouchedEntries::paths`.
     path_place: usize,
     entry: Entry,
 }
 
 /// What is at the paths that an operation touches, or whose files or directories one changes.
 #[derive(Debug, Drop)]
-pub struct Entries {
+pub struct TouchedEntries {
     paths: Vec<Path>,
+    /// What is at each of the paths at the start.
     start: Vec<Entry>,
+    /// In the order of the micro-operations.
     effects: Vec<Effect>,
 }
 
@@ -44,31 +48,31 @@ impl Entry {
     }
 }
 
-impl Entries {
-    /// The paths of a scene's trace, what is there at the start, and what its micro-operations
-    /// leave there.
-    pub fn of(alloc: Global, scene: &Scene) -> Result<Entries, AllocError> {
+impl TouchedEntries {
+    /// The paths that the micro-operations of a scene's trace touch, what is there at the start,
+    /// and what the micro-operations leave there.
+    pub fn of(alloc: Global, scene: &Scene) -> Result<TouchedEntries, AllocError> {
         let ops = scene.micros().ops();
-        let mut places = Places::new(alloc);
+        let mut touched = TouchedPaths::new(alloc);
         for op in ops {
-            places.add_touched(alloc, scene.micros().starts(), op)?;
+            touched.add_touched(alloc, scene.micros().starts(), op)?;
         }
-        let start = start_of(alloc, scene.trace(), &places)?;
-        let effects = effects_of(alloc, &places, &start, ops)?;
-        Ok(Entries {
-            paths: places.paths,
+        let start = start_entries(alloc, scene.trace(), &touched)?;
+        let effects = effects_of(alloc, &touched, &start, ops)?;
+        Ok(TouchedEntries {
+            paths: touched.paths,
             start,
             effects,
         })
     }
 
-    /// The paths, in the order in which operations first touch them.
+    /// The paths, each once, in the order in which micro-operations first touch them.
     pub fn paths(&self) -> &[Path] {
         &self.paths
     }
 
-    /// What is at each of the paths in a state. `members` says of each micro-operation whether the
-    /// state has it.
+    /// What is at each of the paths in a state. `members` has, for each micro-operation, whether
+    /// the state has it.
     pub fn entries_left(&self, alloc: Global, members: &[bool]) -> Result<Vec<Entry>, AllocError> {
         let mut left = Vec::from_slice(alloc, &self.start)?;
         for effect in &self.effects {
@@ -80,18 +84,22 @@ impl Entries {
     }
 }
 
-/// Replaces the entry of the path at that place; a place out of range is skipped.
+/// Replaces the entry of the path at that place. A place out of range is skipped.
 fn set_entry(entries: &mut [Entry], path_place: usize, entry: Entry) {
     if let Some(old) = entries.get_mut(path_place) {
         *old = entry;
     }
 }
 
-/// What is at each of these paths at the start.
-fn start_of(alloc: Global, trace: &Trace, places: &Places) -> Result<Vec<Entry>, AllocError> {
-    let mut start = vec![in alloc; Entry::Nothing; places.paths.len()]?;
+/// What is at each of these paths at the start; Nothing if no record has the path.
+fn start_entries(
+    alloc: Global,
+    trace: &Trace,
+    touched: &TouchedPaths,
+) -> Result<Vec<Entry>, AllocError> {
+    let mut start = vec![in alloc; Entry::Nothing; touched.paths.len()]?;
     for ((path, record), node) in trace.records().iter().zip(trace.nodes()) {
-        if let Some(place) = places.by_path.get(path) {
+        if let Some(place) = touched.by_path.get(path) {
             let rights = digest_of_record(record);
             set_entry(&mut start, *place, Entry::of(*node, rights));
         }
@@ -99,25 +107,26 @@ fn start_of(alloc: Global, trace: &Trace, places: &Places) -> Result<Vec<Entry>,
     Ok(start)
 }
 
-/// What `now` has at a path; Nothing if it isn't one of these paths.
-fn entry_at(places: &Places, now: &[Entry], path: &Path) -> Entry {
-    match places.by_path.get(path) {
+/// What `now` has at a path; Nothing if the path isn't a touched one.
+fn entry_at(touched: &TouchedPaths, now: &[Entry], path: &Path) -> Entry {
+    match touched.by_path.get(path) {
         Some(place) => now.get(*place).copied().unwrap_or(Entry::Nothing),
         None => Entry::Nothing,
     }
 }
 
 /// Notes what the micro-operation at `op_place` leaves at a path, in `now` and in `effects`. A path
-/// that isn't one of `places` is skipped.
+/// that isn't a touched one is skipped. `now` has what is at each path after the micro-operations
+/// so far, if a state has all of them.
 fn push_effect(
-    places: &Places,
+    touched: &TouchedPaths,
     now: &mut [Entry],
     effects: &mut Vec<Effect>,
     op_place: usize,
     path: &Path,
     entry: Entry,
 ) -> Result<(), AllocError> {
-    if let Some(path_place) = places.by_path.get(path) {
+    if let Some(path_place) = touched.by_path.get(path) {
         set_entry(now, *path_place, entry);
         effects.push(Effect {
             op_place,
@@ -128,10 +137,11 @@ fn push_effect(
     Ok(())
 }
 
-/// Notes what a micro-operation leaves at the paths that it touches, in `now` and in `effects`.
-/// Nothing is noted for one that changes only a file.
+/// Notes what the micro-operation at `place` leaves at each path that it touches, as `push_effect`
+/// does: the paths that `TouchedPaths::add_touched` adds for it. Nothing is noted for a
+/// micro-operation that changes only a file, or for an acknowledged line.
 fn push_effects(
-    places: &Places,
+    touched: &TouchedPaths,
     now: &mut [Entry],
     effects: &mut Vec<Effect>,
     place: usize,
@@ -140,19 +150,19 @@ fn push_effects(
     match op {
         MicroOp::CreateDirEntry { path, node, rights } => {
             let entry = Entry::of(*node, digest_of_rights(rights));
-            push_effect(places, now, effects, place, path, entry)
+            push_effect(touched, now, effects, place, path, entry)
         }
         MicroOp::LinkDirEntry { path, file } => {
             let entry = Entry::File { file: *file };
-            push_effect(places, now, effects, place, path, entry)
+            push_effect(touched, now, effects, place, path, entry)
         }
         MicroOp::DeleteDirEntry { path, .. } => {
-            push_effect(places, now, effects, place, path, Entry::Nothing)
+            push_effect(touched, now, effects, place, path, Entry::Nothing)
         }
         MicroOp::MoveDirEntry { from, to } => {
-            let moved = entry_at(places, now, from);
-            push_effect(places, now, effects, place, from, Entry::Nothing)?;
-            push_effect(places, now, effects, place, to, moved)
+            let moved = entry_at(touched, now, from);
+            push_effect(touched, now, effects, place, from, Entry::Nothing)?;
+            push_effect(touched, now, effects, place, to, moved)
         }
         MicroOp::SetAttr {
             target: Target::Directory(path),
@@ -160,23 +170,24 @@ fn push_effects(
         } => {
             let rights = digest_of_rights(rights);
             let entry = Entry::Directory { rights };
-            push_effect(places, now, effects, place, path, entry)
+            push_effect(touched, now, effects, place, path, entry)
         }
         _ => Ok(()),
     }
 }
 
-/// What each micro-operation leaves at the paths that it touches, in order.
+/// What each micro-operation leaves at the paths that it touches, in the order of the
+/// micro-operations. `start` has what is at each touched path at the start.
 fn effects_of(
     alloc: Global,
-    places: &Places,
+    touched: &TouchedPaths,
     start: &[Entry],
     ops: &[MicroOp],
 ) -> Result<Vec<Effect>, AllocError> {
     let mut now = Vec::from_slice(alloc, start)?;
     let mut effects = Vec::new(alloc);
     for (place, op) in ops.iter().enumerate() {
-        push_effects(places, &mut now, &mut effects, place, op)?;
+        push_effects(touched, &mut now, &mut effects, place, op)?;
     }
     Ok(effects)
 }

@@ -16,24 +16,24 @@ use crate::differing::places_in_one;
 use crate::pairs::{Pair, is_settled};
 use crate::parts::Parts;
 use crate::reaching::changed_file;
-use crate::standing::{are_all_alike, flag_at, is_in_both};
+use crate::slots::{are_all_alike, flag_at, is_in_both};
 use crate::touched::Touched;
 use cs_apm::slot::Slot;
 use cs_micro::MicroOp;
 use cs_plan::Scene;
 use std::alloc::{AllocError, Global};
 
-/// What two sets leave in the slots that some step changes, and for each file whether it is in
-/// another slot.
+/// What two sets leave in the slots that some step changes, and for each file whether it is in a
+/// slot that no step changes.
 #[derive(Clone, Copy)]
 struct Slots<'a> {
     first: &'a [Slot],
     second: &'a [Slot],
-    fixed: &'a [bool],
+    in_unchanged_slot: &'a [bool],
 }
 
-/// Whether both sets leave the micro-operation's file the same in the part that it can change. True
-/// also if it changes no file, or one that isn't in the same slot after both.
+/// Whether the file that `op` changes is the same after both sets in the part that `op` can change.
+/// True also if `op` changes no file, or one that isn't in the same slot after both sets.
 fn is_alike_by(
     alloc: Global,
     pair: &Pair<'_>,
@@ -45,19 +45,20 @@ fn is_alike_by(
     requires small { IsSmall op.now }
     ensures { IfOk result
         (λ same. IsTrue same
-        → IsAlikeBy pair.now slots.now.fixed.now slots.now.first.now slots.now.second.now op.now) }
+        → IsAlikeBy pair.now slots.now.in_unchanged_slot.now slots.now.first.now
+        slots.now.second.now op.now) }
 {
     let Some(file) = changed_file(op) else {
         return Ok(true);
     };
-    if flag_at(slots.fixed, file) || is_in_both(slots.first, slots.second, file) {
+    if flag_at(slots.in_unchanged_slot, file) || is_in_both(slots.first, slots.second, file) {
         is_settled(alloc, pair, file, op)
     } else {
         Ok(true)
     }
 }
 
-/// `is_alike_by` for the micro-operation at a place; true if there is none.
+/// Whether `is_alike_by` is true for the micro-operation at this place; true if there is none.
 fn is_alike_at(
     alloc: Global,
     pair: &Pair<'_>,
@@ -68,8 +69,8 @@ fn is_alike_at(
     requires long { length slots.now.first.now ≡ length slots.now.second.now }
     ensures { IfOk result
         (λ same. IsTrue same
-        → IsAlikeBy pair.now slots.now.fixed.now slots.now.first.now slots.now.second.now
-        (op_at pair.now.ops.now place)) }
+        → IsAlikeBy pair.now slots.now.in_unchanged_slot.now slots.now.first.now
+        slots.now.second.now (op_at pair.now.ops.now place)) }
 {
     let Some(op) = pair.ops.get(place as usize) else {
         return Ok(true);
@@ -77,7 +78,7 @@ fn is_alike_at(
     is_alike_by(alloc, pair, slots, op)
 }
 
-/// Whether `is_alike_by` is true of the micro-operations at all these places.
+/// Whether `is_alike_by` is true for the micro-operations at all these places.
 fn are_alike_by(
     alloc: Global,
     pair: &Pair<'_>,
@@ -88,8 +89,8 @@ fn are_alike_by(
     requires long { length slots.now.first.now ≡ length slots.now.second.now }
     ensures { IfOk result
         (λ same. IsTrue same → (k : ℕ) → k < length places.now
-        → IsAlikeBy pair.now slots.now.fixed.now slots.now.first.now slots.now.second.now
-        (op_at pair.now.ops.now (slice_index_or places.now k 0))) }
+        → IsAlikeBy pair.now slots.now.in_unchanged_slot.now slots.now.first.now
+        slots.now.second.now (op_at pair.now.ops.now (slice_index_or places.now k 0))) }
 {
     for place in places {
         if !is_alike_at(alloc, pair, slots, *place)? {
@@ -99,8 +100,9 @@ fn are_alike_by(
     Ok(true)
 }
 
-/// Whether both sets are seen to leave equal trees: the slots are alike after both, and so is each
-/// file that a micro-operation of only one set changes. False means that they may be equal or not.
+/// Whether both sets of a pair are seen to leave equal trees: the slots are alike after both, and
+/// so is each file that a micro-operation of only one set changes. If false, the trees may be equal
+/// or not. `fixed` has, for each file, whether it is in a slot that no step changes.
 fn is_equal_pair(
     alloc: Global,
     pair: &Pair<'_>,
@@ -124,16 +126,15 @@ fn is_equal_pair(
     let slots = Slots {
         first: &first,
         second: &second,
-        fixed,
+        in_unchanged_slot: fixed,
     };
     let found = places_in_one(alloc, pair.places, pair.others)?;
     are_alike_by(alloc, pair, &slots, &found)
 }
 
-/// Whether two sets are seen to leave equal trees. False means that they may be equal or not. Of a
-/// file that is in the same slot after both, only the bytes are read that a micro-operation of only
-/// one set can change. If a slot has one file after one set and another after the other, both are
-/// read whole.
+/// Whether two sets are seen to leave equal trees. If false, the trees may be equal or not. Of a
+/// file that is in the same slot after both sets, only the bytes are read that a micro-operation of
+/// only one set can change. If a slot has different files after the two sets, both are read whole.
 pub fn are_seen_equal(
     alloc: Global,
     scene: &Scene,
@@ -158,5 +159,5 @@ pub fn are_seen_equal(
         places,
         others,
     };
-    is_equal_pair(alloc, &pair, &parts.touched, &parts.fixed)
+    is_equal_pair(alloc, &pair, &parts.touched, &parts.in_unchanged_slot)
 }

@@ -15,7 +15,7 @@ mod pairs;
 mod parts;
 mod places;
 mod reaching;
-mod standing;
+mod slots;
 pub mod states;
 mod touched;
 pub mod trees;

@@ -9,7 +9,7 @@ use cs_plan::Scene;
 use cs_plan::members::places_of;
 use std::alloc::{AllocError, Global};
 
-/// The places of the micro-operations of the state of this number, in the trace's order.
+/// The places of the micro-operations of the state of this number, in ascending order.
 pub fn places_at(alloc: Global, scene: &Scene, number: u32) -> Result<Vec<u32>, AllocError>
     requires { number < length scene.now.plan }
     ensures set { IfOk result (λ places. set_at scene.now number ≡ Some places.items) }
@@ -18,17 +18,18 @@ pub fn places_at(alloc: Global, scene: &Scene, number: u32) -> Result<Vec<u32>, 
         places.items) }
 {
     let Some(recipe) = scene.plan().recipe(number) else {
-        // the plan has the number: a requires says so
+        // The `requires` says that the plan has the number.
         unreachable!();
     };
+    // By this law, what the order allows is what the rules allow.
     rules_are_sentences(scene.micros());
     let places = places_of(alloc, scene.order(), recipe)?;
     Ok(places)
 }
 
-/// For each of `count` micro-operations, whether its place is among `places`. It is for digests
-/// only, so it has no contract; a place out of range is skipped.
-pub fn members_of(alloc: Global, count: usize, places: &[u32]) -> Result<Vec<bool>, AllocError> {
+/// For each of the first `count` micro-operations, whether its place is among `places`. This is for
+/// digests only, so it has no contract. A place out of range is skipped.
+pub fn member_flags(alloc: Global, count: usize, places: &[u32]) -> Result<Vec<bool>, AllocError> {
     let mut members = vec![in alloc; false; count]?;
     for place in places {
         if let Some(member) = members.get_mut(*place as usize) {

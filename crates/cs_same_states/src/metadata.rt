@@ -5,8 +5,8 @@ ghost use Rattle.cs_tree_model.specs.Record.{metadata_of_ref};
 use cs_names::UserName;
 use cs_tree_model::{Kind, Metadata};
 
-/// Whether both names are those of the same user.
-pub(crate) fn is_same_user(name: &UserName, other: &UserName) -> bool
+/// Whether both are the same name of a user or a group.
+pub(crate) fn is_same_user_name(name: &UserName, other: &UserName) -> bool
     ensures { IsTrue result ↔ (name.now ≡ other.now) }
 {
     name == other
@@ -19,17 +19,17 @@ fn are_same_kinds(kind: Kind, other: Kind) -> bool
     kind == other
 }
 
-/// Whether two records have the same owner, the same group and the same user who changed the file
+/// Whether two records name the same owner, the same group and the same user who changed the file
 /// last.
-fn have_same_users(metadata: &Metadata<'_>, other: &Metadata<'_>) -> bool
+fn have_same_user_names(metadata: &Metadata<'_>, other: &Metadata<'_>) -> bool
     ensures { IsTrue result ↔
         ((metadata.now.owner.now ≡ other.now.owner.now)
         × (metadata.now.group.now ≡ other.now.group.now)
         × (metadata.now.muid.now ≡ other.now.muid.now)) }
 {
-    is_same_user(metadata.owner, other.owner)
-        && is_same_user(metadata.group, other.group)
-        && is_same_user(metadata.muid, other.muid)
+    is_same_user_name(metadata.owner, other.owner)
+        && is_same_user_name(metadata.group, other.group)
+        && is_same_user_name(metadata.muid, other.muid)
 }
 
 /// Whether two records have the same number, version, mode and times.
@@ -46,11 +46,11 @@ fn have_same_numbers(metadata: &Metadata<'_>, other: &Metadata<'_>) -> bool
         && metadata.mtime == other.mtime
 }
 
-/// Whether two records have equal metadata. It allocates nothing.
+/// Whether two records have equal metadata. Allocates nothing.
 pub fn are_same_metadata(metadata: &Metadata<'_>, other: &Metadata<'_>) -> bool
     ensures { IsTrue result ↔ (metadata_of_ref metadata.now ≡ metadata_of_ref other.now) }
 {
     have_same_numbers(metadata, other)
-        && have_same_users(metadata, other)
+        && have_same_user_names(metadata, other)
         && are_same_kinds(metadata.kind, other.kind)
 }

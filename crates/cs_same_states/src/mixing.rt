@@ -5,7 +5,8 @@ use cs_trace::Rights;
 use cs_tree_model::Record;
 
 /// The digest of a sequence and one more part. `digest` is that of the sequence; 0 is that of an
-/// empty one.
+/// empty one. The factors are odd, so that no bit is lost; the second is 2^64 divided by the golden
+/// ratio. The shift brings high bits down.
 pub fn mix(digest: u64, part: u64) -> u64 {
     let sum = digest.wrapping_mul(31).wrapping_add(part);
     let spread = sum.wrapping_mul(0x9e37_79b9_7f4a_7c15);
@@ -21,8 +22,8 @@ pub fn digest_of_bytes(bytes: &[u8]) -> u64 {
     digest
 }
 
-/// The digest of an owner, a group and the nine permission bits of a mode; its other bits don't
-/// count.
+/// The digest of an owner, a group and the nine permission bits of a mode, which are its remainder
+/// by 512.
 fn digest_of_parts(owner: &UserName, group: &UserName, mode: u32) -> u64 {
     let users = mix(
         digest_of_bytes(owner.as_bytes()),
@@ -36,7 +37,7 @@ pub fn digest_of_rights(rights: &Rights) -> u64 {
     digest_of_parts(&rights.owner, &rights.group, u32::from(rights.permissions))
 }
 
-/// The digest of owner, group and permissions of a record: the same as that of equal rights.
+/// The digest of a record's owner, group and permissions: the same as that of equal rights.
 pub fn digest_of_record(record: &Record) -> u64 {
     digest_of_parts(&record.owner, &record.group, record.mode)
 }

@@ -8,8 +8,8 @@ ghost use Rattle.cs_state.specs.Windows.{byte_of, whole_content};
 ghost use Rattle.cs_same_states.specs.Pairs.{IsPair, IsSettled, first_content, first_owner};
 ghost use Rattle.cs_same_states.specs.Pairs.{second_content, second_owner};
 
-use crate::metadata::is_same_user;
-use crate::reaching::{Span, floor_of, reach_of, size_left};
+use crate::metadata::is_same_user_name;
+use crate::reaching::{Span, floor_of, size_after_places, span_reached};
 use crate::windows::window_left;
 use cs_apm::content::FileContent;
 use cs_apm::owners::owner_left;
@@ -28,9 +28,9 @@ pub struct Pair<'a> {
     pub others: &'a [u32],
 }
 
-/// The bytes of the file at the start; none if an operation makes it. Only the contract uses
-/// `_ops`: it speaks of all files, those that an operation makes too. `cs_state` has a private
-/// function with this body, whose contract says less.
+/// The bytes of the file at the start; no bytes if a micro-operation makes the file. Only the
+/// contract uses `_ops`, to speak of such files too. A file's record has bytes, so the last `&[]`
+/// isn't reached. `start_bytes` of cs_state has the same body: change both.
 fn start_bytes<'a>(trace: &'a Trace, _ops: &[MicroOp], tables: &Tables, file: usize) -> &'a [u8]
     requires { AreStarts trace.now tables.now.starts.items }
     ensures { whole_content result.now ≡ content_before trace.now _ops.now file }
@@ -44,16 +44,16 @@ fn start_bytes<'a>(trace: &'a Trace, _ops: &[MicroOp], tables: &Tables, file: us
 }
 
 /// Whether both have the same owner, group and permissions.
-pub fn are_same_rights(rights: &Rights, others: &Rights) -> bool
-    ensures { IsTrue result → rights.now ≡ others.now }
+pub fn are_equal_rights(rights: &Rights, other: &Rights) -> bool
+    ensures { IsTrue result → rights.now ≡ other.now }
 {
-    is_same_user(&rights.owner, &others.owner)
-        && is_same_user(&rights.group, &others.group)
-        && rights.permissions == others.permissions
+    is_same_user_name(&rights.owner, &other.owner)
+        && is_same_user_name(&rights.group, &other.group)
+        && rights.permissions == other.permissions
 }
 
-/// Whether both sets leave the file the same size, and the same bytes in the span. `start` has the
-/// file's bytes at the start.
+/// Whether both sets leave the file with the same size and with the same bytes in the span. `start`
+/// has the file's bytes at the start.
 fn are_same_windows(
     alloc: Global,
     pair: &Pair<'_>,
@@ -93,11 +93,11 @@ fn are_same_owners(pair: &Pair<'_>, file: u32, other: u32) -> bool
     let owners = &pair.tables.owners;
     let owner = owner_left(owners, pair.ops, pair.places, file);
     let another = owner_left(owners, pair.ops, pair.others, other);
-    are_same_rights(owner, another)
+    are_equal_rights(owner, another)
 }
 
 /// Whether the file has the same size, owner, group and permissions after both sets, and the same
-/// bytes in the part that the micro-operation can change. False if there is no such file.
+/// bytes where the micro-operation `op` can change them. False if the trace has no such file.
 pub fn is_settled(
     alloc: Global,
     pair: &Pair<'_>,
@@ -115,13 +115,13 @@ pub fn is_settled(
         return Ok(false);
     }
     let start = start_bytes(pair.trace, pair.ops, pair.tables, file as usize);
-    let size = size_left(file, start.len() as u64, pair.ops, pair.places);
-    let span = reach_of(op, floor_of(pair.ops, file), size);
+    let size = size_after_places(file, start.len() as u64, pair.ops, pair.places);
+    let span = span_reached(op, floor_of(pair.ops, file), size);
     are_same_windows(alloc, pair, start, file, span)
 }
 
-/// All bytes of the file after the micro-operations at `places`.
-fn bytes_left(
+/// All bytes of the file after the micro-operations at `places`, which are one of the pair's sets.
+fn all_bytes_left(
     alloc: Global,
     pair: &Pair<'_>,
     places: &[u32],
@@ -142,7 +142,7 @@ fn bytes_left(
 }
 
 /// Whether `file` after the first set has the same bytes, owner, group and permissions as `other`
-/// after the second set. All bytes are compared. False if one of these files doesn't exist.
+/// after the second set. All bytes are compared. False if the trace lacks one of these files.
 pub fn are_same_files(
     alloc: Global,
     pair: &Pair<'_>,
@@ -166,7 +166,7 @@ pub fn are_same_files(
     if !are_same_owners(pair, file, other) {
         return Ok(false);
     }
-    let first_bytes = bytes_left(alloc, pair, pair.places, file)?;
-    let second_bytes = bytes_left(alloc, pair, pair.others, other)?;
+    let first_bytes = all_bytes_left(alloc, pair, pair.places, file)?;
+    let second_bytes = all_bytes_left(alloc, pair, pair.others, other)?;
     Ok(first_bytes == second_bytes)
 }

@@ -3,29 +3,34 @@
 ghost use Rattle.std.specs.Prelude.{IfOk};
 ghost use Rattle.cs_same_states.specs.Fixed.{AreFixed};
 
-use crate::standing::files_in_slots;
-use crate::touched::{Touched, clear};
+use crate::slots::files_in_slots;
+use crate::touched::{Touched, clear_slots};
 use cs_apm::tables::Tables;
-use cs_micro::break_up;
+use cs_micro::{MicroFault, break_up};
 use cs_names::laws::know;
 use cs_plan::Scene;
 use std::alloc::{AllocError, Global};
 
-/// The tables of a trace, the slots that some step changes, and for each file whether it is in
-/// another slot.
+/// The tables of a trace, the slots that some step changes, and for each file whether it is in a
+/// slot that no step changes.
 #[derive(Drop)]
 pub struct Parts {
     pub tables: Tables,
     pub touched: Touched,
-    pub fixed: Vec<bool>,
+    pub in_unchanged_slot: Vec<bool>,
 }
 
-/// For each file, whether it is in a slot whose id is not one of `ids`.
-fn fixed_of(alloc: Global, tables: &Tables, ids: &[u32]) -> Result<Vec<bool>, AllocError>
+/// For each file, whether it is at the start in a slot whose id is not one of `ids`. An error means
+/// out of memory.
+fn files_in_unchanged_slots(
+    alloc: Global,
+    tables: &Tables,
+    ids: &[u32],
+) -> Result<Vec<bool>, AllocError>
     ensures { IfOk result (λ fixed. AreFixed tables.now ids.now fixed.items) }
 {
     let mut slots = Vec::from_slice(alloc, &tables.slots)?;
-    clear(&mut slots, ids);
+    clear_slots(&mut slots, ids);
     files_in_slots(alloc, &slots, tables.owners.len())
 }
 
@@ -33,24 +38,27 @@ impl Parts {
     ghost use Rattle.std.specs.Prelude.{IfOk};
     ghost use Rattle.cs_same_states.specs.Parts.{AreParts};
 
-    /// The parts of the scene's trace. An error means that memory ran out.
+    /// The parts of the scene's trace. An error means out of memory.
     pub fn of(alloc: Global, scene: &Scene) -> Result<Parts, AllocError>
         ensures { IfOk result (AreParts scene.now.trace) }
     {
-        // broken up again, since this says that the micro-operations are legal; they aren't too
-        // many for the scene, so only memory can run out
-        let Ok(micros) = break_up(alloc, scene.trace()) else {
-            return Err(AllocError);
+        // By the contract of `ops`, the trace doesn't have too many micro-operations.
+        know(scene.micros().ops());
+        // Broken up again, since the contract of `break_up` says that they are legal.
+        let micros = match break_up(alloc, scene.trace()) {
+            Ok(micros) => micros,
+            Err(MicroFault::Memory) => return Err(AllocError),
+            Err(MicroFault::TooMany) => unreachable!(),
         };
         let tables = Tables::of(alloc, scene.trace(), &micros)?;
-        // there are few enough micro-operations to number the slots by 32 bits
+        // By the contract of `ops`, they are few enough that the slots can be numbered by 32 bits.
         know(micros.ops());
         let touched = Touched::of(alloc, &tables.slots, &tables.steps)?;
-        let fixed = fixed_of(alloc, &tables, &touched.ids)?;
+        let in_unchanged_slot = files_in_unchanged_slots(alloc, &tables, &touched.ids)?;
         Ok(Parts {
             tables,
             touched,
-            fixed,
+            in_unchanged_slot,
         })
     }
 }

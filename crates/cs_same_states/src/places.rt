@@ -1,4 +1,4 @@
-//! The paths at which the states of a trace may differ. It is for digests only: a wrong digest
+//! The paths at which the states of a trace may differ. This is for digests only: a wrong digest
 //! costs time, never an answer, so nothing here has a contract. A file out of range is skipped.
 use cs_micro::MicroOp;
 use cs_names::Path;
@@ -9,23 +9,24 @@ use std::collections::BTreeMap;
 /// The paths that some micro-operation touches, those of the directories whose rights one sets, and
 /// all paths of the start's files that one changes.
 #[derive(Debug, Drop)]
-pub struct Places {
+pub struct TouchedPaths {
+    /// The paths, each once, in the order in which they were added.
     pub paths: Vec<Path>,
     /// The place of each path in `paths`.
     pub by_path: BTreeMap<Path, usize>,
 }
 
-impl Places {
+impl TouchedPaths {
     /// No paths yet.
-    pub fn new(alloc: Global) -> Places {
-        Places {
+    pub fn new(alloc: Global) -> TouchedPaths {
+        TouchedPaths {
             paths: Vec::new(alloc),
             by_path: BTreeMap::new(alloc),
         }
     }
 
-    /// Adds the path after the others, unless it is there already. After an error the paths must
-    /// not be used.
+    /// Adds the path after the others, unless it is there already. After an error, which means out
+    /// of memory, the paths must not be used.
     fn add(&mut self, alloc: Global, path: &Path) -> Result<(), AllocError> {
         if self.by_path.contains_key(path) {
             return Ok(());
@@ -37,7 +38,7 @@ impl Places {
     }
 
     /// Adds the paths that a file has at the start, which `starts` has by the files' numbers; none
-    /// if an operation makes the file. After an error the paths must not be used.
+    /// if an operation makes the file. An error leaves the paths as `add` does.
     fn add_start(
         &mut self,
         alloc: Global,
@@ -53,8 +54,9 @@ impl Places {
     }
 
     /// Adds the paths of a micro-operation: those that it touches, that of the directory whose
-    /// rights it sets, or those of the start's file that it changes. `starts` has the paths of the
-    /// start's files, by their numbers. After an error the paths must not be used.
+    /// rights it sets, or those of the start's file that it changes; none for an acknowledged line.
+    /// `starts` has the paths of the start's files, by their numbers. `push_effects` has the same
+    /// cases: keep both alike. An error leaves the paths as `add` does.
     pub fn add_touched(
         &mut self,
         alloc: Global,

@@ -19,7 +19,8 @@ pub struct Span {
 }
 
 /// The file whose size, bytes, owner, group or permissions the micro-operation changes; None if it
-/// changes no file.
+/// changes no file. `file_changed` of cs_families and `path_of_changed_file` of cs_list_lines have
+/// the same cases: change all three.
 pub fn changed_file(op: &MicroOp) -> Option<u32>
     ensures { result ≡ reaching.changed_file op.now }
 {
@@ -34,8 +35,8 @@ pub fn changed_file(op: &MicroOp) -> Option<u32>
     }
 }
 
-/// The lesser of `floor` and the size that the micro-operation gives the file; `floor` if it gives
-/// the file none.
+/// The lesser of `floor` and the size that the micro-operation gives the file; `floor` if the
+/// micro-operation gives it none.
 fn floor_after(file: u32, floor: u64, op: &MicroOp) -> u64
     ensures { result ≡ floor_after file floor op.now }
 {
@@ -54,8 +55,8 @@ fn floor_after(file: u32, floor: u64, op: &MicroOp) -> u64
     }
 }
 
-/// The file's floor: the least size that a micro-operation gives it, or FILE_BYTES if none gives it
-/// one. A change of the file's size changes no byte before its floor.
+/// The file's floor: the least size that a micro-operation gives the file, or FILE_BYTES if none
+/// gives it a size. A change of the file's size changes no byte before the floor.
 pub fn floor_of(ops: &[MicroOp], file: u32) -> u64
     ensures { result ≡ floor_in ops.now file }
 {
@@ -66,8 +67,9 @@ pub fn floor_of(ops: &[MicroOp], file: u32) -> u64
     floor
 }
 
-/// The size of the file after a micro-operation; `size` if that doesn't set its size.
-fn size_after(file: u32, size: u64, op: &MicroOp) -> u64
+/// The size of the file after a micro-operation, if its size before is `size`: the same, unless the
+/// micro-operation sets it. As the private `size_after` of cs_state.
+fn size_after_op(file: u32, size: u64, op: &MicroOp) -> u64
     ensures { result ≡ windows.size_after file size op.now }
 {
     match op {
@@ -80,19 +82,20 @@ fn size_after(file: u32, size: u64, op: &MicroOp) -> u64
 }
 
 /// The size of the file after the micro-operations at `places`; `size` is its size before them.
-pub fn size_left(file: u32, size: u64, ops: &[MicroOp], places: &[u32]) -> u64
+pub fn size_after_places(file: u32, size: u64, ops: &[MicroOp], places: &[u32]) -> u64
     requires { All (λ place. place < length ops.now) places.now }
     ensures { result ≡ fold (windows.size_after file) size (map (op_at ops.now) places.now) }
 {
     let mut left = size;
     for place in places {
-        left = size_after(file, left, &ops[*place as usize]);
+        left = size_after_op(file, left, &ops[*place as usize]);
     }
     left
 }
 
-/// The bytes from the offset `from` on and before `end`; none if `end` is not after `from`.
-fn between(from: u64, end: u64) -> Span
+/// The bytes from the offset `from` on and before `end`; none if `end` is not after `from`, so the
+/// difference saturates at 0.
+fn span_between(from: u64, end: u64) -> Span
     ensures few { result.offset + result.count < 2 ^ 64 }
     ensures all { (i : ℕ) → from ≤ i → i < end → (result.offset ≤ i)
         × (i < result.offset + result.count) }
@@ -103,16 +106,16 @@ fn between(from: u64, end: u64) -> Span
     }
 }
 
-/// The bytes before the file's end that the micro-operation can change, if the file has this floor
-/// and this size; none if it changes no file's bytes.
-pub fn reach_of(op: &MicroOp, floor: u64, size: u64) -> Span
+/// The bytes that the micro-operation can change in its file, if that has this floor and this size:
+/// none after the file's end, and none if the micro-operation changes no file's bytes.
+pub fn span_reached(op: &MicroOp, floor: u64, size: u64) -> Span
     requires { IsSmall op.now }
     ensures few { result.offset + result.count < 2 ^ 64 }
     ensures all { (file i : ℕ) → i < size → reaches floor file i op.now ≡ true → (result.offset ≤ i)
         × (i < result.offset + result.count) }
 {
     match op {
-        MicroOp::ChangeFileSize { .. } => between(floor, size),
+        MicroOp::ChangeFileSize { .. } => span_between(floor, size),
         MicroOp::WriteBlock {
             start,
             at,
@@ -120,8 +123,8 @@ pub fn reach_of(op: &MicroOp, floor: u64, size: u64) -> Span
             ..
         } => {
             let from = *start + *at;
-            between(from, size.min(from + bytes.as_slice().len() as u64))
+            span_between(from, size.min(from + bytes.as_slice().len() as u64))
         }
-        _ => between(0, 0),
+        _ => span_between(0, 0),
     }
 }

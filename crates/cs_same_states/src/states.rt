@@ -8,7 +8,7 @@ ghost use Rattle.cs_same_states.specs.Parts.{AreParts};
 
 use crate::digests::Digests;
 use crate::leaving::are_seen_equal;
-use crate::members::{members_of, places_at};
+use crate::members::{member_flags, places_at};
 use crate::parts::Parts;
 use crate::trees::are_same_trees;
 use cs_plan::{MakeFault, Published, Scene};
@@ -16,7 +16,7 @@ use std::alloc::{AllocError, Global};
 use std::collections::BTreeMap;
 use std::sync::Arc;
 
-/// Makes the state of a number that the plan has. An error means that memory ran out.
+/// Makes the state of a number that the plan has. An error means out of memory.
 fn make_known(alloc: Global, scene: &Arc<Scene>, number: u32) -> Result<Published, AllocError>
     requires { number < length (arc_value scene.now).plan }
     ensures { IfOk result (λ made. state_at (arc_value scene.now) number ≡ Some made.tree) }
@@ -24,7 +24,7 @@ fn make_known(alloc: Global, scene: &Arc<Scene>, number: u32) -> Result<Publishe
     match Scene::make(alloc, scene, number) {
         Ok(made) => Ok(made),
         Err(MakeFault::Memory) => Err(AllocError),
-        // the plan has the number
+        // The `requires` says that the plan has the number.
         Err(MakeFault::NoSuchState) => unreachable!(),
     }
 }
@@ -48,8 +48,8 @@ pub fn are_same_states(
     are_same_trees(alloc, made.store(), others.store())
 }
 
-/// Whether the states of two numbers are seen to have equal trees without making them. False means
-/// that they may be equal or not.
+/// Whether the states of two numbers of the plan are seen to have equal trees, without making them.
+/// If false, the trees may be equal or not.
 pub fn are_seen_same(
     alloc: Global,
     scene: &Arc<Scene>,
@@ -69,9 +69,9 @@ pub fn are_seen_same(
     are_seen_equal(alloc, scene, parts, &places, &others)
 }
 
-/// Whether the states of two numbers have equal trees, as `are_same_states`, but they are made only
-/// if `are_seen_same` is false.
-fn are_equal(
+/// Whether the states of two numbers of the plan have equal trees, as `are_same_states`, but the
+/// states are made only if `are_seen_same` is false.
+fn have_equal_trees(
     alloc: Global,
     scene: &Arc<Scene>,
     parts: &Parts,
@@ -92,7 +92,7 @@ fn are_equal(
 }
 
 /// The place in `numbers` of the first number that is less than `number` and whose state has the
-/// same tree as the state of `number`. None if there is none.
+/// same tree as the state of `number`; None if `numbers` has no such number.
 fn place_among(
     alloc: Global,
     scene: &Arc<Scene>,
@@ -111,17 +111,18 @@ fn place_among(
         ≡ state_at (arc_value scene.now) number)) }
 {
     for (place, other) in numbers.iter().enumerate() {
-        if *other < number && are_equal(alloc, scene, parts, *other, number)? {
+        if *other < number && have_equal_trees(alloc, scene, parts, *other, number)? {
             return Ok(Some(place));
         }
     }
     Ok(None)
 }
 
-/// The first state with the same tree as the next state: its number, or the next state's own number
-/// if no earlier state has the same tree. The next state is the one whose number is the length of
-/// `firsts`; `digest` is its digest. `found` has, by digest, the latest state of each tree: states
-/// with close numbers differ by little, so they are compared fast. The next state is put into it.
+/// The number of the first state with the tree of the next state, or the next state's own number if
+/// no earlier state has that tree. The next state's number is the length of `firsts`, and `digest`
+/// is its digest. `found` has, by digest, the latest state of each tree, since states with close
+/// numbers differ by little and are compared fast. The next state is put into `found`; an error,
+/// which means out of memory, leaves `found` as it was.
 fn first_of(
     alloc: Global,
     scene: &Arc<Scene>,
@@ -151,7 +152,8 @@ fn first_of(
     Ok(firsts[last as usize])
 }
 
-/// The digest of the plan's state of this number.
+/// The digest of the plan's state of this number. A wrong digest costs only time, so no clause says
+/// what the digest is. After an error, `digests` can still be used.
 fn digest_at(
     alloc: Global,
     scene: &Arc<Scene>,
@@ -161,13 +163,14 @@ fn digest_at(
     requires { number < length (arc_value scene.now).plan }
 {
     let places = places_at(alloc, scene, number)?;
-    let members = members_of(alloc, scene.order().len(), &places)?;
+    let members = member_flags(alloc, scene.order().len(), &places)?;
     digests.digest_of_state(alloc, scene, number, &members)
 }
 
-/// For each state of the plan, by its number, the number of the first one with an equal tree: its
-/// own, if no earlier one has it. States are compared only if their digests are the same. A digest
-/// is computed from the paths that operations touch and the blocks that they write.
+/// For each state of the plan, by its number, the number of the first state with an equal tree: its
+/// own if there is no earlier one. That it is the first rests on the digests, since only states
+/// with equal digests are compared; the contract says that its tree is equal and that it isn't
+/// later. An error means out of memory.
 pub fn first_same(alloc: Global, scene: &Arc<Scene>) -> Result<Vec<u32>, AllocError>
     ensures { IfOk result (λ firsts. AreFirsts (arc_value scene.now) firsts.items) }
 {

@@ -1,5 +1,6 @@
 //! The slots that some step changes, and the steps renumbered to these slots. The other slots have
-//! the same in every state, so the slots of two states are compared without them.
+//! the same in every state, so the slots of two states are compared without them. A slot's id is
+//! its place among all slots. An error means out of memory; the caller then drops the ids.
 ghost use Rattle.std.specs.Prelude.{◌≡◌, ◌+◌, ◌*◌, ◌<◌, ◌≤◌, ◌^◌, ℕ, fold, length, map, None, IfOk};
 ghost use Rattle.std.specs.Prelude.{IfSome, OnOk};
 ghost use Rattle.std.specs.List.{All};
@@ -22,8 +23,8 @@ pub struct Touched {
     pub steps: Vec<Step>,
 }
 
-/// The place of the slot's id in `ids`; None if it isn't there.
-fn place_of(ids: &[u32], id: u32) -> Option<usize>
+/// The place of the slot's id in `ids`; None if `ids` doesn't have the id.
+fn place_of_id(ids: &[u32], id: u32) -> Option<usize>
     ensures found { IfSome result (HasRank ids.now id) }
     ensures none { result ≡ None → IsUnlisted ids.now id }
 {
@@ -35,12 +36,12 @@ fn place_of(ids: &[u32], id: u32) -> Option<usize>
     None
 }
 
-/// The place of the slot's id in `ids`, to which the id is appended if it isn't there.
+/// The place of the slot's id in `ids`. An id that isn't there is appended first.
 fn place_or_append(ids: &mut Vec<u32>, id: u32) -> Result<u32, AllocError>
     requires { length ids.old.items < 2 ^ 32 }
     ensures { IfOk result (IsRank ids.old.items ids.new.items id) }
 {
-    if let Some(place) = place_of(ids, id) {
+    if let Some(place) = place_of_id(ids, id) {
         return Ok(place as u32);
     }
     let place = ids.len() as u32;
@@ -48,7 +49,7 @@ fn place_or_append(ids: &mut Vec<u32>, id: u32) -> Result<u32, AllocError>
     Ok(place)
 }
 
-/// The step with its slots' places in `ids` in place of their ids. Ids that aren't there are
+/// The step, with the places in `ids` of its slots instead of their ids. Ids that aren't there are
 /// appended.
 fn renumber(ids: &mut Vec<u32>, step: Step) -> Result<Step, AllocError>
     requires { length ids.old.items + 2 < 2 ^ 32 }
@@ -63,13 +64,13 @@ fn renumber(ids: &mut Vec<u32>, step: Step) -> Result<Step, AllocError>
             let to = place_or_append(ids, to)?;
             Ok(Step::Move(from, to))
         }
-        Step::Own(id, rights) => Ok(Step::Own(place_or_append(ids, id)?, rights)),
+        Step::SetRights(id, rights) => Ok(Step::SetRights(place_or_append(ids, id)?, rights)),
         Step::Other => Ok(Step::Other),
     }
 }
 
-/// The steps, each as `renumber` makes it. `ids` is empty at first, and gets the id of each slot
-/// that a step changes.
+/// The steps, each as `renumber` makes it. `ids` is empty at first, and afterwards has the id of
+/// each slot that a step changes, once. At most 2^20 steps have less than 2^32 ids, two each.
 fn renumber_all(alloc: Global, ids: &mut Vec<u32>, steps: &[Step]) -> Result<Vec<Step>, AllocError>
     requires none { length ids.old.items ≡ 0 }
     requires few { length steps.now ≤ 2 ^ 20 }
@@ -94,7 +95,7 @@ fn slots_at(alloc: Global, slots: &[Slot], ids: &[u32]) -> Result<Vec<Slot>, All
 }
 
 /// Empties the slots of these ids; an id out of range is skipped.
-pub fn clear(slots: &mut [Slot], ids: &[u32])
+pub fn clear_slots(slots: &mut [Slot], ids: &[u32])
     ensures long { length slots.new ≡ length slots.old }
     ensures others { (id : ℕ) → IsUnlisted ids.now id
         → slot_at slots.new id ≡ slot_at slots.old id }
@@ -107,7 +108,8 @@ pub fn clear(slots: &mut [Slot], ids: &[u32])
 }
 
 impl Touched {
-    /// The slots that one of the steps changes, with the steps renumbered.
+    /// The slots that one of the steps changes, with the steps renumbered. There are at most 2^20
+    /// steps, as for `renumber_all`.
     pub fn of(alloc: Global, slots: &[Slot], steps: &[Step]) -> Result<Touched, AllocError>
         requires { length steps.now ≤ 2 ^ 20 }
         ensures { IfOk result (λ touched. AreListed slots.now steps.now touched) }
@@ -118,7 +120,8 @@ impl Touched {
         Ok(Touched { ids, slots, steps })
     }
 
-    /// What the steps at `places`, made in this order from the start, leave in these slots.
+    /// What the steps at `places` leave in these slots, if they are made in this order from the
+    /// start.
     pub fn slots_left(&self, alloc: Global, places: &[u32]) -> Result<Vec<Slot>, AllocError>
         requires fit { All (FitsIn (length self.now.slots.items)) self.now.steps.items }
         requires inside { All (λ place. place < length self.now.steps.items) places.now }

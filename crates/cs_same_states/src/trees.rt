@@ -1,4 +1,4 @@
-//! Whether two trees are equal.
+//! Whether two trees are equal. A file may be a directory here, as in `TreeRead`.
 ghost use Rattle.std.specs.Prelude.{◌≡◌, ◌↔◌, IfOk, IsTrue};
 ghost use Rattle.cs_tree_model.specs.Record.{metadata_of};
 ghost use Rattle.cs_tree_model.specs.Tree.{bytes_at, name_numbered, parent_numbered};
@@ -12,9 +12,9 @@ use cs_names::laws::know;
 use cs_tree_model::{Kind, TreeRead};
 use std::alloc::{AllocError, Global};
 
-/// Whether the file of that number is in the same directory in both trees; true if neither has such
-/// a file.
-fn are_same_parents<A: TreeRead, B: TreeRead>(tree: &A, other: &B, number: u64) -> bool
+/// Whether the file of that number is in the same directory in both trees; true if neither tree has
+/// such a file.
+fn have_same_parent<A: TreeRead, B: TreeRead>(tree: &A, other: &B, number: u64) -> bool
     ensures { IsTrue result ↔
         (parent_numbered (A.tree tree.now) number ≡ parent_numbered (B.tree other.now) number) }
 {
@@ -32,9 +32,9 @@ fn is_same_name(name: Option<&Name>, other: Option<&Name>) -> bool
     }
 }
 
-/// Whether the file of that number has the same name in both trees; true if neither has such a
+/// Whether the file of that number has the same name in both trees; true if neither tree has such a
 /// file.
-fn are_same_names<A: TreeRead, B: TreeRead>(tree: &A, other: &B, number: u64) -> bool
+fn have_same_name<A: TreeRead, B: TreeRead>(tree: &A, other: &B, number: u64) -> bool
     ensures { IsTrue result ↔
         (name_numbered (A.tree tree.now) number ≡ name_numbered (B.tree other.now) number) }
 {
@@ -42,8 +42,8 @@ fn are_same_names<A: TreeRead, B: TreeRead>(tree: &A, other: &B, number: u64) ->
 }
 
 /// Whether the first `count` bytes of the file of that number are the same in both trees; true if
-/// neither has such a file.
-fn are_same_bytes<A: TreeRead, B: TreeRead>(
+/// neither tree has such a file.
+fn have_same_bytes<A: TreeRead, B: TreeRead>(
     alloc: Global,
     tree: &A,
     other: &B,
@@ -59,9 +59,9 @@ fn are_same_bytes<A: TreeRead, B: TreeRead>(
     Ok(bytes == others)
 }
 
-/// Whether the file of that number has the same record in both trees, with the same bytes; true if
-/// neither has such a file.
-fn are_same_records<A: TreeRead, B: TreeRead>(
+/// Whether the file of that number has the same record in both trees, and the same bytes; true if
+/// neither tree has such a file.
+fn have_same_record<A: TreeRead, B: TreeRead>(
     alloc: Global,
     tree: &A,
     other: &B,
@@ -82,12 +82,12 @@ fn are_same_records<A: TreeRead, B: TreeRead>(
     }
     match metadata.kind {
         Kind::Directory => Ok(true),
-        Kind::File { length } => are_same_bytes(alloc, tree, other, number, length as usize),
+        Kind::File { length } => have_same_bytes(alloc, tree, other, number, length as usize),
     }
 }
 
-/// Whether the file of that number has the same directory, name and record in both trees; true if
-/// neither has such a file.
+/// Whether the file of that number has the same directory, name, record and bytes in both trees;
+/// true if neither tree has such a file.
 fn are_same_at<A: TreeRead, B: TreeRead>(
     alloc: Global,
     tree: &A,
@@ -97,13 +97,13 @@ fn are_same_at<A: TreeRead, B: TreeRead>(
     ensures { IfOk result
         (λ same. IsTrue same ↔ AreSameAt (A.tree tree.now) (B.tree other.now) number) }
 {
-    if !are_same_parents(tree, other, number) {
+    if !have_same_parent(tree, other, number) {
         return Ok(false);
     }
-    if !are_same_names(tree, other, number) {
+    if !have_same_name(tree, other, number) {
         return Ok(false);
     }
-    are_same_records(alloc, tree, other, number)
+    have_same_record(alloc, tree, other, number)
 }
 
 /// Whether two trees are equal: they have the same paths, and at each the same record with the same
@@ -116,7 +116,7 @@ pub fn are_same_trees<A: TreeRead, B: TreeRead>(
 ) -> Result<bool, AllocError>
     ensures { IfOk result (λ same. IsTrue same ↔ (A.tree tree.now ≡ B.tree other.now)) }
 {
-    // both are trees
+    // By the contract of `count`, both are trees.
     know((tree.count(), other.count()));
     let last = tree.last_number();
     if last != other.last_number() {

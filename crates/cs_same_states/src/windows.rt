@@ -11,15 +11,15 @@ use cs_micro::MicroOp;
 use cs_state::file_part::{copy_part, write_piece, zero_past};
 use std::alloc::{AllocError, Global};
 
-/// Bytes of a file from an offset on, zeros past its end, and its size.
+/// The file's size, and some of its bytes from an offset on, with zeros past the file's end.
 #[derive(Debug, Drop)]
 pub struct Window {
     pub size: u64,
     pub bytes: Vec<u8>,
 }
 
-/// Zeroes what a change of the file's size from `size` to `to` cuts off, in the part of the file
-/// that begins at the offset. A change to a greater size cuts nothing off.
+/// Zeroes in the part of the file that begins at the offset what a change of the file's size from
+/// `size` to `to` cuts off. A change to the same or a greater size cuts nothing off.
 fn zero_cut(part: &mut [u8], offset: usize, size: u64, to: u64)
     ensures long { length part.new ≡ length part.old }
     ensures window { (f : Content) → IsWindow offset f size part.old
@@ -32,7 +32,7 @@ fn zero_cut(part: &mut [u8], offset: usize, size: u64, to: u64)
 
 /// Applies the micro-operation to the part of the file that begins at the offset, if it changes
 /// that file. Returns the file's size after it; `size` is the one before.
-fn apply_op(part: &mut [u8], offset: usize, size: u64, file: u32, op: &MicroOp) -> u64
+fn apply_to_window(part: &mut [u8], offset: usize, size: u64, file: u32, op: &MicroOp) -> u64
     requires room { offset + length part.old < 2 ^ 64 }
     requires small { IsSmall op.now }
     ensures long { length part.new ≡ length part.old }
@@ -57,13 +57,14 @@ fn apply_op(part: &mut [u8], offset: usize, size: u64, file: u32, op: &MicroOp) 
             write_piece(part, offset, from, bytes.as_slice());
             size
         }
-        _ => size,
+        // `changes_file` is false for all others
+        _ => unreachable!(),
     }
 }
 
 /// Applies the micro-operations at `places`, in this order, to the part of the file that begins at
 /// the offset. Returns the file's size after them; `size` is the one before.
-fn apply_members(
+fn apply_places(
     part: &mut [u8],
     offset: usize,
     size: u64,
@@ -80,7 +81,7 @@ fn apply_members(
 {
     let mut left = size;
     for place in places {
-        left = apply_op(part, offset, left, file, &ops[*place as usize]);
+        left = apply_to_window(part, offset, left, file, &ops[*place as usize]);
     }
     left
 }
@@ -105,6 +106,6 @@ pub fn window_left(
         window.size window.bytes.items) }
 {
     let mut bytes = copy_part(alloc, start, offset, count)?;
-    let size = apply_members(&mut bytes, offset, start.len() as u64, file, ops, places);
+    let size = apply_places(&mut bytes, offset, start.len() as u64, file, ops, places);
     Ok(Window { size, bytes })
 }

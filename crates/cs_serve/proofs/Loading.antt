@@ -1,23 +1,15 @@
 -- A users file that is loaded into a world, or isn't kept.
-use Rattle.std.proofs.Common.{◌≡◌, ℕ, List, Bool, true, false, cond, refl, ap, subst}
+use Rattle.std.proofs.Common.{◌≡◌, ℕ, List, refl, subst}
 use Rattle.std.specs.Prelude.{Ok}
-use Rattle.cs_registry.specs.Registries.{with_users}
 use Rattle.cs_serve.specs.Printed.{Loaded, Taken, NotKept, refused_text, reloaded_text}
 use Rattle.cs_users.specs.Reading.{users_in}
 use Rattle.cs_users.specs.Rows.{Row}
 use Rattle.cs_users.specs.declared.fault.UsersFault.TheVariants.{Memory}
-use Rattle.cs_world.specs.Marks.{refuses_users}
-use Rattle.cs_world.specs.Steps.{by_registry, IsStep}
+use Rattle.cs_world.specs.Steps.{IsStep}
 use Rattle.cs_world.specs.Worlds.{World}
 use Rattle.cs_world.specs.declared.reply.Reply.{Reply}
 use Rattle.cs_world.specs.declared.reply.Reply.TheVariants.{NotReloaded, Reloaded}
 use Rattle.cs_world.specs.declared.step.Step.TheVariants.{Reload}
-
-not_taken : (w w' : World) (users : List Row) (reply : Reply) (refused : Bool)
-    → (reply, w') ≡ by_registry w (cond refused (NotReloaded, w.registry) (Reloaded, with_users w.registry users)) → (reply ≡ Reloaded → ⊥)
-    → reply ≡ NotReloaded
-not_taken w w' users reply true e not = ap (λ (x : Reply × World). x.0) e
-not_taken w w' users reply false e not = absurd (not (ap (λ (x : Reply × World). x.0) e))
 
 pub taken : (w w' : World) (file : List ℕ) (users : List Row) (reply : Reply) → users_in file ≡ Ok users → IsStep w (Reload users) reply w'
     → reply ≡ Reloaded → Loaded w file reloaded_text w'
@@ -25,7 +17,6 @@ taken w w' file users reply read step is = Taken users read (subst (λ (r : Repl
 
 -- users that aren't taken aren't kept
 pub not_kept : (w w' : World) (file : List ℕ) (users : List Row) (reply : Reply) → users_in file ≡ Ok users
-    → IsStep w (Reload users) reply w' → (reply ≡ Reloaded → ⊥) → Loaded w file (refused_text Memory) w'
-not_kept w w' file users reply read step not =
-    NotKept users read
-    (subst (λ (r : Reply). IsStep w (Reload users) r w') (not_taken w w' users reply (refuses_users step.0) step.1 not) step) refl
+    → IsStep w (Reload users) reply w' → reply ≡ NotReloaded → Loaded w file (refused_text Memory) w'
+not_kept w w' file users reply read step is =
+    NotKept users read (subst (λ (r : Reply). IsStep w (Reload users) r w') is step) refl

@@ -5,7 +5,8 @@ use crate::fault::ProgramFault;
 use std::io::Write;
 
 /// The status of a command that ended with `done`: 0, or 1 if it failed, which one line on `err`
-/// reports. `out` is flushed first; if only the flush fails, the fault is Output.
+/// reports. `out` is flushed first; if only the flush fails, the fault is Output. A failed write to
+/// `err` is passed over.
 pub(crate) fn exit_status<W: Write, E: Write>(
     done: Result<(), ProgramFault>,
     out: &mut W,

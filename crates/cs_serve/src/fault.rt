@@ -10,7 +10,7 @@ use thiserror::Error;
 /// Why a command ends with status 1. Its text comes after `crashfs: ` on standard error.
 #[derive(Debug, Drop, Error)]
 pub enum ProgramFault {
-    /// The trace is no UTF-8.
+    /// The trace isn't UTF-8.
     #[error("trace: NotText")]
     TraceNotText,
     /// A line of the trace is at fault.
@@ -22,7 +22,7 @@ pub enum ProgramFault {
     /// A line of the picks is at fault.
     #[error("{0}")]
     Picks(PicksFault),
-    /// The trace has no plan of states.
+    /// No plan of states can be made of the trace and the picks.
     #[error("{0}")]
     Scene(SceneFault),
     /// A line of the script is at fault; lines count from 1.
@@ -34,10 +34,13 @@ pub enum ProgramFault {
     /// Not all states were published.
     #[error("publishing failed")]
     Publishing,
+    /// Standard input can't be read to its end.
     #[error("input failed")]
     Input,
+    /// Standard output can't be written or flushed.
     #[error("output failed")]
     Output,
+    /// An allocation failed.
     #[error("out of memory")]
     Memory,
 }

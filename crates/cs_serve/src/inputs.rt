@@ -19,13 +19,13 @@ pub struct Inputs<'a> {
     pub users: &'a [u8],
     pub trace: &'a [u8],
     pub picks: &'a [u8],
-    /// Whether the states of prefixes with a hole are asked for.
+    /// Whether the plan has states of prefixes with a hole too.
     pub holes: bool,
     /// Whether each message is also printed on standard error.
     pub verbose: bool,
 }
 
-/// The trace that the bytes spell. An error is TraceNotText if they are no UTF-8, else the fault of
+/// The trace that the bytes spell. An error is TraceNotText if they aren't UTF-8, else the fault of
 /// the first line at fault, or Memory.
 fn trace_of(alloc: Global, trace: &[u8]) -> Result<Trace, ProgramFault>
     ensures read { IfOk result (λ read. trace_in trace.now ≡ Ok read) }
@@ -41,8 +41,8 @@ fn trace_of(alloc: Global, trace: &[u8]) -> Result<Trace, ProgramFault>
     }
 }
 
-/// The scene of the inputs. An error is the first fault: of the trace, then of the picks' lines,
-/// and then of the scene that is made of both.
+/// The scene of the inputs. An error is Memory, or the first fault: of the trace, then of the lines
+/// of picks, and then of the scene that is made of both.
 pub fn scene_of(alloc: Global, inputs: &Inputs) -> Result<Scene, ProgramFault>
     ensures scene { IfOk result (IsScene inputs.now) }
     ensures fault { IfErr result IsOfNoStream }
@@ -52,7 +52,7 @@ pub fn scene_of(alloc: Global, inputs: &Inputs) -> Result<Scene, ProgramFault>
     Ok(Scene::of(alloc, trace, inputs.holes, picks)?)
 }
 
-/// The users of a users file. An error is the file's first fault, or out of memory.
+/// The users of a users file. An error is the file's first fault, or Memory.
 pub fn users_of(alloc: Global, users: &[u8]) -> Result<Users, ProgramFault>
     ensures read { IfOk result (λ read. users_in users.now ≡ Ok read) }
     ensures fault { IfErr result IsOfNoStream }

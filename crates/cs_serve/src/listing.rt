@@ -37,6 +37,7 @@ pub fn list_to<S: Stream>(
 pub fn list_of<W: Write, E: Write>(alloc: Global, inputs: &Inputs, out: &mut W, err: &mut E) -> u8
     ensures { result ≤ 1 }
 {
+    // the command reads nothing
     let mut stream = TwoEnded::new(b"".as_slice(), &mut *out);
     let done = list_to(alloc, inputs, &mut stream);
     exit_status(done, out, err)

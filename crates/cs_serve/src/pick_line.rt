@@ -8,22 +8,23 @@ use cs_plan::Places;
 use serde_json::Value;
 use std::alloc::{AllocError, Global};
 
-/// The place that a JSON value is; None unless it is a whole number of 32 bits, without sign, point
-/// or exponent.
-fn place_of(value: &Value) -> Option<u32>
+/// A JSON value as a place; None unless it is a whole number of 32 bits, without sign, point or
+/// exponent.
+fn as_place(value: &Value) -> Option<u32>
     ensures { result ≡ place_of (view value.now) }
 {
     let number = value.as_u64()?;
     u32::try_from(number).ok()
 }
 
-/// The places that JSON values are; None unless each is one. The only error is out of memory.
-fn places_of(alloc: Global, values: &[Value]) -> Result<Option<Places>, AllocError>
+/// JSON values as places; None unless each of them is one. No values give no places. The only error
+/// is out of memory.
+fn as_places(alloc: Global, values: &[Value]) -> Result<Option<Places>, AllocError>
     ensures { IfOk result (λ places. places ≡ places_of (items_view values.now)) }
 {
     let mut places = Vec::new(alloc);
     for value in values {
-        let Some(place) = place_of(value) else {
+        let Some(place) = as_place(value) else {
             return Ok(None);
         };
         places.push(place)?;
@@ -37,7 +38,7 @@ fn places_in(alloc: Global, value: &Value) -> Result<Option<Places>, AllocError>
     ensures { IfOk result (λ places. places ≡ places_in (view value.now)) }
 {
     match value.as_array() {
-        Some(values) => places_of(alloc, values),
+        Some(values) => as_places(alloc, values),
         None => Ok(None),
     }
 }

@@ -11,7 +11,7 @@ use cs_plan::Places;
 use std::alloc::Global;
 
 /// Appends the pick of the line of that number; nothing if the line is empty. The error is Syntax
-/// if the line is no array of places, or Memory.
+/// if the line isn't an array of places, or Memory. After an error the picks are as they were.
 fn push_pick(
     alloc: Global,
     picks: &mut Vec<Places>,
@@ -36,8 +36,9 @@ fn push_pick(
 }
 
 /// The picks of a file: in each line an array of places, as `[0,2,5]` in JSON. Lines are cut at
-/// line feeds, and empty ones are skipped. The error is Syntax at the first line that is no such
-/// array, also at one of only blanks; or Memory if an allocation failed before such a line.
+/// line feeds, and empty ones are skipped; an empty file has no picks. The error is Syntax at the
+/// first line that isn't such an array, also at one of only blanks; or Memory if an allocation
+/// failed before such a line.
 pub fn read_picks(alloc: Global, bytes: &[u8]) -> Result<Vec<Places>, PicksFault>
     ensures read { IfOk result (λ picks. picks_in bytes.now ≡ Ok picks.items) }
     ensures fault { IfErr result (λ fault. fault ≢ Memory → picks_in bytes.now ≡ Err fault) }

@@ -1,4 +1,4 @@
-//! Why a picks file is not read.
+//! Why a picks file can't be read.
 ghost use Rattle.std.specs.Prelude.{◌≡◌, Some};
 ghost use Rattle.cs_serve.specs.PicksFaults.{fault_text};
 ghost use Rattle.cs_serve.specs.declared.picks_fault.PicksFault.TheVariants.{Memory};
@@ -6,19 +6,19 @@ ghost use Rattle.cs_serve.specs.declared.picks_fault.PicksFault.TheVariants.{Mem
 use std::alloc::AllocError;
 use std::fmt;
 
-/// Why a picks file is not read.
+/// Why a picks file can't be read.
 #[derive(Clone, Copy, Debug, PartialEq, Eq)]
 pub enum PicksFault {
-    /// The line of this number, from 1, is no array of places. It is the first such line.
+    /// The line of this number, from 1, isn't an array of places. It is the first such line.
     Syntax(usize),
-    /// No memory to keep the picks.
+    /// An allocation failed.
     Memory,
 }
 
 impl fmt::Display for PicksFault {
     ghost output = { λ fault. Some (fault_text fault) };
 
-    /// Writes the fault as a short text.
+    /// Writes `picks line 3: Syntax` or the like; Memory is `out of memory`.
     fn fmt<W: fmt::Write>(&self, f: &mut fmt::Formatter<W>) -> fmt::Result {
         match self {
             PicksFault::Syntax(line) => write!(f, "picks line {line}: Syntax"),
@@ -30,7 +30,7 @@ impl fmt::Display for PicksFault {
 impl From<AllocError> for PicksFault {
     ghost from_gives = { λ _ fault. fault ≡ Memory };
 
-    /// An allocation that failed is Memory.
+    /// An allocation that fails is Memory.
     fn from(_refused: AllocError) -> PicksFault {
         PicksFault::Memory
     }

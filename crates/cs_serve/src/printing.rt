@@ -1,4 +1,5 @@
-//! The lines of a script's output, and how a text is written to a stream.
+//! The lines of a script's output, each made with its line feed at the end, and how a text is
+//! written to a stream. The only error of a `_text` function is out of memory.
 ghost use Rattle.std.specs.Prelude.{◌≡◌, IfErr, IfOk, string_bytes};
 ghost use Rattle.cs_wire.specs.Messages.{Fits, r_view};
 ghost use Rattle.cs_stream.specs.Streams.{KeepsFaults, KeepsReads};
@@ -13,7 +14,7 @@ use std::alloc::{AllocError, Global};
 use std::io::Write;
 
 /// The line of a reply: the connection's number, a space, and the reply's bytes in lower case
-/// hexadecimal.
+/// hexadecimal. The reply must fit a message.
 pub(crate) fn reply_text(alloc: Global, conn: u32, reply: &RMessage) -> Result<String, AllocError>
     requires { Fits (r_view reply.now) }
     ensures { IfOk result (λ text. string_bytes text ≡ reply_text conn (r_view reply.now)) }
@@ -31,22 +32,23 @@ pub(crate) fn closed_text(alloc: Global, conn: u32) -> Result<String, AllocError
     format!(in alloc; "{conn} closed\n")
 }
 
-/// The line of a users file that was loaded: `reloaded`.
+/// The line of a reload that was done: `reloaded`.
 pub(crate) fn reloaded_text(alloc: Global) -> Result<String, AllocError>
     ensures { IfOk result (λ text. string_bytes text ≡ reloaded_text) }
 {
     String::from_str(alloc, "reloaded\n")
 }
 
-/// The line of a users file that was not loaded: `reload refused` and the fault.
+/// The line of a reload that was refused: `reload refused: ` and the fault.
 pub(crate) fn refused_text(alloc: Global, fault: UsersFault) -> Result<String, AllocError>
     ensures { IfOk result (λ text. string_bytes text ≡ refused_text fault) }
 {
     format!(in alloc; "reload refused: {fault}\n")
 }
 
-/// Writes a text to a stream. Up to 999 interruptions in a row are tried again; a write that takes
-/// no byte is a fault. After an error some of the text, from the front, was written, or none.
+/// Writes a text to a stream. The error is Output if a write fails, takes no byte, or is the
+/// thousandth in a row that is interrupted. After it some of the text, from the front, was written,
+/// or none.
 pub(crate) fn print<S: Stream>(stream: &mut S, text: &[u8]) -> Result<(), ProgramFault>
     ensures written { Writes result (S.contents stream.old) (S.contents stream.new) text.now }
     ensures fault { IfErr result (BlamesOutput (S.counts stream.old) (S.counts stream.new)) }
@@ -62,6 +64,7 @@ pub(crate) fn print<S: Stream>(stream: &mut S, text: &[u8]) -> Result<(), Progra
 
 /// Writes a text to a writer, as `print` does.
 pub fn print_to<W: Write>(out: &mut W, text: &[u8]) -> Result<(), ProgramFault> {
+    // nothing is read
     let mut stream = TwoEnded::new(b"".as_slice(), out);
     print(&mut stream, text)
 }

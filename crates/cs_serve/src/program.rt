@@ -24,8 +24,9 @@ struct Prepared {
     lines: Vec<ScriptLine>,
 }
 
-/// Publishes all states in a new world, reads all of the input, and checks every line of it. Writes
-/// nothing.
+/// Publishes all states in a new world, reads all of the input, and checks every line of it. It
+/// writes nothing, and returns the world and the lines. After an error none, some or all of the
+/// input was read.
 fn prepare<S: Stream>(
     alloc: Global,
     inputs: &Inputs,

@@ -10,8 +10,9 @@ use cs_world::{Reply, Step, World};
 use std::alloc::Global;
 use std::sync::Arc;
 
-/// Publishes the states with numbers less than `count`. A publish that is refused ends it, as out
-/// of memory: in a new world of `count` states or more there is no other cause.
+/// Publishes the states with numbers less than `count`. A refused publish ends the call with
+/// Memory: in a new world of `count` states or more there is no other cause. The states before that
+/// one stay published.
 fn publish_each(alloc: Global, world: &mut World, count: u32) -> Result<(), ProgramFault>
     ensures published { OnOk result (world.new ≡ with_first world.old count) }
     ensures fault { IfErr result IsOfNoStream }
@@ -19,8 +20,9 @@ fn publish_each(alloc: Global, world: &mut World, count: u32) -> Result<(), Prog
     for number in 0..count {
         match world.step(alloc, Step::Publish(number)) {
             Reply::Published => {}
-            Reply::NotPublished(_) | Reply::Reloaded | Reply::NotReloaded | Reply::Connection(_) =>
-                return Err(ProgramFault::Memory),
+            Reply::NotPublished(_) => return Err(ProgramFault::Memory),
+            // no publish has these replies
+            Reply::Reloaded | Reply::NotReloaded | Reply::Connection(_) => unreachable!(),
         }
     }
     Ok(())
@@ -32,6 +34,7 @@ pub fn world_of(alloc: Global, scene: Scene, users: Users) -> Result<World, Prog
     ensures world { IfOk result (λ world. world ≡ served_world scene users) }
     ensures fault { IfErr result IsOfNoStream }
 {
+    // a plan has at most PLAN_STATES states
     let count = scene.plan().len() as u32;
     let (Ok(scene), Ok(users)) = (Arc::new(alloc, scene), Arc::new(alloc, users)) else {
         return Err(ProgramFault::Memory);

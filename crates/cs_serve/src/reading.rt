@@ -10,12 +10,13 @@ use cs_names::limits::{CONNECTION_READS, INTERRUPTIONS};
 use cs_stream::{Stream, Transfer};
 use std::alloc::Global;
 
-/// How many bytes are read at once.
+/// How many bytes a read can give at most. Any number above 0 gives the same bytes in the end.
 const ROOM: usize = 65_536;
 
 /// Reads to the end of the stream, and returns the bytes. An interrupted read is tried again, up to
-/// 999 in a row. The error is Input if a read fails, the thousandth in a row is interrupted, or the
-/// end isn't reached in 4,294,967,295 reads, counting the interrupted ones; or Memory.
+/// 999 in a row, as `write_all` of cs_stream does with writes. The error is Input if a read fails,
+/// the thousandth in a row is interrupted, or the end isn't reached in 4,294,967,295 reads, the
+/// interrupted ones included; or Memory. After an error the bytes that were read are lost.
 pub(crate) fn read_all<S: Stream>(alloc: Global, stream: &mut S) -> Result<Vec<u8>, ProgramFault>
     ensures bytes { IfOk result (λ bytes.
         Consumes (S.remaining stream.old) (S.remaining stream.new) bytes.items) }
@@ -51,5 +52,6 @@ pub(crate) fn read_all<S: Stream>(alloc: Global, stream: &mut S) -> Result<Vec<u
             }
         }
     }
+    // the end isn't reached in that many reads
     Err(ProgramFault::Input)
 }

@@ -20,7 +20,8 @@ use cs_world::{Reply, Step, World};
 use std::alloc::{AllocError, Global};
 use std::io::Write;
 
-/// Prints a message and its reply as text on `err`, if `verbose`.
+/// Prints a message and its reply as text on `err`, if `verbose`; of bytes that can't be decoded,
+/// also because memory runs out, the fault. A failed write is passed over.
 fn print_if_verbose<E: Write>(
     alloc: Global,
     conn: u32,
@@ -35,8 +36,8 @@ fn print_if_verbose<E: Write>(
 }
 
 /// Answers a message, and returns the line of the reply. If `verbose`, both are also printed on
-/// `err`. The only error is that memory for the line runs out; the message was answered then.
-fn send<E: Write>(
+/// `err`. The only error is that memory for the line runs out, after the message was answered.
+fn answer_message<E: Write>(
     alloc: Global,
     world: &mut World,
     conn: u32,
@@ -57,9 +58,14 @@ fn send<E: Write>(
     reply_text(alloc, conn, &reply)
 }
 
-/// Ends a connection, and returns the line of the hang-up. The only error is that memory for the
-/// line runs out; the connection has ended then.
-fn hang_up(alloc: Global, world: &mut World, conn: u32, now: u32) -> Result<String, AllocError>
+/// Ends a connection, unless a run awaits its attach, and returns the line of the hang-up. The only
+/// error is that memory for the line runs out, after the connection has ended.
+fn end_connection(
+    alloc: Global,
+    world: &mut World,
+    conn: u32,
+    now: u32,
+) -> Result<String, AllocError>
     requires connection { conn < CONNECTIONS }
     ensures ok { IfOk result (λ text.
         Acts world.old conn now HangUp (string_bytes text) world.new) }
@@ -69,38 +75,38 @@ fn hang_up(alloc: Global, world: &mut World, conn: u32, now: u32) -> Result<Stri
     closed_text(alloc, conn)
 }
 
-/// Does on a connection what a line of the script asks, and returns the line of the outcome. The
-/// only error is that memory for the returned line runs out; what was asked is done then.
-fn act<E: Write>(
+/// Takes the action of a line of the script on its connection, and returns the line of the outcome.
+/// The only error is that memory for the returned line runs out, after the action was taken.
+fn act_on_connection<E: Write>(
     alloc: Global,
     world: &mut World,
-    asked: &ScriptAct,
+    act: &ScriptAct,
     verbose: bool,
     err: &mut E,
 ) -> Result<String, AllocError>
-    ensures ok { IfOk result (λ text. Acts world.old asked.now.conn asked.now.moment
-        asked.now.action (string_bytes text) world.new) }
-    ensures err { OnErr result ((text : List ℕ) × Acts world.old asked.now.conn asked.now.moment
-        asked.now.action text world.new) }
+    ensures ok { IfOk result (λ text. Acts world.old act.now.conn act.now.moment
+        act.now.action (string_bytes text) world.new) }
+    ensures err { OnErr result ((text : List ℕ) × Acts world.old act.now.conn act.now.moment
+        act.now.action text world.new) }
 {
-    let conn = asked.conn.number();
-    match &asked.action {
-        Action::Send(message) => send(
+    let conn = act.conn.number();
+    match &act.action {
+        Action::Send(message) => answer_message(
             alloc,
             world,
             conn,
-            asked.moment,
+            act.moment,
             message.bytes(),
             verbose,
             err,
         ),
-        Action::HangUp => hang_up(alloc, world, conn, asked.moment),
+        Action::HangUp => end_connection(alloc, world, conn, act.moment),
     }
 }
 
 /// Gives these users to the runs that are made later, and returns the line of the outcome:
-/// reloaded, or refused because memory ran out. An error is only that memory for the line runs out.
-/// `file`, from which the users were read, is only for the contract.
+/// reloaded, or refused because memory ran out. The only error is that memory for the line runs
+/// out, after that outcome. `file`, from which the users were read, is only for the contract.
 fn load_users(
     alloc: Global,
     world: &mut World,
@@ -113,13 +119,16 @@ fn load_users(
 {
     match world.step(alloc, Step::Reload(users)) {
         Reply::Reloaded => reloaded_text(alloc),
-        _ => refused_text(alloc, UsersFault::Memory),
+        // the world has no memory to keep the users
+        Reply::NotReloaded => refused_text(alloc, UsersFault::Memory),
+        // no reload has these replies
+        Reply::Published | Reply::NotPublished(_) | Reply::Connection(_) => unreachable!(),
     }
 }
 
 /// Gives the users of a users file to the runs that are made later, and returns the line of the
-/// outcome. A file at fault changes nothing, and its line names the fault. An error is only that
-/// memory for the line runs out.
+/// outcome. A file at fault changes nothing, and its line names the fault. The only error is that
+/// memory for the line runs out, after that outcome.
 fn load_file(alloc: Global, world: &mut World, file: &[u8]) -> Result<String, AllocError>
     ensures ok { IfOk result (λ text. Loaded world.old file.now (string_bytes text) world.new) }
     ensures err { OnErr result ((text : List ℕ) × Loaded world.old file.now text world.new) }
@@ -130,9 +139,9 @@ fn load_file(alloc: Global, world: &mut World, file: &[u8]) -> Result<String, Al
     }
 }
 
-/// Does what a line of the script asks, and returns the line of the outcome. If `verbose`, a
+/// Runs a line of the script, and returns the line of the outcome, unprinted. If `verbose`, a
 /// message and its reply are also printed on `err`. The only error is that memory for the returned
-/// line runs out; what was asked is done then.
+/// line runs out, after all else was done.
 fn take_line<E: Write>(
     alloc: Global,
     world: &mut World,
@@ -144,13 +153,13 @@ fn take_line<E: Write>(
     ensures err { OnErr result ((text : List ℕ) × Prints world.old line.now text world.new) }
 {
     match line {
-        ScriptLine::Act(asked) => act(alloc, world, asked, verbose, err),
+        ScriptLine::Act(act) => act_on_connection(alloc, world, act, verbose, err),
         ScriptLine::Reload(users) => load_file(alloc, world, users.bytes()),
     }
 }
 
-/// Does what a line of the script asks, and prints the line of the outcome. After an error it was
-/// done, but its line was not printed, or only in part.
+/// Runs a line of the script, and prints the line of the outcome. An error is Memory or Output: all
+/// else was done, but the line was not printed, or only in part.
 fn run_line<S: Stream, E: Write>(
     alloc: Global,
     world: &mut World,
@@ -172,8 +181,8 @@ fn run_line<S: Stream, E: Write>(
     }
 }
 
-/// Runs lines, one after the other, until one fails. If `verbose`, messages and their replies are
-/// also printed on `err`.
+/// Runs lines, one after the other, until one fails as `run_line` does; those before it were done
+/// and printed. If `verbose`, messages and their replies are also printed on `err`.
 pub(crate) fn run_lines<S: Stream, E: Write>(
     alloc: Global,
     world: &mut World,

@@ -1,4 +1,5 @@
-//! The lines of a script: what connections send and when, and the users files that are loaded.
+//! The lines of a script: what connections send and when, and the users files that are loaded. If a
+//! function here gives an Option in a Result, its only error is out of memory.
 ghost use Rattle.std.specs.Prelude.{◌≡◌, ◌≢◌, ◌<◌, ◌≤◌, [], ◌∷◌, ◌++◌, Err, IfErr, IfOk, None, Ok};
 ghost use Rattle.std.specs.Prelude.{OnOk, Some, length, option_map, vec_items};
 ghost use Rattle.std.specs.Io.BufRead.{strip_last};
@@ -114,8 +115,9 @@ pub enum ScriptLine {
     Reload(ScriptUsers),
 }
 
-/// The fewest bytes of a message.
-const LEAST_MESSAGE: usize = 7;
+/// The number of bytes of size, type and tag together (intro(5)), as `HEADER_BYTES` of cs_wire: no
+/// message has fewer.
+const HEADER_BYTES: usize = 7;
 
 /// Whether the text is one digit or more, and nothing else.
 fn is_decimal(text: &[u8]) -> bool
@@ -124,14 +126,15 @@ fn is_decimal(text: &[u8]) -> bool
     !text.is_empty() && is_all_digits(text)
 }
 
-/// The number of 32 bits that decimal digits spell; None if there is another byte or no digit, or
-/// it is too large.
+/// The number that decimal digits spell; None if there is another byte or no digit, or if the
+/// number needs more than 32 bits.
 fn read_number(text: &[u8]) -> Option<u32>
     ensures { result ≡ number_in text.now }
 {
     if !is_decimal(text) {
         return None;
     }
+    // digits are always UTF-8, so the number is refused only if it is too large
     match std::str::from_utf8(text) {
         Ok(text) => text.parse::<u32>().ok(),
         Err(_) => None,
@@ -149,8 +152,9 @@ fn read_conn(text: &[u8]) -> Option<ScriptConn>
     Some(ScriptConn { number })
 }
 
-/// The bytes that hexadecimal digits spell; None if they spell none, or fewer than `least`.
-fn bytes_of(alloc: Global, least: usize, digits: &[u8]) -> Result<Option<Vec<u8>>, AllocError>
+/// The bytes that hexadecimal digits spell, two digits for each; None if the text isn't such
+/// digits, or spells fewer than `least` bytes.
+fn bytes_in_hex(alloc: Global, least: usize, digits: &[u8]) -> Result<Option<Vec<u8>>, AllocError>
     ensures { IfOk result (λ bytes. option_map vec_items bytes ≡ bytes_in least digits.now) }
 {
     match hex::decode(alloc, digits) {
@@ -161,36 +165,37 @@ fn bytes_of(alloc: Global, least: usize, digits: &[u8]) -> Result<Option<Vec<u8>
             Ok(Some(bytes))
         }
         Err(hex::FromHexError::OutOfMemory) => Err(AllocError),
+        // the other errors are of the digits
         Err(_) => Ok(None),
     }
 }
 
-/// The message that hexadecimal digits spell; None if they spell none, fewer than 7 bytes, or more
-/// than MESSAGE_BYTES.
+/// The message that hexadecimal digits spell; None unless they spell at least 7 bytes and at most
+/// MESSAGE_BYTES. Whether the bytes are a message of the protocol is tested when the line runs.
 fn read_message(alloc: Global, digits: &[u8]) -> Result<Option<ScriptMessage>, AllocError>
     ensures { IfOk result (λ message. message ≡ sent_in digits.now) }
 {
     if digits.len() > 2 * MESSAGE_BYTES as usize {
         return Ok(None);
     }
-    match bytes_of(alloc, LEAST_MESSAGE, digits)? {
+    match bytes_in_hex(alloc, HEADER_BYTES, digits)? {
         Some(bytes) => Ok(Some(ScriptMessage { bytes })),
         None => Ok(None),
     }
 }
 
-/// The users file that hexadecimal digits spell; None if they spell none, or no byte. What is in
-/// the file is read only when the line runs.
+/// The users file that hexadecimal digits spell; None unless they spell at least one byte. What is
+/// in the file is read only when the line runs.
 fn read_users(alloc: Global, digits: &[u8]) -> Result<Option<ScriptUsers>, AllocError>
     ensures { IfOk result (λ users. users ≡ bytes_in 1 digits.now) }
 {
-    match bytes_of(alloc, 1, digits)? {
+    match bytes_in_hex(alloc, 1, digits)? {
         Some(bytes) => Ok(Some(ScriptUsers { bytes })),
         None => Ok(None),
     }
 }
 
-/// What a word asks: `hangup`, or a message in hexadecimal; None if it is neither.
+/// The action that a word spells: `hangup`, or a message in hexadecimal; None if it is neither.
 fn read_action(alloc: Global, word: &[u8]) -> Result<Option<Action>, AllocError>
     ensures { IfOk result (λ action. action ≡ action_in word.now) }
 {
@@ -203,8 +208,8 @@ fn read_action(alloc: Global, word: &[u8]) -> Result<Option<Action>, AllocError>
     }
 }
 
-/// What three words ask of a connection: its number, a moment, and an action; None if one of them
-/// is wrong.
+/// The line that three words spell: a connection's number, a moment in seconds, and an action; None
+/// if a word spells something else.
 fn read_act(
     alloc: Global,
     first: &[u8],
@@ -227,7 +232,8 @@ fn read_act(
     }
 }
 
-/// What two words ask: `reload`, and a users file in hexadecimal; None if one of them is wrong.
+/// The line that two words spell: `reload`, and a users file in hexadecimal; None if a word is
+/// something else.
 fn read_reload(alloc: Global, first: &[u8], second: &[u8]) -> Result<Option<ScriptLine>, AllocError>
     ensures { IfOk result (λ line. line ≡ line_of (first.now ∷ second.now ∷ [])) }
 {
@@ -241,7 +247,7 @@ fn read_reload(alloc: Global, first: &[u8], second: &[u8]) -> Result<Option<Scri
 }
 
 /// The line that the text spells, with one space between its words: three words for a connection,
-/// or two for a reload; None if it spells neither.
+/// or two for a reload; None if it spells neither, as the empty text.
 fn read_line(alloc: Global, text: &[u8]) -> Result<Option<ScriptLine>, AllocError>
     ensures { IfOk result (λ line. line ≡ line_in text.now) }
 {
@@ -273,7 +279,8 @@ fn without_last_feed(bytes: &[u8]) -> &[u8]
 }
 
 /// Appends the line of that number, which the text spells. The error is Script if the number is
-/// past SCRIPT_LINES or the text spells no line, or Memory.
+/// past SCRIPT_LINES or the text spells no line, or Memory. After an error the lines are as they
+/// were.
 fn push_line(
     alloc: Global,
     lines: &mut Vec<ScriptLine>,
@@ -301,9 +308,9 @@ fn push_line(
     Ok(())
 }
 
-/// The lines of a script. The line feed at the end of the script makes no line. The error is Script
-/// at the first line that spells none: an empty one spells none, nor does one past the limit; or
-/// Memory if an allocation fails before such a line.
+/// The lines of a script; an empty script has none. A line feed at the end of the script doesn't
+/// begin a line. The error is Script at the first line that spells none, as an empty one, or is
+/// past SCRIPT_LINES; or Memory if an allocation fails before such a line.
 pub fn read_script(alloc: Global, bytes: &[u8]) -> Result<Vec<ScriptLine>, ProgramFault>
     ensures read { IfOk result (λ lines. script_in bytes.now ≡ Ok lines.items) }
     ensures fault { IfErr result (λ fault. fault ≢ Memory → script_in bytes.now ≡ Err fault) }

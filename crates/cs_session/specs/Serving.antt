@@ -16,8 +16,8 @@ use Rattle.cs_session.specs.declared.reply.Reply.TheVariants as r
 use Rattle.cs_session.specs.declared.serving.ServeFault.{ServeFault}
 use Rattle.cs_session.specs.declared.serving.ServeFault.TheVariants.{ReadFault, WriteFault}
 use Rattle.cs_session.specs.declared.serving.ServeFault.TheVariants.{FrameFault as BadFrame, Memory}
-use Rattle.cs_session.specs.declared.serving.Progress.{Progress}
-use Rattle.cs_session.specs.declared.serving.Progress.TheVariants.{More, Done, Stopped}
+use Rattle.cs_session.specs.declared.serving.StopReason.{StopReason}
+use Rattle.cs_session.specs.declared.serving.StopReason.TheVariants.{More, Done, Stopped}
 use Rattle.cs_session.specs.Messages.{IsAnswered}
 use Rattle.cs_session.specs.Questions.{Question, PortAnswer}
 use Rattle.cs_session.specs.Receiving.{IsReplied}
@@ -44,7 +44,7 @@ IsFaulty frame.Cut left = ⊥
 
 -- why no more messages were answered: the replies fill their room, and some were answered; none is
 -- left; or what comes next is no message
-abbrev pub StopsFor : Progress → List ℕ → List ℕ → Type 0
+abbrev pub StopsFor : StopReason → List ℕ → List ℕ → Type 0
 StopsFor More came left = length left < length came
 StopsFor Done came left = IsUnfinished left
 StopsFor (Stopped fault) came left = IsFaulty fault left
@@ -90,7 +90,7 @@ pub record FaultsHaveCauses (result : Result (Unit {0}) ServeFault) (old new : C
   pub memory : result ≡ Err Memory → new ≡ old
 
 module _ {P : Type 0} (gives : P → Question → PortAnswer → P → Type 0) where
-  -- a message was answered, and the bytes of its reply come behind these
+  -- a message was answered, and the bytes of its reply come after these
   pub record Adds (now : ℕ) (message : List ℕ) (session : SessionState) (port : P)
       (old new : List ℕ)
       (session' : SessionState) (port' : P) : Type 0 where

@@ -18,8 +18,8 @@ use cs_names::Text;
 use std::alloc::Global;
 
 impl Session {
-    /// Closes every open fid, the least number first, whatever the runs answer. The other fids
-    /// stay.
+    /// Closes every open fid, the least number first, whatever the runs answer: none is open
+    /// afterwards. The other fids stay.
     fn close_all<P: Port>(&mut self, alloc: Global, port: &mut P, now: u32)
         requires { self.old.awaited ≡ None }
         ensures closed { least_open self.new.fids ≡ None }
@@ -30,12 +30,13 @@ impl Session {
             → IsAnswered P.gives now message self.old port.old reply s p }
     {
         while let Some(fid) = self.least_open() {
+            // the fid is free afterwards, whatever the run answers
             let _reply = self.close_step(alloc, port, now, fid);
         }
     }
 
-    /// Answers an attach: finds its run, and then attaches to it. If the find is refused, that is
-    /// the reply. No run awaits its attach afterwards.
+    /// Answers an attach: finds its run, and then attaches to it. If the find is refused, the
+    /// refusal is the reply. No run awaits its attach afterwards.
     fn answer_attach<P: Port>(
         &mut self,
         alloc: Global,
@@ -55,8 +56,8 @@ impl Session {
         }
     }
 
-    /// Answers a clunk: closes the fid if it is open, else frees it. S1 if no session has begun,
-    /// and then N1 if there is no such fid.
+    /// Answers a clunk: closes the fid if it is open, else frees it. If the fid isn't open, the
+    /// reply is S1 if no session has begun, else N1 if there is no such fid.
     fn answer_clunk<P: Port>(&mut self, alloc: Global, port: &mut P, now: u32, fid: u32) -> Reply
         requires { self.old.awaited ≡ None }
         ensures answered { IsAnswered P.gives now (m.Clunk fid) self.old port.old result self.new
@@ -70,9 +71,9 @@ impl Session {
         self.table_step(TableStep::Clunk(fid))
     }
 
-    /// Answers a version: closes every open fid, the least number first, and frees all fids. Then
-    /// it begins a session; it begins none if the version isn't spoken or the message size is too
-    /// small (version(5)).
+    /// Answers a version: closes every open fid, the least number first, and frees all fids. Then a
+    /// session begins, unless the version isn't spoken or the message size is too small
+    /// (version(5)).
     fn answer_version<P: Port>(
         &mut self,
         alloc: Global,
@@ -91,8 +92,8 @@ impl Session {
         self.table_step(TableStep::Version { msize, version })
     }
 
-    /// Ends the connection: closes every open fid, the least number first, and then frees all fids
-    /// and ends the session. It ends whatever the runs answer.
+    /// Ends the connection, whatever the runs answer: closes every open fid, the least number
+    /// first, and then frees all fids and ends the session.
     pub fn hang_up<P: Port>(&mut self, alloc: Global, port: &mut P, now: u32)
         requires { self.old.awaited ≡ None }
         ensures answered { IsAnswered P.gives now m.HangUp self.old port.old r.Closed self.new
@@ -100,6 +101,7 @@ impl Session {
         ensures ended { self.new ≡ empty_session None }
     {
         self.close_all(alloc, port, now);
+        // no fid is open and no run awaits its attach, so the reply is Closed
         let _closed = self.table_step(TableStep::HangUp);
     }
 

@@ -17,22 +17,23 @@ use cs_fids::{Fid, FidTable, NOFID};
 use cs_names::{NameFault, RuleId, UserName};
 use cs_permit::{FindFault, PassFault, Request, TreeName};
 use cs_run::Answer;
-use std::alloc::Global;
+use std::alloc::{AllocError, Global};
 
-/// The user's name that the text is; None if it can't be a user's name. The only error is Memory.
-fn user_in(alloc: Global, uname: &str) -> Result<Option<UserName>, NameFault>
+/// The client's text as a user's name; None if it isn't a legal name of a user.
+fn user_in(alloc: Global, uname: &str) -> Result<Option<UserName>, AllocError>
     ensures { IfOk result (λ user. user ≡ user_in uname.now) }
 {
     match UserName::read(alloc, uname.as_bytes()) {
         Ok(user) => Ok(Some(user)),
-        Err(NameFault::Memory) => Err(NameFault::Memory),
+        Err(NameFault::Memory) => Err(AllocError),
         Err(_) => Ok(None),
     }
 }
 
-/// The name of the run that an attach asks for, and the name of its user: None if the text can't be
-/// one, which is refused only once the run has answered. An error is the reply that refuses the
-/// find. No fid changes; after `Ok` the table has room for the attach's fid.
+/// The name of the run that an attach asks for, and the name of its user. The user is None if the
+/// client's text isn't a user's name: the refusal, A6, comes only once the run has answered. An
+/// error is the reply that refuses the find. No fid changes; after `Ok` the table has room for the
+/// attach's fid.
 pub(crate) fn decide_find<'a>(
     alloc: Global,
     awaits_attach: bool,
@@ -59,6 +60,7 @@ pub(crate) fn decide_find<'a>(
     if let Some(rule) = first_failing_rule(awaits_attach, msize, &request, fids) {
         return Err(Reply::Error(rule));
     }
+    // the rules refuse a full table, so the only error is out of memory
     if fids.reserve().is_err() {
         return Err(Reply::Memory);
     }
@@ -72,7 +74,8 @@ pub(crate) fn decide_find<'a>(
     }
 }
 
-/// The reply to an attach whose run was not found: A4, A5 or out of memory.
+/// The reply to an attach whose run was not found: A4 if its state isn't published, A5 if there is
+/// no room for the attach, or out of memory.
 pub(crate) fn find_refusal(fault: FindFault) -> Reply
     ensures value { result ≡ find_refusal fault }
     ensures plain { IsPlain result }
@@ -84,7 +87,8 @@ pub(crate) fn find_refusal(fault: FindFault) -> Reply
     }
 }
 
-/// The reply to an attach for which the run gave no pass: A5, S5 or out of memory.
+/// The reply to an attach for which the run gave no pass: A5 if it gave RUN_ATTACHES already, S5 if
+/// there is no such run, or out of memory.
 pub(crate) fn pass_refusal(fault: PassFault) -> Reply
     ensures value { result ≡ pass_refusal fault }
     ensures plain { IsPlain result }
@@ -96,9 +100,9 @@ pub(crate) fn pass_refusal(fault: PassFault) -> Reply
     }
 }
 
-/// The reply to an attach for which the run gave a pass. If the run grants it, the fid is added and
-/// is the run's root; but A6, and no fid is added, if the client's text is no user's name. It takes
-/// no memory.
+/// The reply to an attach for which the run gave a pass. If the run grants the attach, the fid is
+/// added, as the run's root; but A6 if `user` is None, because the client's text isn't a user's
+/// name. After any refusal no fid changes, but the run keeps the pass. It takes no memory.
 pub(crate) fn settle_attach(
     fids: &mut FidTable,
     fid: u32,
@@ -117,6 +121,7 @@ pub(crate) fn settle_attach(
     match answer {
         Answer::Attached(qid) => match user {
             Some(user) => {
+                // 0 is the number of a tree's root
                 put_new(fids, fid, Fid::new(run, pass, 0, user));
                 Reply::Attach(qid)
             }

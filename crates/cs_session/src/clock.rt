@@ -1,7 +1,7 @@
 //! What gives a connection the time.
 
-/// A clock, in seconds since 1970. A moment may come before an earlier one.
+/// A clock, in seconds since 1970.
 pub trait Clock {
-    /// The time now, in seconds since 1970.
+    /// The time now, in seconds since 1970. A later call may return an earlier time.
     fn now(&mut self) -> u32;
 }

@@ -13,8 +13,9 @@ use cs_names::RuleId;
 use cs_permit::{Call, CloseCall};
 use cs_run::Answer;
 
-/// What the close of an open fid asks its run; the fid is free afterwards. S5, and no fid changes,
-/// if the fid isn't open or a run awaits its attach. It takes no memory.
+/// What the close of an open fid asks its run; the fid is free afterwards. The error is S5, and no
+/// fid changes, if there is no open fid of that number or a run awaits its attach. It takes no
+/// memory.
 pub(crate) fn decide_close(
     awaits_attach: bool,
     fids: &mut FidTable,

@@ -27,15 +27,16 @@ pub fn calls_are_of_their_fids()
         → IsForFid session now moment place pass call }
 {}
 
-/// If a connection refuses a step by itself, the error is the first of its rules that fails.
+/// If a connection itself replies to a step with an error, the error is the first of its own rules
+/// that the step fails.
 pub fn own_denials_are_the_first_rule()
     ensures { (now : ℕ) (session left : SessionState) (step : Step) (refused : Bool) (rule : RuleId)
         → first_move_by now session step refused ≡ Done (Reply.Error rule) left
         → IsFirstToFail (own_rules now session step) rule }
 {}
 
-/// A message is its steps, one after the other, each with its mark; its reply is the last step's.
-/// The port is an argument only for its type.
+/// A message is its steps, one after the other, each with the mark of what memory refuses in it;
+/// its reply is the last step's. The port is an argument only for its type.
 pub fn message_is_steps<P: Port>(_port: &P)
     ensures { (now : ℕ) (message : Message) (marks : List OwnMark) (s t : SessionState) (p q : P)
         (reply : Reply) → Answers P.gives now message marks s p reply t q

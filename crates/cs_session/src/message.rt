@@ -98,7 +98,7 @@ pub enum Message<'a> {
 }
 
 impl AttachMessage {
-    /// A copy of the message.
+    /// A copy of the attach, whose texts are copied too.
     pub fn try_clone(&self) -> Result<AttachMessage, AllocError>
         ensures { IfOk result (λ copy. copy ≡ self.now) }
     {
@@ -146,7 +146,7 @@ impl<'a> CallMessage<'a> {
 }
 
 impl TableStep {
-    /// A copy of the step.
+    /// A copy of the step; the text of a version is copied too.
     pub fn try_clone(&self) -> Result<TableStep, AllocError>
         ensures { IfOk result (λ copy. copy ≡ self.now) }
     {

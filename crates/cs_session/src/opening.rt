@@ -35,7 +35,7 @@ pub(crate) fn decide_open(
     if let Some(rule) = first_failing_rule(awaits_attach, msize, &request, fids) {
         return Err(Reply::Error(rule));
     }
-    let Some(FidEntry::Walked(fid)) = fids.look(message.fid) else {
+    let Some(FidEntry::Walked(fid)) = fids.entry_of(message.fid) else {
         // the rules refuse a fid that is open or isn't there
         unreachable!()
     };
@@ -77,7 +77,7 @@ pub(crate) fn decide_create(
         // the rules refuse an illegal name
         unreachable!()
     };
-    let Some(FidEntry::Walked(fid)) = fids.look(message.fid) else {
+    let Some(FidEntry::Walked(fid)) = fids.entry_of(message.fid) else {
         // the rules refuse a fid that is open or isn't there
         unreachable!()
     };

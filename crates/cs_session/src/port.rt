@@ -19,9 +19,10 @@ pub trait Port {
         ensures { gives self.old (q.FindRun name.now.state.now name.now.run.now)
             (q.FindAnswer result) self.new };
 
-    /// Attaches a user to the run at the place `run`, at the moment `now`, under a new pass: the
-    /// place of the pass, and the run's answer. Foreign if there is no run at that place. After an
-    /// error there is no new pass (attach(5)).
+    /// Attaches a user to the run at the place `run`, at the moment `now`, under a new pass.
+    /// Returns the place of the pass, and the run's answer: if that denies the attach, the pass
+    /// stays. Foreign if there is no run at that place. After an error there is no new pass
+    /// (attach(5)).
     fn attach(
         &mut self,
         alloc: Global,

@@ -15,7 +15,7 @@ use cs_permit::{Call, Request, first_table_rule};
 use cs_run::Answer;
 use std::alloc::Global;
 
-/// A call on the run at one place of the port, under the pass at another, at a moment.
+/// A call to make, with its moment and the places in the port of its run and of its pass.
 #[derive(Drop)]
 pub(crate) struct RunQuestion<'a> {
     pub(crate) now: u32,
@@ -48,8 +48,8 @@ impl<'a> RunQuestion<'a> {
 }
 
 /// The first of the connection's rules that the request fails; None if it fails none. The rules are
-/// S5 if a run awaits its attach, S1 if no session has begun, and then those of its fids. It takes
-/// no memory.
+/// S5 if a run awaits its attach, S1 if no session has begun, and then those of the connection's
+/// fids. It takes no memory.
 #[tactic(auto, unfolding(cs_permit::specs::Table::first_table_rule))]
 pub(crate) fn first_failing_rule(
     awaits_attach: bool,
@@ -69,13 +69,16 @@ pub(crate) fn first_failing_rule(
     first_table_rule(request, fids)
 }
 
-/// The reply to an answer that doesn't grant the call: the rule that denies it, else out of memory.
+/// The reply to an answer that doesn't grant the call: the rule that denies it, or out of memory if
+/// it is Short.
 pub(crate) fn refusal(answer: Answer) -> Reply
     ensures value { result ≡ refusal answer }
     ensures plain { IsPlain result }
 {
     match answer {
         Answer::Denied(rule) => Reply::Error(rule),
+        Answer::Short => Reply::Memory,
+        // a grant of another kind of call: no run answers so, but `Port` doesn't promise it
         _ => Reply::Memory,
     }
 }

@@ -19,7 +19,7 @@ use cs_permit::{Call, ReadCall, Request};
 use cs_run::Answer;
 use std::alloc::AllocError;
 
-/// How many bytes an Rread has besides its data: size, type, tag and count (read(5)).
+/// How many bytes of an Rread aren't its data: size, type, tag and count (read(5)).
 pub const READ_OVERHEAD: u32 = 11;
 
 /// How many bytes a read asks of its run: `count`, but no more than fit in an Rread of that message
@@ -27,6 +27,7 @@ pub const READ_OVERHEAD: u32 = 11;
 fn read_count(msize: Option<u32>, count: u32) -> u32
     ensures { result ≡ read_count msize count }
 {
+    // only the 0 of no session is less than READ_OVERHEAD
     count.min(msize.unwrap_or(0).saturating_sub(READ_OVERHEAD))
 }
 
@@ -66,7 +67,7 @@ pub(crate) fn decide_read(
     if let Some(rule) = first_failing_rule(awaits_attach, msize, &request, fids) {
         return Err(Reply::Error(rule));
     }
-    let Some(FidEntry::Opened(fid)) = fids.look(message.fid) else {
+    let Some(FidEntry::Opened(fid)) = fids.entry_of(message.fid) else {
         // the rules refuse a fid that isn't open
         unreachable!()
     };
@@ -82,8 +83,8 @@ pub(crate) fn decide_read(
     Ok(RunQuestion::new(now, fid.run(), fid.pass(), call))
 }
 
-/// Keeps `place` as the one at which the fid's next read of a directory goes on. If it is None, the
-/// fid keeps the place that it has.
+/// Keeps `place` as the one at which the fid's next read of a directory continues. If `place` is
+/// None, the fid keeps the place that it has.
 fn keep_next_place(fids: &mut FidTable, fid: u32, place: Option<Place>)
     requires { IsSome (opened_at fids.old.fids fid) }
     ensures { fids.new.fids ≡ read_left fids.old.fids fid (opened_at fids.old.fids fid) place }
@@ -94,8 +95,8 @@ fn keep_next_place(fids: &mut FidTable, fid: u32, place: Option<Place>)
     }
 }
 
-/// The reply to a read that the run answered. If the run grants it, the fid keeps the place at
-/// which its next read goes on; else no fid changes.
+/// The reply to a read that the run answered. If the run read entries of a directory, the fid keeps
+/// the place at which its next read continues; else no fid changes.
 pub(crate) fn settle_read(fids: &mut FidTable, fid: u32, answer: Answer) -> Reply
     requires { IsSome (opened_at fids.old.fids fid) }
     ensures value { (result, fids.new.fids) ≡ read_after fids.old.fids fid answer }

@@ -1,5 +1,6 @@
 //! From the bytes of one message to its reply on the wire: the rules before decoding, the decoding,
-//! the session's answer, and the form of the reply.
+//! the session's answer, and the form of the reply. A message has at least 7 bytes: its size, its
+//! type and its tag.
 ghost use Rattle.std.specs.Option.{ForSome};
 ghost use Rattle.std.specs.Prelude.{◌≡◌, ℕ, ◌≤◌, codes, IfErr, IfOk, length, map, None, Option};
 ghost use Rattle.std.specs.Prelude.{string_bytes};
@@ -30,7 +31,8 @@ use cs_wire::{Qid, RBody, RMessage, Stat, TBody, TKind, TMessage, WireFault, dec
 use std::alloc::Global;
 use std::borrow::CowStr;
 
-/// The tag of a message, which its reply has too: the bytes 5 and 6, the low one first.
+/// The tag of a message, which its reply has too: the bytes 5 and 6, counted from 0, the low one
+/// first. (cs_world's `out_of_turn_reply` reads it too.)
 fn tag_in(bytes: &[u8]) -> u16
     requires { 7 ≤ length bytes.now }
     ensures { result ≡ tag_in bytes.now }
@@ -38,8 +40,8 @@ fn tag_in(bytes: &[u8]) -> u16
     u16::from_le_bytes([bytes[5], bytes[6]])
 }
 
-/// Whether a message with that type number may come before a session begins: a Tversion or a
-/// Tflush.
+/// Whether a message with that type number may come before a session begins: true of a Tversion and
+/// of a Tflush, false of every other number.
 fn needs_no_session(number: u8) -> bool
     ensures { result ≡ needs_no_session (t_kind_of number) }
 {
@@ -49,14 +51,16 @@ fn needs_no_session(number: u8) -> bool
     )
 }
 
-/// The rule that a message fails before it is decoded: S1 if no session has begun and it needs one,
-/// S2 if it is longer than the session's message size. None if it fails neither.
+/// The rule that a message fails before it is decoded: S1 if no session has begun and the message
+/// needs one, S2 if the message is longer than the session's message size. None if it fails
+/// neither.
 fn first_rule_before_decoding(msize: Option<u32>, bytes: &[u8]) -> Option<RuleId>
     requires { 7 ≤ length bytes.now }
     ensures { result ≡ first_failing (rules_before_decoding msize bytes.now) }
 {
     match msize {
         None => {
+            // byte 4, counted from 0, is the type
             if !needs_no_session(bytes[4]) {
                 return Some(RuleId::S1);
             }
@@ -70,8 +74,8 @@ fn first_rule_before_decoding(msize: Option<u32>, bytes: &[u8]) -> Option<RuleId
     None
 }
 
-/// The message that the bytes spell. An error is the reply: out of memory, or S2 if they spell
-/// none.
+/// The message that the bytes spell. An error is the reply: out of memory, or S2 if they don't
+/// spell a message.
 fn decode(alloc: Global, bytes: &[u8]) -> Result<TMessage<'_>, Reply>
     ensures ok { IfOk result (λ message. IsSpelled bytes.now message) }
     ensures err { IfErr result (IsUnread bytes.now) }
@@ -107,24 +111,24 @@ fn message_in<'a>(body: TBody<'a>) -> Result<Message<'a>, Reply>
             aname: Text::new(aname),
         }),
         TBody::Clunk { fid } => Message::Clunk(fid),
-        TBody::Walk { fid, newfid, wname } => Message::Call(walk_message(fid, newfid, wname)),
+        TBody::Walk { fid, newfid, wname } => Message::Call(walk_call(fid, newfid, wname)),
         TBody::Open { fid, mode } => Message::Call(CallMessage::Open(OpenMessage { fid, mode })),
         TBody::Create {
             fid,
             name,
             perm,
             mode,
-        } => Message::Call(create_message(fid, name, perm, mode)),
-        TBody::Read { fid, offset, count } => Message::Call(read_message(fid, offset, count)),
-        TBody::Write { fid, offset, data } => Message::Call(write_message(fid, offset, data)),
+        } => Message::Call(create_call(fid, name, perm, mode)),
+        TBody::Read { fid, offset, count } => Message::Call(read_call(fid, offset, count)),
+        TBody::Write { fid, offset, data } => Message::Call(write_call(fid, offset, data)),
         TBody::Remove { fid } => Message::Call(CallMessage::Remove(fid)),
         TBody::Stat { fid } => Message::Call(CallMessage::Stat(fid)),
-        TBody::Wstat { fid, stat } => Message::Call(wstat_message(fid, stat)),
+        TBody::Wstat { fid, stat } => Message::Call(wstat_call(fid, stat)),
     })
 }
 
 /// The call that a Twalk makes. Its names are moved, not copied.
-fn walk_message(fid: u32, newfid: u32, names: Vec<String>) -> CallMessage<'static>
+fn walk_call(fid: u32, newfid: u32, names: Vec<String>) -> CallMessage<'static>
     ensures { result
         ≡ call.Walk (record { fid = fid; newfid = newfid; names = map string_bytes names.items }) }
 {
@@ -136,7 +140,7 @@ fn walk_message(fid: u32, newfid: u32, names: Vec<String>) -> CallMessage<'stati
 }
 
 /// The call that a Tcreate makes. Its name is moved, not copied.
-fn create_message(fid: u32, name: String, perm: u32, mode: u8) -> CallMessage<'static>
+fn create_call(fid: u32, name: String, perm: u32, mode: u8) -> CallMessage<'static>
     ensures { result
         ≡ call.Create (record { fid = fid; name = string_bytes name; perm = perm; mode = mode }) }
 {
@@ -149,25 +153,25 @@ fn create_message(fid: u32, name: String, perm: u32, mode: u8) -> CallMessage<'s
 }
 
 /// The call that a Tread makes.
-fn read_message(fid: u32, offset: u64, count: u32) -> CallMessage<'static>
+fn read_call(fid: u32, offset: u64, count: u32) -> CallMessage<'static>
     ensures { result ≡ call.Read (record { fid = fid; offset = offset; count = count }) }
 {
     CallMessage::Read(ReadMessage { fid, offset, count })
 }
 
 /// The call that a Twrite makes. Its bytes are borrowed.
-fn write_message(fid: u32, offset: u64, bytes: &[u8]) -> CallMessage<'_>
+fn write_call(fid: u32, offset: u64, bytes: &[u8]) -> CallMessage<'_>
     ensures { result ≡ call.Write (record { fid = fid; offset = offset; bytes = bytes.now }) }
 {
     CallMessage::Write(WriteMessage {
         fid,
         offset,
-        bytes: SentBytes::lent(bytes),
+        bytes: SentBytes::borrow_from(bytes),
     })
 }
 
 /// The call that a Twstat makes, with every field of the stat that was sent.
-fn wstat_message(fid: u32, stat: Stat) -> CallMessage<'static>
+fn wstat_call(fid: u32, stat: Stat) -> CallMessage<'static>
     ensures { result ≡ call.Wstat (record { fid = fid; stat = sent_of stat }) }
 {
     CallMessage::Wstat(WstatMessage {
@@ -176,7 +180,8 @@ fn wstat_message(fid: u32, stat: Stat) -> CallMessage<'static>
     })
 }
 
-/// The version that an Rversion names: `9P2000` if the client's version is spoken, else `unknown`.
+/// The version that an Rversion names: `9P2000`, which `versions::is_spoken` looks for, if the
+/// client's version is spoken, else `unknown` (version(5)). Neither has more than 7 bytes.
 fn version_text(is_spoken: bool) -> &'static str
     ensures value { result.now ≡ version_named is_spoken }
     ensures shown { IsShown 7 result.now }
@@ -184,8 +189,8 @@ fn version_text(is_spoken: bool) -> &'static str
     if is_spoken { "9P2000" } else { "unknown" }
 }
 
-/// The text of a rule. Only the contract is more than that of `RuleId::text`: the text fits in an
-/// Rerror of every session.
+/// The text of a rule, as `RuleId::text` gives it: of at most 48 bytes, as the contract there says,
+/// so that it fits in an Rerror of every session.
 fn rule_text(rule: RuleId) -> &'static str
     ensures value { result.now ≡ text_of rule }
     ensures shown { IsShown 48 result.now }
@@ -193,7 +198,8 @@ fn rule_text(rule: RuleId) -> &'static str
     rule.text()
 }
 
-/// The body of an Rerror with that text (error(5)).
+/// The body of an Rerror with that text (error(5)). The caller gives a text of at most 48 bytes, as
+/// `rule_text` and `memory_text` return, so that it fits in every session.
 fn error_body(text: &'static str) -> RBody
     requires { IsShown 48 text.now }
     ensures value { (tag : ℕ)
@@ -205,8 +211,8 @@ fn error_body(text: &'static str) -> RBody
     }
 }
 
-/// The same qid. Only the contract is new: the qid's numbers are in their ranges, as those of any
-/// qid are.
+/// The same qid, made again from its fields: so the contract can say that its numbers are in their
+/// ranges, as those of every qid are.
 fn qid_in_range(qid: Qid) -> Qid
     ensures value { result ≡ qid }
     ensures fits { IsQid result }
@@ -218,8 +224,8 @@ fn qid_in_range(qid: Qid) -> Qid
     }
 }
 
-/// The body of the message that a reply is on the wire. It takes no memory. Found and Closed aren't
-/// on the wire: no message's last step replies so.
+/// The body of the message that carries a reply. It takes no memory. Found and Closed are never
+/// sent: no last step of a client's message replies so.
 fn body_of(reply: Reply) -> RBody
     requires { IsOnWire reply }
     ensures value { (tag : ℕ) → r_view (record { tag = tag; body = result }) ≡ wire_of tag reply }
@@ -237,6 +243,7 @@ fn body_of(reply: Reply) -> RBody
         Reply::Walk(walk) => RBody::Walk {
             wqid: walk.into_qids(),
         },
+        // an iounit of 0 promises nothing about the size of a transfer (open(5))
         Reply::Open(qid) => RBody::Open {
             qid: qid_in_range(qid),
             iounit: 0,
@@ -258,12 +265,13 @@ fn body_of(reply: Reply) -> RBody
         Reply::Flush => RBody::Flush,
         Reply::Error(rule) => error_body(rule_text(rule)),
         Reply::Memory => error_body(memory_text()),
+        // the caller has neither of these replies, as a requires says
         Reply::Found => unreachable!(),
         Reply::Closed => unreachable!(),
     }
 }
 
-/// The text of an Rerror if memory runs out. It fits in an Rerror of every session.
+/// The text of an Rerror if memory runs out. It has at most 48 bytes, as `error_body` requires.
 fn memory_text() -> &'static str
     ensures value { result.now ≡ codes "out of memory" }
     ensures shown { IsShown 48 result.now }
@@ -272,8 +280,8 @@ fn memory_text() -> &'static str
 }
 
 impl Session {
-    /// Answers the bytes of a message: the reply is the first rule that fails, out of memory, or
-    /// what its steps answer.
+    /// Answers the bytes of a message: the reply is the first rule that fails, out of memory, what
+    /// the message's last step answers, or Flush. If the message takes no step, nothing changes.
     fn receive<P: Port>(&mut self, alloc: Global, port: &mut P, now: u32, bytes: &[u8]) -> Reply
         requires whole { 7 ≤ length bytes.now }
         requires idle { self.old.awaited ≡ None }
@@ -298,8 +306,9 @@ impl Session {
     }
 
     /// Answers one message, of at least 7 bytes, at the moment `now`. The reply has the message's
-    /// tag, and is no longer than the session's message size. It is an Rerror if a rule fails, with
-    /// the text of the first one, or if memory runs out (error(5)).
+    /// tag. It is no longer than the message size that the session had before, or, if there was no
+    /// session, than the least one. It is an Rerror if a rule fails, with the text of the first
+    /// one, or if memory runs out (error(5)).
     pub fn reply<P: Port>(
         &mut self,
         alloc: Global,
@@ -320,8 +329,8 @@ impl Session {
     }
 }
 
-/// The message of that tag that a reply is on the wire. The message size is an argument only for
-/// the contract: the message fits in it.
+/// The message that carries a reply, with that tag. The caller has a reply that fits in the
+/// session's message size, which is an argument only for the contract: the message fits in it too.
 fn wire_message(msize: Option<u32>, tag: u16, reply: Reply) -> RMessage
     requires agreed { ForSome msize IsAgreed }
     requires fits { ReplyFits msize reply }

@@ -13,8 +13,8 @@ use cs_fids::{FidEntry, FidTable};
 use cs_permit::{Call, RemoveCall, Request};
 use cs_run::Answer;
 
-/// What the remove of this entry asks its run: to remove the file, for the fid's user. If the fid
-/// is open, the call has the number of its open.
+/// What the remove of a fid with this entry asks its run: to remove the file, for the fid's user.
+/// If the fid is open, the call has the number of its open, else None.
 fn remove_run_question(now: u32, entry: FidEntry) -> RunQuestion<'static>
     ensures { result ≡ remove_run_question now entry }
 {

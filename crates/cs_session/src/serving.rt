@@ -20,9 +20,10 @@ use std::fmt;
 /// Why a stream was not served to its end.
 #[derive(Clone, Copy, Debug, PartialEq, Eq)]
 pub enum ServeFault {
-    /// A read failed, 1,000 in a row were interrupted, or 4,294,967,295 were made.
+    /// A read failed, 1,000 (INTERRUPTIONS) in a row were interrupted, or 4,294,967,295
+    /// (CONNECTION_READS) were made.
     ReadFault,
-    /// A write failed, took no byte, or 1,000 in a row were interrupted.
+    /// A write failed, took no byte, or 1,000 (INTERRUPTIONS) in a row were interrupted.
     WriteFault,
     /// What comes next is no message.
     FrameFault(FrameFault),
@@ -44,7 +45,7 @@ impl fmt::Display for ServeFault {
 
 /// Why `answer_some` answered no more messages.
 #[derive(Clone, Copy, Debug, PartialEq, Eq)]
-pub(crate) enum Progress {
+pub(crate) enum StopReason {
     /// There may be more messages, but the replies fill their room.
     More,
     /// No whole message is left.
@@ -54,7 +55,8 @@ pub(crate) enum Progress {
 }
 
 /// The buffers of a connection: one that holds the longest message, and one for the replies, which
-/// holds two of the longest. They never grow.
+/// holds two of the longest: while at most half of it is used, another reply has room. They never
+/// grow.
 fn make_buffers(alloc: Global) -> Result<(Framer, Vec<u8>), AllocError>
     ensures left { IfOk result (λ x. pending_bytes x.0 ≡ []) }
     ensures size { IfOk result (λ x. MESSAGE_BYTES ≤ size_of x.0) }
@@ -66,8 +68,8 @@ fn make_buffers(alloc: Global) -> Result<(Framer, Vec<u8>), AllocError>
     Ok((framer, replies))
 }
 
-/// Answers a message at the moment `now`, and appends the reply to `replies`, which has room for
-/// it.
+/// Answers a message, of at least 7 bytes, at the moment `now`, and appends the reply to `replies`,
+/// which has room for it.
 fn answer_one<P: Port>(
     alloc: Global,
     session: &mut Session,
@@ -89,8 +91,9 @@ fn answer_one<P: Port>(
     encode_reply(&reply, replies).unwrap();
 }
 
-/// Answers the whole messages that came, until none is left or `replies` may have no room for
-/// another reply. Returns why it stopped. Neither a message nor a reply is copied.
+/// Answers the whole messages that came and appends the replies, until no whole message is left,
+/// what comes next is no message, or `replies` may have no room for another reply. Returns why it
+/// stopped. Neither a message nor a reply is copied.
 fn answer_some<P: Port, C: Clock>(
     alloc: Global,
     framer: &mut Framer,
@@ -98,7 +101,7 @@ fn answer_some<P: Port, C: Clock>(
     replies: &mut Vec<u8>,
     port: &mut P,
     clock: &mut C,
-) -> Progress
+) -> StopReason
     requires empty { replies.old.items ≡ [] }
     requires room { 2 * MESSAGE_BYTES ≤ vec_capacity replies.old }
     requires idle { session.old.awaited ≡ None }
@@ -112,19 +115,20 @@ fn answer_some<P: Port, C: Clock>(
 {
     while replies.len() <= MESSAGE_BYTES as usize {
         match framer.next() {
-            Err(fault) => return Progress::Stopped(fault),
-            Ok(None) => return Progress::Done,
+            Err(fault) => return StopReason::Stopped(fault),
+            Ok(None) => return StopReason::Done,
             Ok(Some(message)) => {
                 answer_one(alloc, session, replies, port, clock.now(), message);
             }
         }
     }
-    Progress::More
+    StopReason::More
 }
 
 /// Answers every whole message that came, and writes the replies, as many at once as the buffer
-/// holds. If what comes next is no message, the error is FrameFault, after the replies to those
-/// before it.
+/// holds. If what comes next isn't a message, the error is FrameFault, once the replies to the
+/// messages before it are written. After WriteFault some replies are lost, and some messages that
+/// came may be unanswered.
 fn answer_all<S: Stream, P: Port, C: Clock>(
     alloc: Global,
     framer: &mut Framer,
@@ -160,15 +164,17 @@ fn answer_all<S: Stream, P: Port, C: Clock>(
             Ok(()) => {}
         }
         match progress {
-            Progress::More => continue,
-            Progress::Done => return Ok(()),
-            Progress::Stopped(fault) => return Err(ServeFault::FrameFault(fault)),
+            StopReason::More => continue,
+            StopReason::Done => return Ok(()),
+            StopReason::Stopped(fault) => return Err(ServeFault::FrameFault(fault)),
         }
     }
 }
 
-/// Reads and answers until the stream ends. `Ok` if it ends between two messages; an error says why
-/// the connection can't go on.
+/// Reads messages from the stream and answers them, until the stream ends: `Ok` if it ends between
+/// two messages. An error says why the connection can't go on. Every whole message that came before
+/// the error is answered, and its reply written, except after WriteFault, when some replies are
+/// lost.
 fn converse<S: Stream, P: Port, C: Clock>(
     alloc: Global,
     framer: &mut Framer,
@@ -230,6 +236,7 @@ fn converse<S: Stream, P: Port, C: Clock>(
             }
         }
     }
+    // all reads that a connection has were made
     Err(ServeFault::ReadFault)
 }
 
@@ -237,9 +244,9 @@ fn converse<S: Stream, P: Port, C: Clock>(
 /// order. Then it hangs up, also after an error.
 ///
 /// It returns `Ok` if the stream ended between two messages. An interrupted read or write is tried
-/// again, up to 999 in a row: the thousandth in a row is a fault. A connection has 4,294,967,295
-/// reads, counting the interrupted ones. Memory for its buffers is taken once, before the first
-/// read; if memory for a message runs out, the reply is an Rerror.
+/// again, up to 999 in a row: the thousandth in a row is a fault. A connection makes at most
+/// 4,294,967,295 reads, counting the interrupted ones. Memory for its buffers is taken once, before
+/// the first read; if memory for a message runs out, the reply is an Rerror.
 pub fn serve_stream<S: Stream, P: Port, C: Clock>(
     alloc: Global,
     stream: &mut S,

@@ -66,8 +66,8 @@ impl Session {
         self.msize
     }
 
-    /// Finds the run of an attach, and replies Found: the run then awaits the attach. If the find
-    /// is refused, the connection is unchanged.
+    /// Finds the run of an attach, and replies Found: the run then awaits the attach. Any other
+    /// reply refuses the find, and leaves the connection as it was.
     pub fn find_step<P: Port>(
         &mut self,
         alloc: Global,
@@ -123,7 +123,7 @@ impl Session {
     }
 
     /// Closes an open fid, which is free afterwards, whatever the run answers. S5, and nothing
-    /// changes, if the fid isn't open or a run awaits its attach.
+    /// changes, if there is no open fid of that number or a run awaits its attach.
     pub fn close_step<P: Port>(&mut self, alloc: Global, port: &mut P, now: u32, fid: u32) -> Reply
         ensures takes { IsStepTaken P.gives now self.old port.old (CloseStep fid) result self.new
             port.new }
@@ -152,9 +152,11 @@ impl Session {
         self.msize = msize;
     }
 
-    /// Changes only the connection's fids and message size, and asks the port nothing (version(5),
-    /// clunk(5)). S5, and nothing changes, if a run awaits its attach, if the fid of a clunk is
-    /// open, or if any fid is open at a version or a hang-up.
+    /// Takes a step that asks the port nothing: it changes only the connection's fids and message
+    /// size (version(5), clunk(5)). S5, and nothing changes, if a run awaits its attach, if the fid
+    /// of a clunk is open, or if any fid is open at a version or a hang-up. Nothing changes either
+    /// after a clunk's S1 (no session has begun) or N1 (no such fid). Any other version frees every
+    /// fid and ends the old session, even one whose reply is S4 (its message size is too small).
     pub fn table_step(&mut self, step: TableStep) -> Reply
         ensures value { (result, self.new) ≡ table_stepped self.old step }
         ensures plain { IsPlain result }

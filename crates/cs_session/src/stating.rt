@@ -29,7 +29,7 @@ pub(crate) fn decide_stat(
     if let Some(rule) = first_failing_rule(awaits_attach, msize, &Request::Stat { fid }, fids) {
         return Err(Reply::Error(rule));
     }
-    let Some(entry) = fids.look(fid) else {
+    let Some(entry) = fids.entry_of(fid) else {
         // the rules refuse a fid that isn't there
         unreachable!()
     };
@@ -56,7 +56,7 @@ pub(crate) fn decide_wstat(
     if let Some(rule) = first_failing_rule(awaits_attach, msize, &request, fids) {
         return Err(Reply::Error(rule));
     }
-    let Some(entry) = fids.look(message.fid) else {
+    let Some(entry) = fids.entry_of(message.fid) else {
         // the rules refuse a fid that isn't there
         unreachable!()
     };

@@ -20,7 +20,8 @@ fn before_period(text: &[u8]) -> &[u8]
     Pieces::of(text, b'.').next().unwrap_or(b"".as_slice())
 }
 
-/// Whether the text before its first period is `9P2000`, the version that this server speaks.
+/// Whether the text before its first period is `9P2000`, the version that this server speaks and
+/// that `version_text` of `receiving` names.
 fn is_spoken(text: &[u8]) -> bool
     ensures { result ≡ is_spoken text.now }
 {
@@ -28,7 +29,8 @@ fn is_spoken(text: &[u8]) -> bool
 }
 
 /// The reply to a version: the smaller of the client's and the server's message size, and whether
-/// the version is spoken. S4 if the client's size is too small for a session.
+/// the version is spoken. S4 if the client's size is too small for a session. `session_size` has
+/// the same two conditions and the same size.
 pub(crate) fn version_reply(msize: u32, version: &str) -> Reply
     ensures value { result ≡ version_reply msize version.now }
     ensures plain { IsPlain result }
@@ -42,8 +44,8 @@ pub(crate) fn version_reply(msize: u32, version: &str) -> Reply
     }
 }
 
-/// The message size of the session that a version begins; None if it begins none, because the
-/// client's size is too small or the version isn't spoken.
+/// The message size of the session that a version begins, as `version_reply` names it; None if it
+/// begins none, because the client's size is too small or the version isn't spoken.
 pub(crate) fn session_size(msize: u32, version: &str) -> Option<u32>
     ensures value { result ≡ session_size msize version.now }
     ensures agreed { ForSome result IsAgreed }
@@ -54,8 +56,8 @@ pub(crate) fn session_size(msize: u32, version: &str) -> Option<u32>
     Some(msize.min(MESSAGE_BYTES))
 }
 
-/// Frees a fid that isn't open, and returns the reply. S5 if it is open, N1 if there is none; then
-/// no fid changes.
+/// Frees the fid of that number if it isn't open, and replies Clunk. S5 if the fid is open, N1 if
+/// there is no such fid; then no fid changes.
 pub(crate) fn clunk_walked(fids: &mut FidTable, fid: u32) -> Reply
     ensures value { result ≡ clunk_reply (fid_at fids.old fid) }
     ensures plain { IsPlain result }
@@ -64,6 +66,8 @@ pub(crate) fn clunk_walked(fids: &mut FidTable, fid: u32) -> Reply
     match fids.take_walked(fid) {
         Ok(_walked) => Reply::Clunk,
         Err(FidFault::AlreadyOpen) => Reply::Error(RuleId::S5),
-        Err(_) => Reply::Error(RuleId::N1),
+        Err(FidFault::Unknown) => Reply::Error(RuleId::N1),
+        // `take_walked` has only these two faults
+        Err(_) => unreachable!(),
     }
 }

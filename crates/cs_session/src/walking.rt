@@ -50,10 +50,11 @@ pub(crate) fn decide_walk(
     if let Some(rule) = first_failing_rule(awaits_attach, msize, &request, fids) {
         return Err(Reply::Error(rule));
     }
+    // the rules refuse a full table, so the only error is out of memory
     if message.newfid != message.fid && fids.reserve().is_err() {
         return Err(Reply::Memory);
     }
-    let Some(FidEntry::Walked(fid)) = fids.look(message.fid) else {
+    let Some(FidEntry::Walked(fid)) = fids.entry_of(message.fid) else {
         // the rules refuse a fid that is open or isn't there
         unreachable!()
     };
@@ -92,8 +93,8 @@ fn move_fid(fids: &mut FidTable, fid: u32, newfid: u32, from: Fid<Walked>, walk:
     }
 }
 
-/// The reply to a walk that the run answered. The new fid is added or moved, unless the run refuses
-/// the walk or a rule stops it.
+/// The reply to a walk that the run answered. The new fid is added, or moved if it is `fid` itself.
+/// If the run refuses the walk or a rule stops it, no fid changes.
 pub(crate) fn settle_walk(
     fids: &mut FidTable,
     fid: u32,

@@ -31,7 +31,7 @@ pub(crate) fn decide_write<'a>(
     if let Some(rule) = first_failing_rule(awaits_attach, msize, &request, fids) {
         return Err(Reply::Error(rule));
     }
-    let Some(FidEntry::Opened(fid)) = fids.look(message.fid) else {
+    let Some(FidEntry::Opened(fid)) = fids.entry_of(message.fid) else {
         // the rules refuse a fid that isn't open
         unreachable!()
     };

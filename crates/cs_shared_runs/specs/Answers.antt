@@ -75,7 +75,7 @@ IsAttachOf serves number now call (Ok x) =
 IsAttachOf serves number now call (Err fault) = IsRefused serves number fault
 
 -- what a look returned of the run under the lock; None if that is of another number
-abbrev pub IsTold : {T : Type 0} → HasTree → ℕ → (RunOf → T → Type 0) → Option T → Type 0
-IsTold serves number tells (Some told) =
-    (run : RunOf) × IsServed serves number run × tells run told
-IsTold serves number tells None = IsOfAnother serves number
+abbrev pub IsLookOf : {T : Type 0} → HasTree → ℕ → (RunOf → T → Type 0) → Option T → Type 0
+IsLookOf serves number may_return (Some found) =
+    (run : RunOf) × IsServed serves number run × may_return run found
+IsLookOf serves number may_return None = IsOfAnother serves number

@@ -34,6 +34,6 @@ IsHandle new (Ok place) (Err fault) = fault ≡ Memory
 -- what is found is the run of the key
 pub record FindsShared (old : Registry Key) (key : Key) (answer : Result Key FindFault)
     (new : Registry Key) : Type 0 where
-  pub told : Result ℕ FindFault
-  pub found : Finds is_fresh old key told new
-  pub handle : IsHandle new told answer
+  pub place : Result ℕ FindFault
+  pub found : Finds is_fresh old key place new
+  pub handle : IsHandle new place answer

@@ -14,7 +14,7 @@ impl<S: ServerBrand> PartialEq for SharedRun<S> {
 
     ghost laws = { partial_equiv_from_equiv same_key-laws };
 
-    /// Whether both are of the same run: they have the same key.
+    /// Whether both handles have the same key.
     fn eq(&self, other: &SharedRun<S>) -> bool {
         self.key() == other.key()
     }

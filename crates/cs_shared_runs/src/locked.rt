@@ -3,7 +3,7 @@ ghost use Rattle.std.specs.Prelude.{◌≡◌, ◌≢◌, ◌↔◌, IsNone, IsS
 ghost use Rattle.cs_permit.specs.declared.call.Call.TheVariants as called;
 ghost use Rattle.cs_run.specs.Laws.{FitsCall};
 ghost use Rattle.cs_shared_runs.specs.Locks.{LockedAttaches, LockedCalls};
-ghost use Rattle.cs_shared_runs.specs.Answers.{IsAnswerOf, IsAttachOf, IsTold};
+ghost use Rattle.cs_shared_runs.specs.Answers.{IsAnswerOf, IsAttachOf, IsLookOf};
 
 use crate::look::Look;
 use crate::served::ServerBrand;
@@ -50,17 +50,19 @@ impl<S: ServerBrand> Locked<S> {
         }
     }
 
-    /// Whether the run is of that number. It always is: a handle and its lock are made with the
-    /// same number. But contracts see nothing inside a lock, so each call checks it and says what
-    /// it does otherwise.
+    /// Whether the run is over the state of that number. It always is, since `SharedRun::fresh`
+    /// makes a handle and what its lock protects with the same number. But contracts see nothing
+    /// inside a lock, so no call can be proved to find its own run there: each checks the number,
+    /// and its line says what it returns for another.
     fn is_of(&self, number: u32) -> bool
         ensures { IsTrue result ↔ (self.now.number ≡ number) }
     {
         self.number == number
     }
 
-    /// Does a call under a pass at that moment, by `Run::step`. Denied by S5, with nothing changed,
-    /// if the pass isn't one of the run, or if the run is of another number, which can't happen.
+    /// Does a call under a pass at the moment `now`, by `Run::step`. Denied by S5, with nothing
+    /// changed, if the pass isn't one of the run, or if the run is of another number (never so: see
+    /// `is_of`).
     pub(crate) fn call(
         &mut self,
         alloc: Global,
@@ -71,7 +73,7 @@ impl<S: ServerBrand> Locked<S> {
     ) -> Answer
         ensures calls { LockedCalls self.old number pass.old now call.entry result
             self.new pass.new }
-        ensures told { IsAnswerOf S.serves number pass.old now call.entry result pass.new }
+        ensures answers { IsAnswerOf S.serves number pass.old now call.entry result pass.new }
         ensures fits { FitsCall call.entry result }
     {
         // by its contract the journal is legal
@@ -85,9 +87,10 @@ impl<S: ServerBrand> Locked<S> {
         self.run.step(alloc, pass, now, call)
     }
 
-    /// Attaches a user under a new pass at that moment. Room or Memory if `Run::new_pass` refuses
-    /// the pass; Foreign if the run is of another number, which can't happen. After a refusal the
-    /// run is as it was.
+    /// Attaches a user under a new pass at the moment `now`. If the attach is denied, as of an
+    /// unknown user, the pass is returned too and stays counted. Room or Memory if `Run::new_pass`
+    /// refuses the pass; Foreign if the run is of another number (never so: see `is_of`). After an
+    /// error the run is unchanged.
     pub(crate) fn attach(
         &mut self,
         alloc: Global,
@@ -97,7 +100,7 @@ impl<S: ServerBrand> Locked<S> {
     ) -> Result<(Pass, Answer), PassFault>
         ensures attaches { LockedAttaches self.old number now
             (called.Attach (record { user = user })) result self.new }
-        ensures told { IsAttachOf S.serves number now
+        ensures answers { IsAttachOf S.serves number now
             (called.Attach (record { user = user })) result }
     {
         // by its contract the journal is legal
@@ -116,12 +119,13 @@ impl<S: ServerBrand> Locked<S> {
         Ok((pass, answer))
     }
 
-    /// What `look` returns of the run. None if the run is of another number, which can't happen.
+    /// What `look` returns of the run; None if the run is of another number (never so: see
+    /// `is_of`).
     pub(crate) fn inspect<T, K: Look<T> + Drop>(&self, number: u32, look: K) -> Option<T>
         ensures looks { self.now.number ≡ number
-            → IsSomeAnd result (K.tells look self.now.run) }
+            → IsSomeAnd result (K.may_return look self.now.run) }
         ensures foreign { self.now.number ≢ number → IsNone result }
-        ensures told { IsTold S.serves number (K.tells look) result }
+        ensures answers { IsLookOf S.serves number (K.may_return look) result }
     {
         // by its contract the journal is legal
         know(self.run.entries());

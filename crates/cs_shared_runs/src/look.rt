@@ -8,17 +8,18 @@ use cs_plan::Built;
 pub trait Look<T> {
     ghost use Rattle.cs_journal.specs.Runs.{RunOf};
 
-    /// What it may return of a run.
-    ghost tells: { Self → RunOf → T → Type 0 };
+    /// What `look` may return of a run.
+    ghost may_return: { Self → RunOf → T → Type 0 };
 
     /// Looks at the run, and returns what it found.
     fn look(self, run: &Run<Built>) -> T
-        ensures { tells self run.now result };
+        ensures { may_return self run.now result };
 }
 
 /// How many entries the run's journal has, and the result of its audit by these passes.
 #[derive(Drop)]
 pub struct AuditBy<'p> {
+    /// The passes whose receipts are compared with the journal: the run's own, or any others.
     pub passes: &'p [Pass],
 }
 
@@ -26,10 +27,10 @@ impl<'p> Look<(usize, Result<(), AuditFault>)> for AuditBy<'p> {
     ghost use Rattle.std.specs.Prelude.{◌≡◌, length};
     ghost use Rattle.cs_journal.specs.Audit.{Audits};
 
-    ghost tells = { λ by run told. (told.0 ≡ length run.journal)
-        × Audits by.passes.now run.journal told.1 };
+    ghost may_return = { λ by run found. (found.0 ≡ length run.journal)
+        × Audits by.passes.now run.journal found.1 };
 
-    /// The number of the journal's entries, and the audit's result.
+    /// How many entries the journal has, and the result of its audit by the passes.
     fn look(self, run: &Run<Built>) -> (usize, Result<(), AuditFault>) {
         (run.entries(), run.audit(self.passes))
     }

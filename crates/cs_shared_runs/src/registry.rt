@@ -55,8 +55,8 @@ impl Model for LoadedUsers {
 }
 
 impl<S: ServerBrand> Registry<S> {
-    /// A registry of the server's scene with no published state. Its runs have these users until
-    /// others are loaded.
+    /// A registry of the server's scene with no published state and no run. New runs get these
+    /// users until another list is loaded. An error means out of memory.
     pub fn new(
         alloc: Global,
         scene: Arc<Scene>,
@@ -73,8 +73,8 @@ impl<S: ServerBrand> Registry<S> {
         })
     }
 
-    /// The registry of these states of the server's scene and their runs, as cs_publish's
-    /// `publish_all` makes it.
+    /// The registry of these states and their runs, such as cs_publish's `publish_all` returns. The
+    /// states are of the server's scene, and each run has its own key.
     pub fn of(states: States<SharedRun<S>>) -> Registry<S>
         requires own { S.is_scene states.scene }
         requires keyed { All IsKeyed states.runs }
@@ -83,14 +83,14 @@ impl<S: ServerBrand> Registry<S> {
         Registry { states }
     }
 
-    /// The scene of the registry.
+    /// The scene whose states the registry has.
     pub fn scene(&self) -> &Arc<Scene>
         ensures { arc_value result.now ≡ self.now.scene }
     {
         self.states.scene()
     }
 
-    /// How many states of the plan aren't published yet; 0 if all are.
+    /// How many states of the scene's plan aren't published yet, as `States::missing` counts them.
     pub fn missing(&self) -> u32
         ensures count { result ≡ missing_of self.now }
         ensures few { result ≤ length self.now.scene.plan }
@@ -100,7 +100,7 @@ impl<S: ServerBrand> Registry<S> {
     }
 
     /// Publishes a state under its number, as `States::publish` does: refused as Stranger, Twice or
-    /// Memory, in this order. A refused state is dropped, and the registry is as it was.
+    /// Memory, in this order. A refused state is dropped, and the registry is unchanged.
     pub fn publish(&mut self, alloc: Global, state: Published) -> Result<(), PublishFault>
         ensures publishes { Publishes self.old state result self.new }
         ensures own { S.is_scene self.old.scene }
@@ -109,8 +109,8 @@ impl<S: ServerBrand> Registry<S> {
     }
 
     /// Publishes a state of the only scene that may be the server's, as `publish` does but without
-    /// comparing contents. It may be refused as Twice or Memory, never as Stranger. A refused state
-    /// is dropped, and the registry is as it was.
+    /// comparing contents. The state may be refused as Twice or Memory, never as Stranger. A
+    /// refused state is dropped, and the registry is unchanged.
     pub fn publish_own(&mut self, alloc: Global, state: Published) -> Result<(), PublishFault>
         requires { IsOnly S.is_scene state.scene }
         ensures publishes { Publishes self.old state result self.new }
@@ -122,8 +122,8 @@ impl<S: ServerBrand> Registry<S> {
     }
 
     /// Finds or makes the run of a key, as `States::find_key` does, and returns a handle of it.
-    /// Memory also if the run has as many handles as can be; the find stays counted then. After any
-    /// other refusal the registry is as it was.
+    /// Memory also if the run has as many handles as can be: then the find stays counted, and a run
+    /// that this find made stays in the registry. After any other error the registry is unchanged.
     pub fn find_key(&mut self, alloc: Global, key: RunKey) -> Result<SharedRun<S>, FindFault>
         ensures finds { FindsShared self.old key result self.new }
         ensures key { IfOk result (λ shared. shared ≡ key) }
@@ -136,7 +136,7 @@ impl<S: ServerBrand> Registry<S> {
     }
 
     /// Loads these users, for the runs that are made from now on, and returns them as the list that
-    /// was loaded. If memory runs out, the old list stays.
+    /// was loaded. An error, if the list has as many handles as can be, leaves the old list loaded.
     pub fn reload(&mut self, users: Arc<Users>) -> Result<LoadedUsers, AllocError>
         ensures value { IfOk result (λ loaded. loaded ≡ arc_value users) }
         ensures loads { IfOk result (λ loaded. self.new ≡ with_users self.old (arc_value users)) }
@@ -147,7 +147,8 @@ impl<S: ServerBrand> Registry<S> {
         Ok(LoadedUsers { users })
     }
 
-    /// Handles of all runs, in the order of their keys.
+    /// Handles of all runs, in the order of their keys, or an error if memory runs out or a run has
+    /// as many handles as can be.
     pub fn runs(&self, alloc: Global) -> Result<Vec<SharedRun<S>>, AllocError>
         ensures all { IfOk result (λ runs. IsPermutation (keys_of self.now.runs) runs.items) }
         ensures sorted { IfOk result (λ runs. IsSorted key_cmp runs.items) }
@@ -158,7 +159,8 @@ impl<S: ServerBrand> Registry<S> {
     }
 }
 
-/// Handles of all runs, in the order in which they were made.
+/// Handles of all runs, in the order in which they were made, or an error if memory runs out or a
+/// run has as many handles as can be.
 fn all_runs<S: ServerBrand>(
     alloc: Global,
     states: &States<SharedRun<S>>,

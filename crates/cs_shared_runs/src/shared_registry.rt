@@ -39,8 +39,8 @@ impl<S: ServerBrand> Model for SharedRegistry<S> {
 }
 
 impl<S: ServerBrand> SharedRegistry<S> {
-    /// A registry of the server's scene with no published state. Its runs have these users until
-    /// others are loaded.
+    /// A shared registry of the server's scene with no published state and no run. New runs get
+    /// these users until another list is loaded. An error means out of memory.
     pub fn new(
         alloc: Global,
         scene: Arc<Scene>,
@@ -58,7 +58,8 @@ impl<S: ServerBrand> SharedRegistry<S> {
         })
     }
 
-    /// The registry, put under a lock for threads to share. An error drops it.
+    /// The registry, put under a lock for threads to share. An error, if its scene has as many
+    /// handles as can be, drops the registry.
     pub fn of(registry: Registry<S>) -> Result<SharedRegistry<S>, AllocError>
         ensures { IfOk result (λ shared. shared ≡ registry.scene) }
     {
@@ -71,7 +72,7 @@ impl<S: ServerBrand> SharedRegistry<S> {
         })
     }
 
-    /// The scene of the registry.
+    /// The scene of the registry, which is kept outside the lock.
     pub fn scene(&self) -> &Arc<Scene>
         ensures scene { arc_value result.now ≡ self.now }
         ensures own { S.is_scene self.now }
@@ -79,7 +80,8 @@ impl<S: ServerBrand> SharedRegistry<S> {
         &self.scene
     }
 
-    /// How many states of the plan aren't published yet. Other threads may publish some meanwhile.
+    /// How many states of the plan weren't published while the lock was held; 0 if all were. Other
+    /// threads may have published some since.
     pub fn missing(&self, rt: &impl Wait) -> u32
         ensures { IsOnly S.is_scene self.now → result ≤ length self.now.plan }
     {
@@ -87,8 +89,9 @@ impl<S: ServerBrand> SharedRegistry<S> {
     }
 
     /// Publishes a state under its number, by `States::publish` under the lock. If no other scene
-    /// may be the server's, it is Stranger exactly if the scene has no such state. No clause says
-    /// when it is Twice or Memory, since contracts see nothing under the lock.
+    /// may be the server's, the result is Stranger exactly if the scene has no such state. No
+    /// clause says when it is Twice or Memory, since contracts see nothing under the lock. After an
+    /// error the state is dropped, and the registry is unchanged.
     pub fn publish(
         &self,
         rt: &impl Wait,
@@ -102,7 +105,8 @@ impl<S: ServerBrand> SharedRegistry<S> {
     }
 
     /// Publishes a state of the scene, which is the only one that may be the server's, as `publish`
-    /// does but without comparing contents. It is never Stranger.
+    /// does but without comparing contents. The state may be refused as Twice or Memory, never as
+    /// Stranger; it is dropped then, and the registry is unchanged.
     pub fn publish_own(
         &self,
         rt: &impl Wait,
@@ -118,7 +122,8 @@ impl<S: ServerBrand> SharedRegistry<S> {
 
     /// Finds the run of that name over the state of that number, or makes it, by `States::find`
     /// under the lock, and returns a handle of it. Memory also if the run has as many handles as
-    /// can be; the find stays counted then. No clause says when a find is refused.
+    /// can be: then the find stays counted, and a run that this find made stays in the registry. No
+    /// clause says when a find is refused.
     pub fn find(
         &self,
         rt: &impl Wait,
@@ -131,7 +136,8 @@ impl<S: ServerBrand> SharedRegistry<S> {
         self.find_key(rt, alloc, RunKey::new(number, name))
     }
 
-    /// Finds or makes the run of a key: as `find` does for the key's number and name.
+    /// Finds or makes the run of a key, and returns a handle of it, as `find` does for the key's
+    /// number and name, with the same refusals.
     pub fn find_key(
         &self,
         rt: &impl Wait,
@@ -157,7 +163,9 @@ impl<S: ServerBrand> SharedRegistry<S> {
         self.inside.lock(rt).reload(users)
     }
 
-    /// Handles of all runs, ordered by the numbers of their states and then by name.
+    /// Handles of all runs that there were while the lock was held, ordered by the numbers of their
+    /// states and then by name. An error means out of memory, or that a run has as many handles as
+    /// can be.
     pub fn runs(&self, rt: &impl Wait, alloc: Global) -> Result<Vec<SharedRun<S>>, AllocError>
         ensures { IfOk result (λ runs. IsSorted key_cmp runs.items) }
     {

@@ -4,7 +4,7 @@ ghost use Rattle.std.specs.Arc.{arc_value};
 ghost use Rattle.cs_journal.specs.Bounds.{CanGrow};
 ghost use Rattle.cs_permit.specs.declared.call.Call.TheVariants as called;
 ghost use Rattle.cs_run.specs.Laws.{FitsCall};
-ghost use Rattle.cs_shared_runs.specs.Answers.{IsAnswerOf, IsAttachOf, IsTold};
+ghost use Rattle.cs_shared_runs.specs.Answers.{IsAnswerOf, IsAttachOf, IsLookOf};
 
 use crate::locked::Locked;
 use crate::look::Look;
@@ -37,8 +37,8 @@ impl<S: ServerBrand> Model for SharedRun<S> {
 }
 
 impl<S: ServerBrand> SharedRun<S> {
-    /// A handle of a new run of that key, with no open and no entry. `lower` is the tree of the
-    /// run's state.
+    /// A handle of a new run of that key, which has no open file and an empty journal. `lower` is
+    /// the tree of the run's state. An error means out of memory.
     pub fn fresh(
         alloc: Global,
         key: RunKey,
@@ -54,7 +54,7 @@ impl<S: ServerBrand> SharedRun<S> {
         Ok(SharedRun { key, run })
     }
 
-    /// Another handle of the same run. It fails if the run has as many handles as can be.
+    /// Another handle of the same run. An error means that the run has as many handles as can be.
     pub fn try_clone(&self) -> Result<SharedRun<S>, AllocError>
         ensures { IfOk result (λ shared. shared ≡ self.now) }
     {
@@ -71,10 +71,11 @@ impl<S: ServerBrand> SharedRun<S> {
         &self.key
     }
 
-    /// Attaches a user under a new pass at that moment, in seconds since 1970. Room if the run gave
-    /// RUN_ATTACHES passes already; else Memory if an allocation fails. (Foreign, for a run of
-    /// another number under the lock, can't happen.) After an error no pass was given, and the run
-    /// is unchanged.
+    /// Attaches a user under a new pass at the moment `now`, in seconds since 1970. If the attach
+    /// is denied, as of an unknown user, the pass is returned too and counts to RUN_ATTACHES. Room
+    /// if the run gave RUN_ATTACHES passes already; else Memory if an allocation fails. (Foreign,
+    /// for a run of another number under the lock, is never returned.) After an error the run is
+    /// unchanged.
     pub fn attach(
         &self,
         rt: &impl Wait,
@@ -89,8 +90,8 @@ impl<S: ServerBrand> SharedRun<S> {
         self.run.lock(rt).attach(alloc, number, now, user)
     }
 
-    /// Does a call under a pass at that moment, in seconds since 1970, by `Run::step`. Denied by S5
-    /// if the pass isn't one of the run.
+    /// Does a call under a pass at the moment `now`, in seconds since 1970, by `Run::step`. Denied
+    /// by S5, and nothing changes, if the pass isn't one of the run.
     pub fn call(
         &self,
         rt: &impl Wait,
@@ -99,7 +100,7 @@ impl<S: ServerBrand> SharedRun<S> {
         now: u32,
         call: Call<'_>,
     ) -> Answer
-        ensures told { IsAnswerOf S.serves self.now.number pass.old now call.entry result
+        ensures answers { IsAnswerOf S.serves self.now.number pass.old now call.entry result
             pass.new }
         ensures fits { FitsCall call.entry result }
     {
@@ -108,9 +109,9 @@ impl<S: ServerBrand> SharedRun<S> {
     }
 
     /// What `look` returns of the run, under the lock. (None, for a run of another number under the
-    /// lock, can't happen.)
+    /// lock, is never returned. But contracts see nothing inside a lock, so it isn't proved.)
     pub fn inspect<T, K: Look<T> + Drop>(&self, rt: &impl Wait, look: K) -> Option<T>
-        ensures { IsTold S.serves self.now.number (K.tells look) result }
+        ensures { IsLookOf S.serves self.now.number (K.may_return look) result }
     {
         self.run.lock(rt).inspect(self.key.number(), look)
     }
@@ -124,7 +125,7 @@ impl<S: ServerBrand> Held for SharedRun<S> {
 
     ghost is_fresh = { λ key tree users shared. shared ≡ key };
 
-    /// As `SharedRun::fresh`, for a copy of the key.
+    /// A handle of a new run, as `SharedRun::fresh` makes it, with a copy of the key.
     fn fresh(
         alloc: Global,
         key: &RunKey,

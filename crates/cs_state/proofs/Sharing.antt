@@ -11,7 +11,7 @@ use Rattle.cs_apm.specs.declared.slot.Slot.TheVariants.{Nothing, Directory, File
 use Rattle.cs_apm.specs.declared.slot.Step.{Step}
 use Rattle.cs_apm.specs.declared.slot.Step.TheVariants as step
 use Rattle.cs_apm.proofs.Building.{long_left}
-use Rattle.cs_state.specs.declared.numbers.Found.{Found}
+use Rattle.cs_state.specs.declared.numbers.PathEntry.{PathEntry}
 use Rattle.cs_state.specs.declared.numbers.Own.{Own}
 use Rattle.cs_state.specs.declared.parts.Parts.{Parts}
 use Rattle.cs_state.specs.Numbers.{own_in_place, number_in, HasId, IsFound, IsKept}
@@ -44,7 +44,7 @@ owned_left slots i k id at (File n) = refl
 after_left : (slots : List Slot) (s : Step) (id : ℕ) → Leaves id s → slot_at (slots_after slots s) id ≡ slot_at slots id
 after_left slots (step.Set i s) id left = get_or-set_other slots i id s Nothing (λ e. left (sym e))
 after_left slots (step.Move i j) id left = moved_left slots i j id left.0 left.1 (slot_at slots i)
-after_left slots (step.Own i k) id left = owned_left slots i k id left (slot_at slots i)
+after_left slots (step.SetRights i k) id left = owned_left slots i k id left (slot_at slots i)
 after_left slots step.Other id left = refl
 
 pub fold_same : (steps : List Step) (id : ℕ) → IsLeft steps id → (places : List ℕ) (slots : List Slot)
@@ -89,7 +89,7 @@ module _ (parts : Parts) (places : List ℕ) (own : List Own) (h : IsState parts
   pub id_low : (id : ℕ) → HasId kept own id → id < length parts.tables.slots.items
   id_low id has = subst (λ n. id < n) same_long (stands_inside slots id (h.shared.there id has))
 
-  pub found_slot : (f : Found) → IsFound kept parts.tables.slots.items own f → f.slot ≡ slot_at slots f.id
+  pub found_slot : (f : PathEntry) → IsFound kept parts.tables.slots.items own f → f.slot ≡ slot_at slots f.id
   found_slot f is = ⊎_elim
       (λ (w : IsKept kept f.id × (f.slot ≡ slot_at parts.tables.slots.items f.id)).
       let left = subst (IsLeft parts.tables.steps.items) w.0.2 (h.whole.shares.kept_left w.0.0 w.0.1) in
@@ -98,13 +98,13 @@ module _ (parts : Parts) (places : List ℕ) (own : List Own) (h : IsState parts
       w.0 w.1 ∙ ap (slot_at slots) w.2)
       is
 
-  found_id : (f : Found) → IsFound kept parts.tables.slots.items own f → HasId kept own f.id
+  found_id : (f : PathEntry) → IsFound kept parts.tables.slots.items own f → HasId kept own f.id
   found_id f is = ⊎_elim
       (λ (w : IsKept kept f.id × (f.slot ≡ slot_at parts.tables.slots.items f.id)). inl w.0)
       (λ (w : (k : ℕ) × (k < length own) × ((own_in_place own k).id ≡ f.id) × ((own_in_place own k).slot ≡ f.slot)). inr (w.0, w.1, w.2))
       is
 
-  pub found_place : (f : Found) (n : ℕ) → IsFound kept parts.tables.slots.items own f → number_in kept own f.id ≡ n
+  pub found_place : (f : PathEntry) (n : ℕ) → IsFound kept parts.tables.slots.items own f → number_in kept own f.id ≡ n
       → place_of slots f.id ≡ Some n
   found_place f n is number = has_place slots kept own h.shared f.id n (found_id f is) number
 

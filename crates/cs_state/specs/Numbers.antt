@@ -5,7 +5,7 @@ use Rattle.std.specs.Prelude.{slice_index_or}
 use Rattle.cs_apm.specs.declared.slot.Slot.{Slot}
 use Rattle.cs_apm.specs.declared.slot.Slot.TheVariants.{Nothing}
 use Rattle.cs_apm.specs.Slots.{slot_at}
-use Rattle.cs_state.specs.declared.numbers.Found.{Found}
+use Rattle.cs_state.specs.declared.numbers.PathEntry.{PathEntry}
 use Rattle.cs_state.specs.declared.numbers.Own.{Own}
 
 -- how many of the list are below y
@@ -39,7 +39,7 @@ abbrev pub HasId : List ℕ → List Own → ℕ → Type 0
 HasId kept own id = IsKept kept id ⊎ IsOwn own id
 
 -- what is there is what is there at the start, or what the state has of its own
-abbrev pub IsFound : List ℕ → List Slot → List Own → Found → Type 0
+abbrev pub IsFound : List ℕ → List Slot → List Own → PathEntry → Type 0
 IsFound kept slots own f =
     (IsKept kept f.id × (f.slot ≡ slot_at slots f.id))
     ⊎ ((k : ℕ) × (k < length own) × ((own_in_place own k).id ≡ f.id)

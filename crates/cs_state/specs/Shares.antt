@@ -35,7 +35,7 @@ place_of slots id = cond (is_entry (slot_at slots id)) (Some (count_standing slo
 abbrev pub Leaves : ℕ → Step → Type 0
 Leaves id (step.Set i s) = i ≢ id
 Leaves id (step.Move i j) = (i ≢ id) × (j ≢ id)
-Leaves id (step.Own i k) = i ≢ id
+Leaves id (step.SetRights i k) = i ≢ id
 Leaves id step.Other = Unit {0}
 
 -- no step changes the slot of the id
@@ -46,7 +46,7 @@ IsLeft steps id = (k : ℕ) → k < length steps → Leaves id (step_at steps k)
 abbrev pub Touches : ℕ → Step → Type 0
 Touches id (step.Set i s) = i ≡ id
 Touches id (step.Move i j) = (i ≡ id) ⊎ (j ≡ id)
-Touches id (step.Own i k) = i ≡ id
+Touches id (step.SetRights i k) = i ≡ id
 Touches id step.Other = ⊥
 
 -- one of the steps does

@@ -58,7 +58,8 @@ row_at steps page = option_map_or (λ row. row.items) (get nat_cmp steps.pages p
 
 -- those that change the file, which has so many bytes at the start
 pub record AreFileSteps (n size : ℕ) (ops : List MicroOp) (steps : FileSteps) : Type 0 where
-  pub sizes : steps.sizes.items ≡ numbers_that_pass (λ k. resizes n (op_at ops k)) (length ops)
+  pub sizes : steps.size_changes.items
+      ≡ numbers_that_pass (λ k. resizes n (op_at ops k)) (length ops)
   pub rows : (page : ℕ)
       → row_at steps page ≡ numbers_that_pass (touches n size ops (Some page)) (length ops)
 

@@ -48,7 +48,7 @@ impl Model for Atlas {
 
 impl Atlas {
     /// The atlas of a trace and its micro-operations, which must be those that `break_up` returns.
-    /// What all states share is computed here, once.
+    /// What all states share is computed here, once. After an error both are dropped.
     pub fn of(alloc: Global, trace: Trace, micros: Micros) -> Result<Atlas, AllocError>
         requires broken { micros ≡ micros_in trace }
         requires legal { AreLegal (block_of_version trace.version) (start_paths trace)
@@ -89,7 +89,9 @@ impl Atlas {
         &self.parts.micros
     }
 
-    /// The state of an allowed set, which has the micro-operations at these places.
+    /// The state of an allowed set, whose members are the micro-operations at these places. It
+    /// shares with the other states what is the same in all. (`build` of cs_apm makes a plain
+    /// store.)
     pub fn build(&self, alloc: Global, places: &[u32]) -> Result<Built, AllocError>
         requires { IsAllowed (needs_of (micros_in self.now)) (length (micros_in self.now).ops)
             places.now }

@@ -16,7 +16,7 @@ use cs_apm::state::slots_of_set;
 use std::alloc::{AllocError, Global};
 
 /// Appends what is in the slot of the touched path `id`, with its number in the state; nothing if
-/// the slot is empty. `before` kept paths come before the path.
+/// the slot is empty. `before` is how many kept paths are before the path.
 fn push_own(own: &mut Vec<Own>, id: u32, before: u32, slot: Slot) -> Result<(), AllocError>
     requires { before + length own.old.items < 2 ^ 32 }
     ensures { OnOk result
@@ -30,7 +30,7 @@ fn push_own(own: &mut Vec<Own>, id: u32, before: u32, slot: Slot) -> Result<(), 
 }
 
 /// What is at those touched paths at which there is something, with their numbers in the state.
-/// `slots` has what is at each path, and `kept_below` how many kept paths come before each.
+/// `slots` has what is at each path, and `kept_below` how many kept paths are before each.
 fn touched_entries(
     alloc: Global,
     touched: &[u32],
@@ -65,6 +65,7 @@ pub fn own_of(alloc: Global, parts: &Parts, places: &[u32]) -> Result<Vec<Own>, 
     let shares = &parts.shares;
     let slots = slots_of_set(alloc, &parts.tables, places)?;
     let own = touched_entries(alloc, &shares.touched, &shares.kept_below, &slots)?;
+    // A copy has no spare room, which the pushes may have left: many states are kept.
     let own = Vec::from_slice(alloc, &own)?;
     Ok(own)
 }

@@ -14,39 +14,46 @@ ghost use Rattle.cs_state.specs.Windows.{size_after, whole_content, IsPart};
 
 use crate::file_part::{copy_part, write_piece, zero_past};
 use crate::file_steps::{FileSteps, PAGE_BYTES, size_after};
-use crate::members::{first_members, is_member};
+use crate::members::{count_members, is_member};
 use cs_micro::MicroOp;
 use std::alloc::{AllocError, Global};
 
-/// The size of the file after the members: that which the last member in `sizes` sets, or `size`,
-/// the size at the start, if none is a member. `sizes` has the places of the micro-operations that
-/// change it, of which the members must be the first.
-pub fn size_left(file: usize, size: u64, ops: &[MicroOp], sizes: &[u32], members: &[bool]) -> u64
-    requires sizes { sizes.now
+/// The size of the file after the members: what the last member in `size_changes` sets, or `size`,
+/// the size at the start, if none is a member. `size_changes` has the places of the
+/// micro-operations that change the size, of which the members must be the first.
+pub fn size_after_members(
+    file: usize,
+    size: u64,
+    ops: &[MicroOp],
+    size_changes: &[u32],
+    members: &[bool],
+) -> u64
+    requires sizes { size_changes.now
         ≡ numbers_that_pass (λ k. resizes file (op_at ops.now k)) (length ops.now) }
-    requires first { (i j : ℕ) → i < j → j < length sizes.now
-        → mark_at members.now (kept_at sizes.now j) ≡ true
-        → mark_at members.now (kept_at sizes.now i) ≡ true }
+    requires first { (i j : ℕ) → i < j → j < length size_changes.now
+        → mark_at members.now (kept_at size_changes.now j) ≡ true
+        → mark_at members.now (kept_at size_changes.now i) ≡ true }
     requires long { length members.now ≡ length ops.now }
     ensures { result ≡ fold (size_after file) size (map (op_at ops.now) (members_in members.now)) }
 {
-    let count = first_members(members, sizes);
+    let count = count_members(members, size_changes);
     if count == 0 {
         return size;
     }
-    size_after(file, size, &ops[sizes[count - 1] as usize])
+    size_after(file, size, &ops[size_changes[count - 1] as usize])
 }
 
-/// At most `count` of the bytes, from the offset on; none if the offset is past their end.
-fn piece_of(bytes: &[u8], offset: usize, count: usize) -> &[u8]
+/// At most `count` of the bytes, from the offset on; none if the offset is at their end or past it.
+fn piece_at(bytes: &[u8], offset: usize, count: usize) -> &[u8]
     ensures { result.now ≡ take count (drop offset bytes.now) }
 {
     let rest = &bytes[bytes.len().min(offset)..];
     &rest[..rest.len().min(count)]
 }
 
-/// A copy of at most `count` of the bytes, from the offset on; empty if the offset is past their
-/// end. It runs out of memory only if there is a byte to copy.
+/// A copy of at most `count` of the bytes, from the offset on: fewer near their end, and none at
+/// their end or past it. (`copy_part` fills up with zeros.) Memory can run out only if there is a
+/// byte to copy.
 pub fn copy_piece(
     alloc: Global,
     bytes: &[u8],
@@ -56,7 +63,7 @@ pub fn copy_piece(
     ensures value { IfOk result (λ piece. piece.items ≡ take count (drop offset bytes.now)) }
     ensures memory { IsErr result → take count (drop offset bytes.now) ≢ [] }
 {
-    let piece = piece_of(bytes, offset as usize, count);
+    let piece = piece_at(bytes, offset as usize, count);
     if piece.is_empty() {
         return Ok(Vec::new(alloc));
     }
@@ -65,8 +72,8 @@ pub fn copy_piece(
 
 /// Applies a change of size or a write, whichever file it names, to a part of a file that begins at
 /// the offset. The part keeps its length: a change of size zeroes what is past the new size. Any
-/// other micro-operation changes nothing.
-fn apply_op(part: &mut [u8], offset: usize, op: &MicroOp)
+/// other micro-operation changes nothing. (`FileContent` of cs_apm does the same to a whole file.)
+fn apply_to_part(part: &mut [u8], offset: usize, op: &MicroOp)
     requires room { offset + length part.old < 2 ^ 64 }
     requires small { IsSmall op.now }
     ensures long { length part.new ≡ length part.old }
@@ -86,8 +93,15 @@ fn apply_op(part: &mut [u8], offset: usize, op: &MicroOp)
 }
 
 /// Applies the micro-operations at those of the places that are members, in their order, to a part
-/// of a file that begins at the offset.
-fn apply_members(part: &mut [u8], offset: usize, ops: &[MicroOp], places: &[u32], members: &[bool])
+/// of a file that begins at the offset. The callers pass only places at which this file is changed:
+/// `apply_to_part` doesn't compare files.
+fn apply_members_to_part(
+    part: &mut [u8],
+    offset: usize,
+    ops: &[MicroOp],
+    places: &[u32],
+    members: &[bool],
+)
     requires room { offset + length part.old < 2 ^ 64 }
     requires small { All IsSmall ops.now }
     requires inside { All (λ place. place < length ops.now) places.now }
@@ -97,14 +111,14 @@ fn apply_members(part: &mut [u8], offset: usize, ops: &[MicroOp], places: &[u32]
 {
     for place in places {
         if is_member(members, *place) {
-            apply_op(part, offset, &ops[*place as usize]);
+            apply_to_part(part, offset, &ops[*place as usize]);
         }
     }
 }
 
 /// Applies the micro-operations at those of the places that are members, in their order, to those
-/// bytes of a part that are in one page. The part begins at the offset in the file; `page` is the
-/// page's number.
+/// bytes of a part that are in one page, of which there must be at least one. The part begins at
+/// the offset in the file; `page` is the page's number.
 fn apply_to_page(
     part: &mut [u8],
     offset: usize,
@@ -126,14 +140,16 @@ fn apply_to_page(
         → slice_index_or part.new k 0 ≡ slice_index_or part.old k 0 }
 {
     let first = page * PAGE_BYTES as usize;
+    // The part may begin in the page, and the page may end past 2^64.
     let from = first.saturating_sub(offset);
     let end = first.saturating_add(PAGE_BYTES as usize) - offset;
     let end = part.len().min(end);
-    apply_members(&mut part[from..end], offset + from, ops, places, members);
+    apply_members_to_part(&mut part[from..end], offset + from, ops, places, members);
 }
 
-/// `count` bytes of a file after the members, from the offset on, with zeros past its end. `start`
-/// has its bytes at the start, and `steps` the places of the micro-operations that change it.
+/// `count` bytes, at least one, of a file after the members, from the offset on, with zeros past
+/// its end. `start` has its bytes at the start, and `steps` the places of the micro-operations that
+/// change it.
 pub fn part_left(
     alloc: Global,
     start: &[u8],

@@ -8,7 +8,8 @@ ghost use Rattle.cs_state.specs.Windows.{whole_content, IsPart};
 use cs_apm::content::put_at;
 use std::alloc::{AllocError, Global};
 
-/// A copy of `count` bytes of a file from the offset on, with zeros past its end.
+/// A copy of `count` bytes of a file from the offset on, with zeros past its end. (`copy_piece`
+/// ends there.)
 pub fn copy_part(
     alloc: Global,
     bytes: &[u8],
@@ -26,13 +27,14 @@ pub fn copy_part(
     Ok(part)
 }
 
-/// Zeroes those bytes of a part that are past `size` bytes of the file. The part begins at the
-/// offset in the file.
+/// Zeroes those bytes of a part that are past the first `size` bytes of the file. The part begins
+/// at the offset in the file.
 pub fn zero_past(part: &mut [u8], offset: usize, size: usize)
     ensures long { length part.new ≡ length part.old }
     ensures part { (f : Content) → IsPart offset f part.old
         → IsPart offset (record f { bytes = take size f.bytes }) part.new }
 {
+    // The whole part if it begins past the size, nothing if it ends before the size.
     let from = size.saturating_sub(offset).min(part.len());
     part[from..].fill(0);
 }

@@ -1,5 +1,5 @@
 //! Which micro-operations of a trace change a file, and which of its pages. A file's bytes at the
-//! start are here too.
+//! start are here too. An error is that memory ran out; what was collected is then dropped.
 ghost use Rattle.std.specs.Prelude.{◌≡◌, ◌+◌, ◌/◌, ◌<◌, ◌≤◌, ◌^◌, ℕ, true, None, Some, length};
 ghost use Rattle.std.specs.Prelude.{slice_get, slice_index_or, IfOk, IsSome, OnOk};
 ghost use Rattle.std.specs.BTreeMap.{get};
@@ -20,14 +20,15 @@ use cs_trace::Trace;
 use std::alloc::{AllocError, Global};
 use std::collections::BTreeMap;
 
-/// The bytes of a page, by which files are read. No write crosses the end of one.
+/// How many bytes a page has. Files are read by pages, and no write into a block crosses the end of
+/// one: the size of a block divides it.
 pub const PAGE_BYTES: u64 = 4_096;
 
 /// The places of the micro-operations that change a file.
 #[derive(Debug, Drop)]
 pub struct FileSteps {
     /// Those that change its size.
-    pub sizes: Vec<u32>,
+    pub size_changes: Vec<u32>,
     /// Those that make it shorter: only these reach a page that none writes into.
     pub cuts: Vec<u32>,
     /// For each page that one writes into, by its number: those that do, and those that make the
@@ -35,7 +36,8 @@ pub struct FileSteps {
     pub pages: BTreeMap<u64, Vec<u32>>,
 }
 
-/// The file's size after a micro-operation, if it was `size` before.
+/// The file's size after a micro-operation: the size that it sets, if it sets this file's, and
+/// otherwise `size`, the size before it.
 pub fn size_after(file: usize, size: u64, op: &MicroOp) -> u64
     ensures { result ≡ size_after file size op.now }
 {
@@ -65,7 +67,7 @@ fn resizes(file: usize, op: &MicroOp) -> bool
 }
 
 /// Whether the micro-operation makes its file shorter than `size`, or writes into the page. If
-/// `page` is None, no write counts.
+/// `page` is None, no write counts. The callers pass only changes of one file.
 fn reaches(page: Option<u64>, size: u64, op: &MicroOp) -> bool
     requires { IsSmall op.now }
     ensures { result ≡ reaches page size op.now }
@@ -77,8 +79,9 @@ fn reaches(page: Option<u64>, size: u64, op: &MicroOp) -> bool
     }
 }
 
-/// Whether the micro-operation changes the size or the bytes of the file.
-fn changes(file: usize, op: &MicroOp) -> bool
+/// Whether the micro-operation changes the size or the bytes of the file. (As `changes_file` of
+/// cs_apm, but the file's number is a usize.)
+fn writes_or_resizes(file: usize, op: &MicroOp) -> bool
     ensures { result ≡ changes_file file op.now }
 {
     match op {
@@ -134,7 +137,7 @@ fn changing_places(alloc: Global, file: usize, ops: &[MicroOp]) -> Result<Vec<u3
 {
     let mut places = Vec::new(alloc);
     for place in 0..ops.len() {
-        push_if(&mut places, place, changes(file, &ops[place]))?;
+        push_if(&mut places, place, writes_or_resizes(file, &ops[place]))?;
     }
     Ok(places)
 }
@@ -165,7 +168,7 @@ fn places_reaching(
 
 /// Adds the page's row, unless it has one: those of the places that write into the page, or make
 /// the file shorter.
-fn add_row(
+fn add_page_row(
     alloc: Global,
     rows: &mut BTreeMap<u64, Vec<u32>>,
     page: u64,
@@ -212,17 +215,17 @@ fn page_rows(
     for place in places {
         if let MicroOp::WriteBlock { start, at, .. } = &ops[*place as usize] {
             let page = (*start + *at) / PAGE_BYTES;
-            add_row(alloc, &mut rows, page, sizes, ops, places)?;
+            add_page_row(alloc, &mut rows, page, sizes, ops, places)?;
         }
     }
     Ok(rows)
 }
 
 impl FileSteps {
-    /// The steps of a file that no micro-operation changes: no places.
+    /// The steps of a file that no micro-operation changes: no places, and no row for any page.
     fn empty(alloc: Global) -> FileSteps {
         FileSteps {
-            sizes: Vec::new(alloc),
+            size_changes: Vec::new(alloc),
             cuts: Vec::new(alloc),
             pages: BTreeMap::new(alloc),
         }
@@ -244,8 +247,12 @@ impl FileSteps {
         let places = changing_places(alloc, file, ops)?;
         let cuts = places_reaching(alloc, None, &sizes, ops, &places)?;
         let pages = page_rows(alloc, &sizes, ops, &places)?;
-        let sizes = resizing_places(alloc, file, ops)?;
-        Ok(FileSteps { sizes, cuts, pages })
+        let size_changes = resizing_places(alloc, file, ops)?;
+        Ok(FileSteps {
+            size_changes,
+            cuts,
+            pages,
+        })
     }
 
     /// The places of the micro-operations that write into the page, or make the file shorter; only
@@ -261,7 +268,9 @@ impl FileSteps {
 }
 
 /// The bytes of the file at the start; empty if a micro-operation makes it. `_ops` is for the
-/// contract only, which speaks of the files that they make, too.
+/// contract only, which speaks of the files that micro-operations make, too. The record that
+/// `tables` has for the file is a file's, so it has bytes. `start_bytes` of cs_same_states has the
+/// same body; `file_before` of cs_apm copies the same bytes.
 pub fn start_bytes<'a>(trace: &'a Trace, _ops: &[MicroOp], tables: &Tables, file: usize) -> &'a [u8]
     requires { AreStarts trace.now tables.now.starts.items }
     ensures { result.now ≡ (content_before trace.now _ops.now file).bytes }
@@ -274,9 +283,8 @@ pub fn start_bytes<'a>(trace: &'a Trace, _ops: &[MicroOp], tables: &Tables, file
     record.content.bytes().unwrap_or(&[])
 }
 
-/// The places of the micro-operations that change the file; no places if `tables` says that none
-/// does.
-fn steps_of(
+/// The places of the micro-operations that change the file; no places if, by `tables`, none does.
+fn steps_of_file(
     alloc: Global,
     trace: &Trace,
     ops: &[MicroOp],
@@ -314,7 +322,7 @@ pub fn all_steps(
 {
     let mut all = Vec::new(alloc);
     for file in 0..tables.changed.len() {
-        all.push(steps_of(alloc, trace, ops, tables, file)?)?;
+        all.push(steps_of_file(alloc, trace, ops, tables, file)?)?;
     }
     Ok(all)
 }

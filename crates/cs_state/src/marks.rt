@@ -1,5 +1,6 @@
-//! Which of the paths that ever exist some step touches, and which are kept: every state has the
-//! same there. A path is given by its id, its place among all of them.
+//! Which of the paths that ever exist some step touches (it changes what is there, or its rights),
+//! and which are kept: every state has the same there. A path is given by its id, its place among
+//! all of them.
 ghost use Rattle.std.specs.Prelude.{◌≡◌, ◌+◌, ◌<◌, ◌^◌, ◌⊎◌, ◌++◌, ◌∷◌, [], ℕ, cond, false, true};
 ghost use Rattle.std.specs.Prelude.{length, IfOk, OnOk};
 ghost use Rattle.std.specs.List.{All};
@@ -11,7 +12,7 @@ ghost use Rattle.cs_state.specs.Shares.{IsLeft, IsTouched, Leaves, Touches};
 use cs_apm::slot::{Slot, Step};
 use std::alloc::{AllocError, Global};
 
-/// Marks the paths that a step changes: two of a move, none of `Step::Other`, and else one.
+/// Marks the paths that a step changes: two of a move, none of `Step::Other`, and otherwise one.
 fn mark_touched(marks: &mut [bool], step: Step)
     requires { FitsIn (length marks.old) step }
     ensures long { length marks.new ≡ length marks.old }
@@ -21,7 +22,7 @@ fn mark_touched(marks: &mut [bool], step: Step)
         ⊎ Touches id step }
 {
     match step {
-        Step::Set(place, _) | Step::Own(place, _) => marks[place as usize] = true,
+        Step::Set(place, _) | Step::SetRights(place, _) => marks[place as usize] = true,
         Step::Move(from, to) => {
             marks[from as usize] = true;
             marks[to as usize] = true;
@@ -56,7 +57,8 @@ pub fn is_entry(slot: Slot) -> bool
     }
 }
 
-/// Appends the id of a path, or the place of a micro-operation, if it passes.
+/// Appends the id of a path, or the place of a micro-operation, if it passes. Both are below 2^20
+/// here, so they fit in a u32. After an error, the callers drop the list.
 pub fn push_if(ids: &mut Vec<u32>, id: usize, passes: bool) -> Result<(), AllocError>
     requires { id < 2 ^ 20 }
     ensures { OnOk result (ids.new.items ≡ ids.old.items ++ cond passes (id ∷ []) []) }
@@ -81,7 +83,7 @@ pub fn marked_ids(alloc: Global, marks: &[bool]) -> Result<Vec<u32>, AllocError>
 }
 
 /// Whether the path is kept: there is something from the start on, and no step changes it.
-fn is_kept(marks: &[bool], slots: &[Slot], id: usize) -> bool
+fn is_kept_path(marks: &[bool], slots: &[Slot], id: usize) -> bool
     requires marked { id < length marks.now }
     requires there { id < length slots.now }
     ensures { result ≡ is_in_every_state marks.now slots.now id }
@@ -100,12 +102,12 @@ pub fn kept_of(alloc: Global, marks: &[bool], slots: &[Slot]) -> Result<Vec<u32>
 {
     let mut found = Vec::new(alloc);
     for id in 0..slots.len() {
-        push_if(&mut found, id, is_kept(marks, slots, id))?;
+        push_if(&mut found, id, is_kept_path(marks, slots, id))?;
     }
     Ok(found)
 }
 
-/// One more than the count if it passes, else the count.
+/// One more than the count if the path passes, otherwise the count.
 fn count_if(count: u32, passes: bool) -> u32
     requires { count < 2 ^ 20 }
     ensures { result ≡ count + cond passes 1 0 }
@@ -113,7 +115,7 @@ fn count_if(count: u32, passes: bool) -> u32
     if passes { count + 1 } else { count }
 }
 
-/// For each path, how many of the kept paths come before it.
+/// For each path, how many of the kept paths are before it; the path itself doesn't count.
 pub fn kept_below(alloc: Global, marks: &[bool], slots: &[Slot]) -> Result<Vec<u32>, AllocError>
     requires few { length slots.now < 2 ^ 20 }
     requires long { length marks.now ≡ length slots.now }
@@ -127,7 +129,7 @@ pub fn kept_below(alloc: Global, marks: &[bool], slots: &[Slot]) -> Result<Vec<u
     let mut count = 0u32;
     for id in 0..slots.len() {
         counts.push(count)?;
-        count = count_if(count, is_kept(marks, slots, id));
+        count = count_if(count, is_kept_path(marks, slots, id));
     }
     Ok(counts)
 }

@@ -29,9 +29,9 @@ pub fn is_member(members: &[bool], place: u32) -> bool
     members.get(place as usize).copied().unwrap_or(false)
 }
 
-/// How many of these places are members. The members must be the first of them, since it is a
-/// binary search.
-pub fn first_members(members: &[bool], places: &[u32]) -> usize
+/// How many of these places are those of members. They are counted by a binary search, so the
+/// members' places must come before the others.
+pub fn count_members(members: &[bool], places: &[u32]) -> usize
     requires { (i j : ℕ) → i < j → j < length places.now
         → mark_at members.now (kept_at places.now j) ≡ true
         → mark_at members.now (kept_at places.now i) ≡ true }

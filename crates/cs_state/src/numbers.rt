@@ -10,23 +10,23 @@ use cs_apm::slot::Slot;
 /// A touched path at which there is something in a state.
 #[derive(Clone, Copy, Debug)]
 pub struct Own {
-    /// The path's place among all that ever exist.
+    /// The path's place among all paths that ever exist.
     pub id: u32,
-    /// Its place among those at which there is something in the state.
+    /// The path's place among those at which there is something in the state.
     pub number: u32,
-    /// What is there.
+    /// What is at the path.
     pub slot: Slot,
 }
 
-/// A path at which there is something in a state, by its place among all that ever exist.
+/// A path at which there is something in a state, by its place among all paths that ever exist.
 #[derive(Clone, Copy, Debug)]
-pub struct Found {
+pub struct PathEntry {
     pub id: u32,
     pub slot: Slot,
 }
 
-/// How many of the own entries have a number below this one. There must be at least `least` and at
-/// most `most` of them; the binary search is between these.
+/// How many of the own entries have a number below this one. The count must be at least `least` and
+/// at most `most`; the binary search is between these two. Either may be past the list's end.
 fn numbers_below(own: &[Own], least: usize, most: usize, number: u64) -> usize
     requires rising { IsNonDecreasingBy (λ (o : Own). o.number) own.now }
     requires least { (k : ℕ) → k < least → k < length own.now
@@ -43,8 +43,8 @@ fn numbers_below(own: &[Own], least: usize, most: usize, number: u64) -> usize
     from + own[from..end].partition_point(|o| (o.number as u64) < number)
 }
 
-/// How many of the own entries have an id below this one. There must be at least `least` and at
-/// most `most` of them; the binary search is between these.
+/// How many of the own entries have an id below this one. The count must be at least `least` and at
+/// most `most`; the binary search is between these two. Either may be past the list's end.
 fn ids_below(own: &[Own], least: usize, most: usize, id: u32) -> usize
     requires rising { IsNonDecreasingBy (λ (o : Own). o.id) own.now }
     requires least { (k : ℕ) → k < least → k < length own.now → (own_in_place own.now k).id < id }
@@ -58,21 +58,23 @@ fn ids_below(own: &[Own], least: usize, most: usize, id: u32) -> usize
     from + own[from..end].partition_point(|o| o.id < id)
 }
 
-/// What has the number in the state, with the id of its path. None if the state has no such number.
-pub fn found_at(kept: &[u32], slots: &[Slot], own: &[Own], number: u64) -> Option<Found>
+/// The entry with this number in the state: the id of its path, and what is there. None if the
+/// state has no such number.
+pub fn entry_at_number(kept: &[u32], slots: &[Slot], own: &[Own], number: u64) -> Option<PathEntry>
     requires merge { IsMerge kept.now own.now }
     requires inside { (k : ℕ) → k < length kept.now → kept_at kept.now k < length slots.now }
     ensures found { IfSome result (IsFound kept.now slots.now own.now) }
     ensures number { IfSome result (λ f. number_in kept.now own.now f.id ≡ number) }
     ensures none { IfNone result (length kept.now + length own.now ≤ number) }
 {
-    // the rest of the numbers below it are those of kept paths
+    // Below a number of the state there are `number` others, each of an own entry or of a kept
+    // path: so at most `number` of own entries, and at least `number` less `kept.len()`.
     let most = number as usize;
     let before = numbers_below(own, most.saturating_sub(kept.len()), most, number);
     if before < own.len() {
         let first = own[before];
         if first.number as u64 == number {
-            return Some(Found {
+            return Some(PathEntry {
                 id: first.id,
                 slot: first.slot,
             });
@@ -82,14 +84,15 @@ pub fn found_at(kept: &[u32], slots: &[Slot], own: &[Own], number: u64) -> Optio
     if place < kept.len() {
         let id = kept[place];
         let slot = slots[id as usize];
-        Some(Found { id, slot })
+        Some(PathEntry { id, slot })
     } else {
         None
     }
 }
 
-/// The number of what is at the path with this id; `kept` and `own` are the state's paths, as in
-/// `State::number`. None if nothing is there in the state.
+/// The number of what is at the path with this id. `kept` has the kept paths, `kept_below` how many
+/// of them are before each path, and `own` the state's own entries. None if nothing is at the path
+/// in the state.
 pub fn number_of(kept: &[u32], kept_below: &[u32], own: &[Own], id: u32) -> Option<u64>
     requires merge { IsMerge kept.now own.now }
     requires there { id < length kept_below.now }
@@ -104,7 +107,7 @@ pub fn number_of(kept: &[u32], kept_below: &[u32], own: &[Own], id: u32) -> Opti
     ensures none { IfNone result (HasId kept.now own.now id → ⊥) }
 {
     let place = kept_below[id as usize] as usize;
-    // At most `most` own ones come before it, and at most `others` from it on.
+    // At most `most` own entries come before the path, and at most `others` from it on.
     let most = id as usize - place;
     let others = (kept_below.len() - id as usize).saturating_sub(kept.len() - place);
     let before = ids_below(own, own.len().saturating_sub(others), most, id);

@@ -1,4 +1,5 @@
-//! Which micro-operations of a trace set the owner, group and permissions of a file.
+//! Which micro-operations of a trace set the owner, group and permissions of a file. Its `owner` is
+//! all three here. An error is that memory ran out; what was collected is then dropped.
 ghost use Rattle.std.specs.Prelude.{◌≡◌, ◌<◌, ◌^◌, ℕ, length, true, IfOk, IsSome, OnOk};
 ghost use Rattle.std.specs.BTreeMap.{get};
 ghost use Rattle.std.specs.Ordering.{nat_cmp};
@@ -10,7 +11,7 @@ ghost use Rattle.cs_state.specs.Shares.{mark_at};
 ghost use Rattle.cs_state.specs.Steps.{members_in};
 
 use crate::marks::push_if;
-use crate::members::first_members;
+use crate::members::count_members;
 use cs_apm::owners::owner_after;
 use cs_micro::MicroOp;
 use cs_trace::{Rights, Target};
@@ -52,7 +53,7 @@ fn rights_places(alloc: Global, file: u32, ops: &[MicroOp]) -> Result<Vec<u32>, 
 
 /// Adds the file's row, unless it has one: the places of the micro-operations that set its owner,
 /// group and permissions.
-fn add_row(
+fn add_file_row(
     alloc: Global,
     rows: &mut BTreeMap<u32, Vec<u32>>,
     file: u32,
@@ -75,7 +76,8 @@ fn add_row(
 }
 
 impl OwnerSteps {
-    /// Which of a trace's micro-operations set the owner, group and permissions of which file.
+    /// The places of the micro-operations that set the owner, group and permissions of files, by
+    /// the files' numbers.
     pub fn of(alloc: Global, ops: &[MicroOp]) -> Result<OwnerSteps, AllocError>
         requires { length ops.now < 2 ^ 20 }
         ensures { IfOk result (AreOwnerSteps ops.now) }
@@ -87,7 +89,7 @@ impl OwnerSteps {
                 ..
             } = op
             {
-                add_row(alloc, &mut rows, *file, ops)?;
+                add_file_row(alloc, &mut rows, *file, ops)?;
             }
         }
         Ok(OwnerSteps { rows })
@@ -107,8 +109,9 @@ impl OwnerSteps {
 
 /// The owner, group and permissions of the file after the members: those that the last member in
 /// `places` sets, or `owner`, those that it was made with, if none is a member. `places` has the
-/// micro-operations that set them, of which the members must be the first.
-pub fn owner_left<'a>(
+/// micro-operations that set them, of which the members must be the first. (`owner_left` of cs_apm
+/// gives the same, and goes through all members.)
+pub fn owner_after_members<'a>(
     file: u32,
     owner: &'a Rights,
     ops: &'a [MicroOp],
@@ -122,7 +125,7 @@ pub fn owner_left<'a>(
     requires long { length members.now ≡ length ops.now }
     ensures { result.now ≡ owner_left file owner.now ops.now (members_in members.now) }
 {
-    let count = first_members(members, places);
+    let count = count_members(members, places);
     if count == 0 {
         return owner;
     }

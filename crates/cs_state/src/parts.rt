@@ -10,9 +10,13 @@ use cs_trace::Trace;
 /// A trace with what is computed once for all its states.
 #[derive(Drop)]
 pub struct Parts {
+    /// The trace, from which all the rest is computed.
     pub trace: Trace,
+    /// What it breaks into.
     pub micros: Micros,
+    /// What is at each path at the start, and what each micro-operation does there.
     pub tables: Tables,
+    /// Which paths every state has, and which the micro-operations touch.
     pub shares: Shares,
     /// What changes each file, by its number.
     pub steps: Vec<FileSteps>,

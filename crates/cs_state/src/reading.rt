@@ -1,4 +1,5 @@
-//! Metadata and bytes of what is at a path of a state.
+//! Metadata and bytes of what is at a path of a state. The `owner` of a file is its owner, group
+//! and permissions here, as in `owner_steps`.
 
 ghost use Rattle.std.specs.Prelude.{◌≡◌, ◌≢◌, ◌+◌, ◌<◌, ◌≤◌, ◌^◌, [], true, Some, drop, length};
 ghost use Rattle.std.specs.Prelude.{slice_get, take, IfErr, IfOk, IsErr, IsSomeAnd};
@@ -12,17 +13,18 @@ ghost use Rattle.cs_state.specs.Parts.{record_in, read_in, unchanged_metadata};
 ghost use Rattle.cs_state.specs.Steps.{members_in};
 ghost use Rattle.cs_state.specs.Windows.{IsPart};
 
-use crate::bytes::{copy_piece, part_left, size_left};
+use crate::bytes::{copy_piece, part_left, size_after_members};
 use crate::file_steps::start_bytes;
-use crate::owner_steps::owner_left;
+use crate::owner_steps::owner_after_members;
 use crate::parts::Parts;
 use cs_apm::slot::Slot;
 use cs_trace::Rights;
 use cs_tree_model::{DMDIR, Kind, Metadata};
 use std::alloc::{AllocError, Global};
 
-/// As `start_bytes`, with the trace and the tables from the parts.
-fn start_of<'a>(parts: &'a Parts, file: u32) -> &'a [u8]
+/// The bytes of the file at the start, as `start_bytes` has them; empty if a micro-operation makes
+/// the file.
+fn bytes_at_start<'a>(parts: &'a Parts, file: u32) -> &'a [u8]
     requires { AreParts parts.now }
     ensures { result.now ≡ bytes_before parts.now file }
 {
@@ -44,18 +46,24 @@ fn changed_size(parts: &Parts, members: &[bool], file: u32, size: u64) -> u64
     requires size { size ≡ length (bytes_before parts.now file) }
     ensures { result ≡ (file_in parts.now (members_in members.now) file).size }
 {
-    let sizes = &parts.steps[file as usize].sizes;
-    size_left(file as usize, size, parts.micros.ops(), sizes, members)
+    let size_changes = &parts.steps[file as usize].size_changes;
+    size_after_members(
+        file as usize,
+        size,
+        parts.micros.ops(),
+        size_changes,
+        members,
+    )
 }
 
-/// The size of the file after the members.
-fn size_of(parts: &Parts, members: &[bool], file: u32) -> u64
+/// The size of the file after the members: that at the start if no micro-operation changes it.
+fn file_size(parts: &Parts, members: &[bool], file: u32) -> u64
     requires parts { AreParts parts.now }
     requires known { file < length parts.now.tables.owners.items }
     requires set { AreMembers parts.now members.now }
     ensures { result ≡ (file_in parts.now (members_in members.now) file).size }
 {
-    let size = start_of(parts, file).len() as u64;
+    let size = bytes_at_start(parts, file).len() as u64;
     if parts.tables.changed[file as usize] {
         changed_size(parts, members, file, size)
     } else {
@@ -63,8 +71,8 @@ fn size_of(parts: &Parts, members: &[bool], file: u32) -> u64
     }
 }
 
-/// `count` bytes, from an offset on, of a file that some micro-operation changes; all must be
-/// before its end. `start` has its bytes at the start.
+/// `count` bytes, at least one, from an offset on, of a file that some micro-operation changes; all
+/// must be before its end. `start` has its bytes at the start.
 fn changed_part(
     alloc: Global,
     parts: &Parts,
@@ -93,8 +101,8 @@ fn changed_part(
 }
 
 /// At most `count` bytes after the members, from the offset on, of a file that some micro-operation
-/// changes: fewer, or none, near its end or past it. `start` has its bytes at the start. It runs
-/// out of memory only if there is a byte to read.
+/// changes: fewer, or none, near its end or past it. `start` has its bytes at the start. Memory can
+/// run out only if there is a byte to read.
 fn changed_bytes(
     alloc: Global,
     parts: &Parts,
@@ -127,8 +135,8 @@ fn changed_bytes(
 }
 
 /// At most `count` bytes of the file after the members, from the offset on: fewer, or none, near
-/// its end or past it. It runs out of memory only if there is a byte to read.
-fn bytes_of(
+/// its end or past it. Memory can run out only if there is a byte to read.
+fn file_bytes(
     alloc: Global,
     parts: &Parts,
     members: &[bool],
@@ -146,7 +154,7 @@ fn bytes_of(
         → take count (drop offset (visible (file_in parts.now (members_in members.now) file))) ≢
         [] }
 {
-    let start = start_of(parts, file);
+    let start = bytes_at_start(parts, file);
     if parts.tables.changed[file as usize] {
         changed_bytes(alloc, parts, members, file, start, offset, count)
     } else {
@@ -163,11 +171,12 @@ fn owner_of<'a>(parts: &'a Parts, members: &[bool], file: u32) -> &'a Rights
 {
     let made = &parts.tables.owners[file as usize];
     let steps = parts.owner_steps.row(file);
-    owner_left(file, made, parts.micros.ops(), steps, members)
+    owner_after_members(file, made, parts.micros.ops(), steps, members)
 }
 
 /// The metadata of a record that was never changed: version and times are 0, and the owner is also
-/// the user who changed it last. `bit` is DMDIR for a directory, 0 for a file.
+/// the user who changed it last. `bit` is DMDIR for a directory, 0 for a file; of the permissions,
+/// the lowest nine bits count. (`record_with` of cs_apm makes such a record.)
 fn unchanged_metadata(number: u64, rights: &Rights, bit: u32, kind: Kind) -> Metadata<'_>
     requires { bit ≤ DMDIR }
     ensures { metadata_of_ref result ≡ unchanged_metadata number rights.now bit kind }
@@ -185,8 +194,8 @@ fn unchanged_metadata(number: u64, rights: &Rights, bit: u32, kind: Kind) -> Met
     }
 }
 
-/// The metadata, with this number, of what is in a slot after the members. None if the slot is
-/// empty.
+/// The metadata, with this number, of what is in a slot after the members: that of the record that
+/// `record_at` of cs_apm makes. None if the slot is empty.
 pub fn metadata_of<'a>(
     parts: &'a Parts,
     members: &[bool],
@@ -208,7 +217,7 @@ pub fn metadata_of<'a>(
             Some(unchanged_metadata(number, rights, DMDIR, Kind::Directory))
         }
         Slot::File(file) => {
-            let length = size_of(parts, members, file);
+            let length = file_size(parts, members, file);
             let owner = owner_of(parts, members, file);
             Some(unchanged_metadata(number, owner, 0, Kind::File { length }))
         }
@@ -216,9 +225,9 @@ pub fn metadata_of<'a>(
 }
 
 /// At most `count` bytes, from the offset on, of the file in a slot after the members: fewer, or
-/// none, near its end or past it. None if there is no file in the slot. It runs out of memory only
-/// if there is a byte to read.
-pub fn read(
+/// none, near its end or past it. None if there is no file in the slot. Memory can run out only if
+/// there is a byte to read.
+pub fn read_slot(
     alloc: Global,
     parts: &Parts,
     members: &[bool],
@@ -239,7 +248,7 @@ pub fn read(
 {
     match slot {
         Slot::File(file) => {
-            let bytes = bytes_of(alloc, parts, members, file, offset, count)?;
+            let bytes = file_bytes(alloc, parts, members, file, offset, count)?;
             Ok(Some(bytes))
         }
         Slot::Nothing | Slot::Directory(_) => Ok(None),

@@ -18,17 +18,19 @@ use std::alloc::{AllocError, Global};
 /// all that ever exist.
 #[derive(Drop)]
 pub struct Shares {
-    /// The paths at which the same is in every state.
+    /// The paths at which every state has the same entry, ascending. A path that no state has
+    /// isn't one.
     pub kept: Vec<u32>,
-    /// For each path, how many of these come before it.
+    /// For each path, how many of these are before it.
     pub kept_below: Vec<u32>,
-    /// The paths that some operation touches.
+    /// The paths that some step touches, ascending: there, states may differ.
     pub touched: Vec<u32>,
     /// Every path, as a tree of directories with these places as its numbers.
     pub names: PlainTree,
 }
 
-/// A tree that has each path that ever exists as a directory, numbered by its place among them.
+/// A tree that has each path that ever exists as a directory, numbered by its place among them. It
+/// is for names only, so all directories have the same rights, the first of the table.
 fn names_of(
     alloc: Global,
     trace: &Trace,
@@ -57,7 +59,7 @@ impl Shares {
         requires few { length ops.now ≤ MICRO_OPERATIONS }
         ensures { IfOk result (IsShares trace.now ops.now tables.now) }
     {
-        // no trace has so many records that its paths could not be counted
+        // By the contract of `records`, they are few, so that the paths can be counted.
         know(trace.records());
         let marks = marks_of(alloc, &tables.steps, tables.slots.len())?;
         let kept = kept_of(alloc, &marks, &tables.slots)?;

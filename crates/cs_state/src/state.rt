@@ -11,9 +11,9 @@ ghost use Rattle.cs_state.specs.Shares.{place_of, slots_left};
 ghost use Rattle.cs_state.specs.States.{IsMade, slots_in};
 ghost use Rattle.cs_state.specs.Steps.{members_in};
 
-use crate::numbers::{Found, Own, found_at, number_of};
+use crate::numbers::{Own, PathEntry, entry_at_number, number_of};
 use crate::parts::Parts;
-use crate::reading::{metadata_of, read};
+use crate::reading::{metadata_of, read_slot};
 use cs_apm::slot::Slot;
 use cs_tree::PlainTree;
 use cs_tree_model::Metadata;
@@ -24,14 +24,17 @@ use std::sync::Arc;
 /// member of its set, and what is at the touched paths.
 #[derive(Drop)]
 pub struct State {
+    /// What it shares with the others.
     pub parts: Arc<Parts>,
+    /// For each micro-operation, whether it is a member.
     pub members: Vec<bool>,
+    /// What is at the touched paths, in the order of paths.
     pub own: Vec<Own>,
 }
 
-/// What has the number in the state of a set, with the id of its path. None if the state has no
-/// such number. `_members` is for the contract only, which speaks of the set.
-fn found_in(parts: &Parts, _members: &[bool], own: &[Own], number: u64) -> Option<Found>
+/// What `entry_at_number` gives, with the kept paths and the slots of `parts`. `_members` is for
+/// the contract only, which speaks of the set.
+fn entry_in_set(parts: &Parts, _members: &[bool], own: &[Own], number: u64) -> Option<PathEntry>
     requires { IsState parts.now (members_in _members.now) own.now }
     ensures slot { IfSome result
         (λ f. f.slot ≡ slot_at (slots_left parts.now.tables (members_in _members.now)) f.id) }
@@ -39,12 +42,12 @@ fn found_in(parts: &Parts, _members: &[bool], own: &[Own], number: u64) -> Optio
         (λ f. place_of (slots_left parts.now.tables (members_in _members.now)) f.id ≡ Some number) }
     ensures none { IfNone result (count_in parts.now (members_in _members.now) ≤ number) }
 {
-    found_at(&parts.shares.kept, &parts.tables.slots, own, number)
+    entry_at_number(&parts.shares.kept, &parts.tables.slots, own, number)
 }
 
-/// The number of what is at the path with this id in the state of a set. None if nothing is there.
-/// `_members` is for the contract only, which speaks of the set.
-fn number_in(parts: &Parts, _members: &[bool], own: &[Own], id: u64) -> Option<u64>
+/// What `number_of` gives, with the kept paths of `parts`. `_members` is for the contract only,
+/// which speaks of the set.
+fn number_in_set(parts: &Parts, _members: &[bool], own: &[Own], id: u64) -> Option<u64>
     requires state { IsState parts.now (members_in _members.now) own.now }
     requires there { id < length parts.now.tables.slots.items }
     ensures { result ≡ place_of (slots_left parts.now.tables (members_in _members.now)) id }
@@ -53,35 +56,36 @@ fn number_in(parts: &Parts, _members: &[bool], own: &[Own], id: u64) -> Option<u
 }
 
 impl State {
-    /// What has the number, with the id of its path. None if the state has no such number.
-    pub fn found(&self, number: u64) -> Option<Found>
+    /// The entry with this number: the id of its path, and what is there. None if the state has no
+    /// such number.
+    pub fn entry_numbered(&self, number: u64) -> Option<PathEntry>
         requires { IsMade self.now }
         ensures slot { IfSome result (λ f. f.slot ≡ slot_at (slots_in self.now) f.id) }
         ensures place { IfSome result (λ f. place_of (slots_in self.now) f.id ≡ Some number) }
         ensures none { IfNone result
             (count_in (arc_value self.now.parts) (members_in self.now.members.items) ≤ number) }
     {
-        found_in(&self.parts, &self.members, &self.own, number)
+        entry_in_set(&self.parts, &self.members, &self.own, number)
     }
 
     /// The number of what is at the path with this id. None if nothing is there.
-    pub fn number(&self, id: u64) -> Option<u64>
+    pub fn number_of_path(&self, id: u64) -> Option<u64>
         requires made { IsMade self.now }
         requires there { id < length (arc_value self.now.parts).tables.slots.items }
         ensures { result ≡ place_of (slots_in self.now) id }
     {
-        number_in(&self.parts, &self.members, &self.own, id)
+        number_in_set(&self.parts, &self.members, &self.own, id)
     }
 
     /// Every path that ever exists, as a directory; its number is its id.
-    pub fn names(&self) -> &PlainTree
+    pub fn path_names(&self) -> &PlainTree
         ensures { result.now ≡ (arc_value self.now.parts).shares.names }
     {
         &self.parts.shares.names
     }
 
     /// How many files and directories the state has, including the root: one at each kept path, and
-    /// its own.
+    /// its own entries.
     pub fn count(&self) -> usize
         requires { IsMade self.now }
         ensures { result ≡ count_in (arc_value self.now.parts) (members_in self.now.members.items) }
@@ -102,7 +106,7 @@ impl State {
     }
 
     /// At most `count` bytes from the offset on of the file in a slot: fewer, or none, near its end
-    /// or past it. None if there is no file. It runs out of memory only if there is a byte to read.
+    /// or past it. None if there is no file. Memory can run out only if there is a byte to read.
     pub fn read(
         &self,
         alloc: Global,
@@ -122,6 +126,6 @@ impl State {
             (read_in (arc_value self.now.parts) (members_in self.now.members.items) slot offset
             count) (λ bytes. bytes ≢ []) }
     {
-        read(alloc, &self.parts, &self.members, slot, offset, count)
+        read_slot(alloc, &self.parts, &self.members, slot, offset, count)
     }
 }

@@ -46,43 +46,43 @@ impl TreeRead for StateTree {
     /// The metadata of what has the number; None if nothing has. A state keeps no records: they are
     /// computed from the members and the shared tables.
     fn record(&self, number: u64) -> Option<Metadata<'_>> {
-        let found = self.state.found(number)?;
+        let found = self.state.entry_numbered(number)?;
         self.state.metadata(number, found.slot)
     }
 
     /// The number of the entry of this name in the directory; None if there is none. The name is
     /// looked up among all paths, and then in this state.
     fn find_number(&self, directory: u64, name: &str) -> Option<u64> {
-        let found = self.state.found(directory)?;
-        let id = self.state.names().find_number(found.id as u64, name)?;
-        self.state.number(id)
+        let found = self.state.entry_numbered(directory)?;
+        let id = self.state.path_names().find_number(found.id as u64, name)?;
+        self.state.number_of_path(id)
     }
 
-    /// The number of the directory of what has the number; None if nothing has. The parent path has
-    /// a directory in every state that has the entry.
+    /// The number of the directory of what has the number; the root's is the root. None if nothing
+    /// has the number. The parent path has a directory in every state that has the entry.
     fn parent_of(&self, number: u64) -> Option<u64> {
-        let found = self.state.found(number)?;
-        let id = self.state.names().parent_of(found.id as u64)?;
-        self.state.number(id)
+        let found = self.state.entry_numbered(number)?;
+        let id = self.state.path_names().parent_of(found.id as u64)?;
+        self.state.number_of_path(id)
     }
 
     /// The name of what has the number; None for the root, and if nothing has the number. It is
     /// lent from the shared tree of names, since a path has the same name in every state.
     fn name_of(&self, number: u64) -> Option<&Name> {
-        let found = self.state.found(number)?;
-        self.state.names().name_of(found.id as u64)
+        let found = self.state.entry_numbered(number)?;
+        self.state.path_names().name_of(found.id as u64)
     }
 
-    /// The directory's next entry after `last` and before `bound`; None if there is none. Names at
-    /// which there is nothing in this state are skipped.
+    /// The directory's first entry after `last`, or the first of all if that is None; None if none
+    /// comes before `bound`. Names at which there is nothing in this state are skipped.
     fn entry_after(
         &self,
         directory: u64,
         last: Option<&Name>,
         bound: Option<&Name>,
     ) -> Option<ListedEntry<'_>> {
-        let found = self.state.found(directory)?;
-        entry_in(&self.state, found.id as u64, last, bound)
+        let found = self.state.entry_numbered(directory)?;
+        entry_after_id(&self.state, found.id as u64, last, bound)
     }
 
     /// How many files and directories the state has, including the root.
@@ -105,7 +105,7 @@ impl TreeRead for StateTree {
         offset: u64,
         count: usize,
     ) -> Result<Option<Vec<u8>>, AllocError> {
-        let Some(found) = self.state.found(number) else {
+        let Some(found) = self.state.entry_numbered(number) else {
             return Ok(None);
         };
         let bytes = self.state.read(alloc, found.slot, offset, count)?;
@@ -113,9 +113,8 @@ impl TreeRead for StateTree {
     }
 }
 
-/// The next entry of a directory, which is given by its path's id, after `last` and before `bound`.
-/// None if there is none. Names at which there is nothing in this state are skipped.
-fn entry_in<'a>(
+/// As `StateTree::entry_after`, of a directory that is given by its path's id.
+fn entry_after_id<'a>(
     state: &'a State,
     directory: u64,
     last: Option<&Name>,
@@ -127,11 +126,11 @@ fn entry_in<'a>(
     ensures number { IfSome result
         (λ e. number_shown state.now directory (entry_name e) ≡ Some e.number) }
 {
-    let names = state.names();
+    let names = state.path_names();
     let mut from = last;
     loop {
         let entry = names.entry_after(directory, from, bound)?;
-        if let Some(number) = state.number(entry.number) {
+        if let Some(number) = state.number_of_path(entry.number) {
             return Some(ListedEntry {
                 name: entry.name,
                 number,

@@ -6,8 +6,8 @@ ghost use Rattle.cs_stream.specs.Overs.{transfer_of};
 use crate::stream::{Counts, Stream, Transfer};
 use std::io::{self, ErrorKind, Read, Write};
 
-/// What a reader's or a writer's answer means: an error is Interrupted if it is of that kind, and
-/// Failed if it is of any other.
+/// The answer of a reader or writer as a transfer: a number is Bytes, an error of the kind
+/// Interrupted is Interrupted, and any other error is Failed.
 fn transfer_of(answer: io::Result<usize>) -> Transfer
     ensures { result ≡ transfer_of answer }
 {
@@ -21,7 +21,7 @@ fn transfer_of(answer: io::Result<usize>) -> Transfer
 }
 
 /// A stream over one object that is both reader and writer, such as a socket. Contracts don't know
-/// its bytes.
+/// its bytes. `TwoEnded` is the same over two objects.
 #[derive(Drop)]
 pub struct Counted<RW> {
     inner: RW,
@@ -40,7 +40,7 @@ impl<RW> Counted<RW> {
         }
     }
 
-    /// The counts of its calls so far.
+    /// The counts of the object's reads and writes so far.
     pub fn counts(&self) -> Counts
         ensures { result ≡ counts_of self.now }
     {
@@ -62,12 +62,14 @@ impl<RW: Read + Write> Stream for Counted<RW> {
 
     ghost counts = { counts_of };
 
+    /// Reads from the object, and counts the read, even if it fails.
     fn read(&mut self, buf: &mut [u8]) -> Transfer {
         let transfer = transfer_of(self.inner.read(buf));
         self.counts.count_read(transfer, buf.len());
         transfer
     }
 
+    /// Writes to the object, and counts the write, even if it fails.
     fn write(&mut self, buf: &[u8]) -> Transfer {
         let transfer = transfer_of(self.inner.write(buf));
         self.counts.count_write(transfer, buf.len());
@@ -75,8 +77,9 @@ impl<RW: Read + Write> Stream for Counted<RW> {
     }
 }
 
-/// A stream over a reader and a writer that are two objects. Contracts know what it reads if they
-/// know the reader's bytes, and what it has written if they know the writer's.
+/// A stream over a reader and a writer that are two objects; `Counted` is the same over one.
+/// Contracts know what it reads if they know the reader's bytes, and what it has written if they
+/// know the writer's.
 #[derive(Drop)]
 pub struct TwoEnded<R, W> {
     reader: R,
@@ -98,7 +101,7 @@ impl<R, W> TwoEnded<R, W> {
         }
     }
 
-    /// The counts of its calls so far.
+    /// The counts so far of the reader's reads and the writer's writes.
     pub fn counts(&self) -> Counts
         ensures { result ≡ ends_counts self.now }
     {
@@ -122,12 +125,14 @@ impl<R: Read, W: Write> Stream for TwoEnded<R, W> {
 
     ghost counts = { ends_counts };
 
+    /// Reads from the reader, and counts the read, even if it fails.
     fn read(&mut self, buf: &mut [u8]) -> Transfer {
         let transfer = transfer_of(self.reader.read(buf));
         self.counts.count_read(transfer, buf.len());
         transfer
     }
 
+    /// Writes to the writer, and counts the write, even if it fails.
     fn write(&mut self, buf: &[u8]) -> Transfer {
         let transfer = transfer_of(self.writer.write(buf));
         self.counts.count_write(transfer, buf.len());

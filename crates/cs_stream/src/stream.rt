@@ -54,7 +54,8 @@ impl Counts {
         idle_writes: 0,
     };
 
-    /// Counts a read that had room for `room` bytes and did this.
+    /// Counts a read that had room for `room` bytes and did what `transfer` reports. A read that
+    /// moves no byte counts as the stream's end only if it had room. `count_write` is its twin.
     pub fn count_read(&mut self, transfer: Transfer, room: usize)
         ensures { self.new ≡ counted_read transfer room self.old }
     {
@@ -76,7 +77,8 @@ impl Counts {
         }
     }
 
-    /// Counts a write that was given `bytes` bytes and did this.
+    /// Counts a write that was given `bytes` bytes and did what `transfer` reports. A write that
+    /// moves no byte counts as idle only if it was given some. `count_read` is its twin.
     pub fn count_write(&mut self, transfer: Transfer, bytes: usize)
         ensures { self.new ≡ counted_write transfer bytes self.old }
     {
@@ -110,15 +112,16 @@ pub trait Stream {
     /// The counts of its calls so far.
     ghost counts: { Self → Counts };
 
-    /// Reads bytes into the front of `buf`, at most as many as fit, and counts the read. No byte
-    /// into a `buf` that isn't empty means the stream's end.
+    /// Reads bytes into the front of `buf`, at most as many as fit, and counts the read, even if it
+    /// fails. Bytes(0) is the stream's end, unless `buf` is empty.
     fn read(&mut self, buf: &mut [u8]) -> Transfer
         ensures bytes { ReadGives (remaining self.old) (remaining self.new) result buf.new }
         ensures contents { contents self.new ≡ contents self.old }
         ensures counted { counts self.new
             ≡ counted_read result (length buf.old) (counts self.old) };
 
-    /// Writes some of the bytes, from the front and perhaps none, and counts the write.
+    /// Writes some of the bytes, from the front and perhaps none, and counts the write, even if it
+    /// fails.
     fn write(&mut self, buf: &[u8]) -> Transfer
         ensures bytes { WriteGives (contents self.old) (contents self.new) result buf.now }
         ensures remaining { remaining self.new ≡ remaining self.old }
@@ -126,12 +129,14 @@ pub trait Stream {
             ≡ counted_write result (length buf.now) (counts self.old) };
 }
 
-/// Not all bytes were written: a write failed, took no byte, or 1,000 in a row were interrupted.
+/// Not all bytes were written: a write failed, took no byte, or INTERRUPTIONS in a row were
+/// interrupted.
 #[derive(Clone, Copy, Debug, PartialEq, Eq)]
 pub struct WriteFault;
 
-/// Writes all of the bytes. An interrupted write is tried again, but the thousandth in a row is a
-/// fault. After a fault some of the bytes, from the front, were written, or none.
+/// Writes all of the bytes; if there are none, it makes no write. It fails if a write fails or
+/// takes no byte. An interrupted write is tried again, but INTERRUPTIONS of them in a row within
+/// this call are a fault. After a fault some bytes, from the front, may have been written.
 pub fn write_all<S: Stream>(stream: &mut S, bytes: &[u8]) -> Result<(), WriteFault>
     ensures ok { OnOk result (Appends (S.contents stream.old) (S.contents stream.new) bytes.now) }
     ensures err { OnErr result

@@ -9,7 +9,7 @@ use Rattle.cs_journal.specs.declared.auditing.AuditFault.{AuditFault}
 use Rattle.cs_journal.specs.declared.auditing.AuditFault.TheVariants.{Count, Missing, Changed}
 use Rattle.cs_registry.specs.Keys.{Key}
 use Rattle.cs_connection.specs.Given.{Given, passes_of}
-use Rattle.cs_shared_runs.specs.Answers.{IsTold}
+use Rattle.cs_shared_runs.specs.Answers.{IsLookOf}
 use Rattle.cs_shared_runs.specs.Naming.{key_cmp}
 use Rattle.cs_shared_runs.specs.Serving.{HasTree}
 use Rattle.cs_tcp.specs.declared.summary.RunReport.{RunReport}
@@ -42,7 +42,7 @@ IsAudit passes run finding = (finding.0 ≡ length run.journal) × Audits passes
 -- passes that were kept for that key
 abbrev pub IsReport : HasTree → Given → RunReport → Type 0
 IsReport serves given report =
-    IsTold serves report.key.number (IsAudit (passes_of given report.key)) report.finding
+    IsLookOf serves report.key.number (IsAudit (passes_of given report.key)) report.finding
 
 -- The text has the line of each key's run, in the order of the keys.
 pub record AreReported (serves : HasTree) (given : Given) (keys : List Key) (text : List ℕ)

@@ -8,7 +8,7 @@ use std::sync::atomic::{AtomicBool, Ordering};
 use std::thread;
 use std::time::Duration;
 
-/// How many accepts in a row may fail.
+/// How many accepts in a row may fail: with the pauses between them, for about a second.
 const FAILED_ACCEPTS: u32 = 100;
 
 /// How long to wait after an accept without a connection: no client asks for one, or the accept
@@ -27,8 +27,9 @@ pub(crate) enum Accepted<S> {
 }
 
 /// Waits for the next connection, until `closing` is set or FAILED_ACCEPTS accepts in a row have
-/// failed. The listener must not block: `closing` is looked at between its accepts.
-pub(crate) fn accept<R: Wait + Clock, L: OpenListener>(
+/// failed; one that only finds no client hasn't failed. The listener must not block: `closing` is
+/// looked at between its accepts.
+pub(crate) fn accept_next<R: Wait + Clock, L: OpenListener>(
     rt: &R,
     listener: &L,
     closing: &AtomicBool,
@@ -41,6 +42,7 @@ pub(crate) fn accept<R: Wait + Clock, L: OpenListener>(
         match listener.accept() {
             Ok((stream, from)) => return Accepted::Connection(stream, from),
             Err(error) if error.kind() == ErrorKind::WouldBlock => failures = 0,
+            // at most FAILED_ACCEPTS
             Err(_) => failures = failures.saturating_add(1),
         }
         if failures >= FAILED_ACCEPTS {

@@ -19,20 +19,21 @@ use std::time::Duration;
 const WRITE_TIMEOUT_SECONDS: u64 = 30;
 
 /// Sets the stream to write at once, and to give up a write after WRITE_TIMEOUT_SECONDS. A read has
-/// no timeout: an idle client is no fault.
+/// no timeout: a client may be idle. After an error one of the two may be set.
 fn set_up(stream: &TcpStream) -> io::Result<()> {
     stream.set_nodelay(true)?;
     stream.set_write_timeout(Some(Duration::from_secs(WRITE_TIMEOUT_SECONDS)))
 }
 
-/// A server of streams. Functions that are generic over it can serve a stream that borrows, though
-/// the type of what a server keeps may not.
+/// A server of streams. A function that is generic over it can serve a stream that borrows,
+/// although what is left of a stream, `Served`, may not borrow.
 trait StreamServer {
     /// What is left of a stream that was served.
     type Served;
 
-    /// Serves the stream to its end, and drops it, which closes it.
-    fn serve_stream<R: Wait + Clock, RW: Read + Write + Drop>(
+    /// Serves the stream to its end, and drops it, which closes it. (`serve_connection`, which does
+    /// the work, only borrows a stream.)
+    fn serve_to_end<R: Wait + Clock, RW: Read + Write + Drop>(
         &self,
         rt: &R,
         alloc: Global,
@@ -44,7 +45,7 @@ impl<S: ServerBrand> StreamServer for Server<S> {
     type Served = Connection<S>;
 
     /// Serves the stream by the clock of the machine. Returns its connection, with its passes.
-    fn serve_stream<R: Wait + Clock, RW: Read + Write + Drop>(
+    fn serve_to_end<R: Wait + Clock, RW: Read + Write + Drop>(
         &self,
         rt: &R,
         alloc: Global,
@@ -68,15 +69,15 @@ fn serve_logged<V: StreamServer, R: Wait + Clock, E: Write, RW: Read + Write + D
 ) -> V::Served {
     if log.verbose {
         let logged = LoggedStream::new(rt, alloc, stream, conn, log);
-        server.serve_stream(rt, alloc, logged)
+        server.serve_to_end(rt, alloc, logged)
     } else {
-        server.serve_stream(rt, alloc, stream)
+        server.serve_to_end(rt, alloc, stream)
     }
 }
 
-/// Serves a client, whose connection has the number `conn`, to its end, and prints how that came;
-/// its messages too if the log is verbose. None if its socket can't be set up: then nothing was
-/// read.
+/// Serves the client of the connection `conn` to its end, and prints how it ended, as far as the
+/// log prints that; its messages too if the log is verbose. None if its socket can't be set up:
+/// then nothing was read.
 pub(crate) fn serve_client<S: ServerBrand, R: Wait + Clock, E: Write>(
     rt: &R,
     alloc: Global,

@@ -1,6 +1,6 @@
 //! The entrance of connections: a listener that threads share until no more come in.
 
-use crate::accepting::{Accepted, accept};
+use crate::accepting::{Accepted, accept_next};
 use std::net::{SocketAddr, TcpListener, TcpStream};
 use std::rt::Clock;
 use std::sync::atomic::{AtomicBool, Ordering};
@@ -31,41 +31,42 @@ struct Door {
 }
 
 impl Door {
-    /// Drops the listener: it listens no more.
-    fn close(&mut self) {
+    /// Drops the listener, so that nothing listens any more. A door that is shut stays so.
+    fn shut(&mut self) {
         self.listener = None;
     }
 
     /// Counts a connection that came in, and returns its number. The last one that may come in
-    /// closes the door.
+    /// shuts the door. The number after 4,294,967,295 is 0.
     fn count_connection(&mut self) -> u32 {
         let number = self.next;
         self.next = number.wrapping_add(1);
         if let Some(left) = self.left {
+            // 0 counts as 1: one connection came in
             self.left = Some(left.saturating_sub(1));
             if left <= 1 {
-                self.close();
+                self.shut();
             }
         }
         number
     }
 
-    /// Waits for the next connection and counts it. Once `closing` is set, or accepting fails, the
-    /// door is closed.
-    fn admit<R: Wait + Clock>(&mut self, rt: &R, closing: &AtomicBool) -> Admitted {
+    /// Waits for the next connection and counts it. Shuts the door and returns Closed once `closing`
+    /// is set, or Failed if accepting fails. Returns Closed at once if the door is shut already.
+    fn admit_next<R: Wait + Clock>(&mut self, rt: &R, closing: &AtomicBool) -> Admitted {
         let Some(listener) = &self.listener else {
             return Admitted::Closed;
         };
-        match accept(rt, listener, closing) {
+        match accept_next(rt, listener, closing) {
             Accepted::Connection(stream, from) => {
                 Admitted::Connection(self.count_connection(), stream, from)
             }
             Accepted::Closing => {
-                self.close();
+                self.shut();
                 Admitted::Closed
             }
             Accepted::Failed => {
-                self.close();
+                self.shut();
                 self.failed = true;
                 Admitted::Failed
             }
@@ -84,8 +85,8 @@ pub(crate) struct Entrance {
 }
 
 impl Entrance {
-    /// An open entrance. The listener must not block. `left` connections come in, any number if it
-    /// is None. Their numbers begin at 0, and again after 4,294,967,295.
+    /// An open entrance. The listener must not block. `left` connections come in: one if `left` is
+    /// 0, any number if it is None. Their numbers begin at 0, and again after 4,294,967,295.
     pub(crate) fn new(listener: TcpListener, left: Option<u32>) -> Entrance {
         let door = Door {
             listener: Some(listener),
@@ -99,16 +100,16 @@ impl Entrance {
         }
     }
 
-    /// Waits for the next connection, until the entrance is closed.
+    /// Waits for the lock, and then for the next connection, as `Door::admit_next` does.
     pub(crate) fn admit<R: Wait + Clock>(&self, rt: &R) -> Admitted {
-        self.door.lock(rt).admit(rt, &self.closing)
+        self.door.lock(rt).admit_next(rt, &self.closing)
     }
 
-    /// Closes the entrance. It waits for the lock until the thread that waits for a connection
-    /// notices, which is after one pause of `accept` at most.
+    /// Closes the entrance for all threads. It waits for the lock until the thread that waits for a
+    /// connection notices, which is after one pause of `accept_next` at most.
     pub(crate) fn close(&self, rt: &impl Wait) {
         self.closing.store(true, Ordering::SeqCst);
-        self.door.lock(rt).close();
+        self.door.lock(rt).shut();
     }
 
     /// Whether accepting failed, so that the entrance was closed.

@@ -30,7 +30,8 @@ pub(crate) struct LinuxStream<RW> {
     pending: PendingRequests,
 }
 
-/// The request that the client means by a Twstat. None of any other request, and if out of memory.
+/// The request that the client means by a Twstat. None for any other request, and if the Twstat
+/// can't be decoded, also because memory runs out.
 fn request_meant_by(alloc: Global, request: &[u8]) -> Option<TMessage<'_>> {
     if request_type_of(request) != Some(TKind::Wstat) {
         return None;
@@ -38,7 +39,8 @@ fn request_meant_by(alloc: Global, request: &[u8]) -> Option<TMessage<'_>> {
     Some(request_of_linux(decode_request(alloc, request).ok()?))
 }
 
-/// The reply that the client gets for an Rerror. None of any other reply, and if out of memory.
+/// The reply that the client gets for an Rerror. None for any other reply, and if the Rerror can't
+/// be decoded, also because memory runs out.
 fn error_for_linux(alloc: Global, reply: &[u8]) -> Option<RMessage> {
     if reply_type_of(reply) != Some(RKind::Error) {
         return None;
@@ -46,8 +48,8 @@ fn error_for_linux(alloc: Global, reply: &[u8]) -> Option<RMessage> {
     Some(reply_to_linux(decode_reply(alloc, reply).ok()?))
 }
 
-/// The bytes of the request that the client means by this one. None if they are this one's own: it
-/// means what it says, is too long when changed, or out of memory.
+/// The bytes of the request that the client means by this one. None if this one goes on as it is:
+/// it isn't a Twstat, can't be decoded, is too long when changed, or memory runs out.
 fn request_bytes_meant(alloc: Global, request: &[u8]) -> Option<Vec<u8>> {
     let meant = request_meant_by(alloc, request)?;
     if !meant.fits() {
@@ -58,8 +60,8 @@ fn request_bytes_meant(alloc: Global, request: &[u8]) -> Option<Vec<u8>> {
     Some(bytes)
 }
 
-/// The bytes of the reply that the client gets for this one. None if they are this one's own: it is
-/// no Rerror, is too long when changed, or out of memory.
+/// The bytes of the reply that the client gets for this one. None if this one goes on as it is: it
+/// isn't an Rerror, can't be decoded, is too long when changed, or memory runs out.
 fn reply_bytes_for_linux(alloc: Global, reply: &[u8]) -> Option<Vec<u8>> {
     let error = error_for_linux(alloc, reply)?;
     if !error.fits() {
@@ -70,9 +72,10 @@ fn reply_bytes_for_linux(alloc: Global, reply: &[u8]) -> Option<Vec<u8>> {
     Some(bytes)
 }
 
-/// Moves requests to `to_server`, as the client means them: each whole one, up to one whose reply
-/// matters, which must come before the next is asked. If the bytes after them begin no request,
-/// they are moved as they are. The error is out of memory.
+/// Moves whole requests to `to_server`, as the client means them. It stops after one whose reply
+/// matters: that reply must come before the next request goes on. If the bytes after them begin no
+/// request, they are moved as they are. The error is out of memory, after which a request may be
+/// lost.
 fn translate_requests(
     alloc: Global,
     requests: &mut Framer,
@@ -94,13 +97,15 @@ fn translate_requests(
             return Ok(());
         }
     }
+    // the loop ended at None or at a fault, and `next` gives the same again
     if requests.next().is_err() {
         move_rest(alloc, requests, to_server)?;
     }
     Ok(())
 }
 
-/// Moves all bytes that are left to `to_server`, as they are: they are no whole request.
+/// Moves all bytes that are left to `to_server`, as they are: they aren't a whole request. The
+/// error is out of memory; `requests` then still has all of them, and a part may be moved.
 fn move_rest(alloc: Global, requests: &mut Framer, to_server: &mut VecDeque<u8>) -> io::Result<()> {
     let (bytes, place) = requests.buffered();
     to_server.write_all(&bytes[place..])?;
@@ -108,9 +113,9 @@ fn move_rest(alloc: Global, requests: &mut Framer, to_server: &mut VecDeque<u8>)
     Ok(())
 }
 
-/// Appends a request that no client sent, a step of a rename. The error is InvalidData if it is too
-/// long for a message, else out of memory.
-fn put_request(
+/// Appends a request that no client sent, a step of a rename, as a whole message. The error is
+/// InvalidData if it is too long for one, else out of memory.
+fn append_request(
     alloc: Global,
     request: &TMessage<'_>,
     to_server: &mut VecDeque<u8>,
@@ -123,9 +128,10 @@ fn put_request(
     to_server.write_all(&bytes)
 }
 
-/// Appends the reply with which a rename ends, with a text that the client knows if it is an
-/// Rerror. The error is InvalidData if it is too long for a message, else out of memory.
-fn put_reply(reply: RMessage, to_client: &mut Vec<u8>) -> io::Result<()> {
+/// Appends the reply with which a rename ends, as a whole message, with a text that the client
+/// knows if it is an Rerror. The error is InvalidData if it is too long for a message, else out of
+/// memory.
+fn append_reply(reply: RMessage, to_client: &mut Vec<u8>) -> io::Result<()> {
     let reply = reply_to_linux(reply);
     if !reply.fits() {
         return Err(io::Error::from(io::ErrorKind::InvalidData));
@@ -135,7 +141,8 @@ fn put_reply(reply: RMessage, to_client: &mut Vec<u8>) -> io::Result<()> {
 }
 
 /// Appends to `to_client`, for each whole reply, the one that the client gets. If the server must
-/// be asked something first, that is appended to `to_server` instead.
+/// be asked something first, that is appended to `to_server` instead. After an error the reply at
+/// which it came is lost. The server's replies are well-formed, so `next` finds no fault.
 fn translate_replies(
     alloc: Global,
     replies: &mut Framer,
@@ -145,8 +152,8 @@ fn translate_replies(
 ) -> io::Result<()> {
     while let Ok(Some(reply)) = replies.next() {
         match pending.note_reply(reply) {
-            ReplyFate::Followed(request) => put_request(alloc, &request, to_server)?,
-            ReplyFate::Replaced(reply) => put_reply(reply, to_client)?,
+            ReplyFate::Followed(request) => append_request(alloc, &request, to_server)?,
+            ReplyFate::Replaced(reply) => append_reply(reply, to_client)?,
             ReplyFate::Passed => match reply_bytes_for_linux(alloc, reply) {
                 Some(bytes) => to_client.extend_from_slice(&bytes)?,
                 None => to_client.extend_from_slice(reply)?,
@@ -193,7 +200,8 @@ impl<RW> LinuxStream<RW> {
 
 impl<RW: Read> Read for LinuxStream<RW> {
     /// Reads requests for the server. Waits for the client until there is a byte of them; 0 if it
-    /// sends no more. After an error, of the stream or out of memory, some requests may be missing.
+    /// sends no more, or if `buf` is empty. After an error, of the stream or out of memory, some
+    /// requests may be missing.
     fn read(&mut self, buf: &mut [u8]) -> io::Result<usize> {
         if buf.is_empty() {
             return Ok(0);

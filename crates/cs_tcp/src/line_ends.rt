@@ -11,8 +11,8 @@ fn without_return(line: &[u8]) -> &[u8] {
     }
 }
 
-/// The bytes without the carriage return before each line feed and at their end. Any other carriage
-/// return stays, also a second one there.
+/// The bytes without the carriage return before each line feed and at the very end. Any other
+/// carriage return stays, also one before such a one.
 pub fn with_line_feeds(alloc: Global, bytes: &[u8]) -> Result<Vec<u8>, AllocError> {
     let mut text = Vec::new(alloc);
     let mut lines = Pieces::of(bytes, b'\n');

@@ -22,6 +22,7 @@ pub(crate) struct Log<'a, E> {
 }
 
 impl<E> Clone for Log<'_, E> {
+    /// The same log; it never fails.
     fn clone(&self) -> Result<Self, AllocError> {
         Ok(*self)
     }
@@ -29,8 +30,9 @@ impl<E> Clone for Log<'_, E> {
 
 impl<E> Copy for Log<'_, E> {}
 
-/// The user and the run's key of an attach that was granted, as its message has them: a run's key
-/// has one spelling. None of any other message, and of an attach that was refused.
+/// The user and the run's key of an attach that was granted, as its message has them: a key has
+/// only one spelling, so the message's is the run's. None for any other message, and for an attach
+/// that was refused.
 fn granted_attach<'a>(
     message: &'a Result<TMessage<'_>, WireFault>,
     reply: &Result<RMessage, WireFault>,
@@ -55,8 +57,8 @@ fn granted_attach<'a>(
 }
 
 impl<E: Write> Log<'_, E> {
-    /// Prints the text and a line feed, and flushes. A line that can't be written is dropped.
-    fn print_line(&self, rt: &impl Wait, line: &impl fmt::Display) {
+    /// Prints the line and a line feed, and flushes. A line that can't be written is dropped.
+    fn print(&self, rt: &impl Wait, line: &impl fmt::Display) {
         let mut writer = self.writer.lock(rt);
         let _unheard = writeln!(&mut *writer, "{line}");
         let _unheard = writer.flush();
@@ -64,7 +66,7 @@ impl<E: Write> Log<'_, E> {
 
     /// Prints a fault, after `crashfs: `.
     pub(crate) fn print_fault(&self, rt: &impl Wait, fault: &impl fmt::Display) {
-        self.print_line(rt, &format_args!("crashfs: {fault}"));
+        self.print(rt, &format_args!("crashfs: {fault}"));
     }
 
     /// Prints, as two faults, that the address can't be listened on, and why.
@@ -76,7 +78,7 @@ impl<E: Write> Log<'_, E> {
     /// Prints that `published` of `states` are published so far, if progress is printed.
     pub(crate) fn print_progress(&self, rt: &impl Wait, published: u32, states: u32) {
         if self.progress {
-            self.print_line(rt, &format_args!("published {published} of {states}"));
+            self.print(rt, &format_args!("published {published} of {states}"));
         }
     }
 
@@ -84,14 +86,14 @@ impl<E: Write> Log<'_, E> {
     pub(crate) fn print_published(&self, rt: &impl Wait, states: u32) {
         if self.verbose || self.progress {
             let word = if states == 1 { "state" } else { "states" };
-            self.print_line(rt, &format_args!("published {states} {word}"));
+            self.print(rt, &format_args!("published {states} {word}"));
         }
     }
 
     /// Prints that a connection was accepted, and from where, if the log is verbose.
     pub(crate) fn print_accepted(&self, rt: &impl Wait, conn: u32, from: SocketAddr) {
         if self.verbose {
-            self.print_line(rt, &format_args!("{conn} accepted from {from}"));
+            self.print(rt, &format_args!("{conn} accepted from {from}"));
         }
     }
 
@@ -117,14 +119,14 @@ impl<E: Write> Log<'_, E> {
 
     /// Prints that no more messages of a connection are printed, because memory ran out.
     pub(crate) fn print_loss(&self, rt: &impl Wait, conn: u32) {
-        self.print_line(rt, &format_args!("{conn} tells no more: out of memory"));
+        self.print(rt, &format_args!("{conn} tells no more: out of memory"));
     }
 
     /// Prints that a connection wasn't served, as its socket couldn't be set up, if the log is
     /// verbose.
     pub(crate) fn print_not_set_up(&self, rt: &impl Wait, conn: u32) {
         if self.verbose {
-            self.print_line(
+            self.print(
                 rt,
                 &format_args!("{conn} ended: its socket cannot be set up"),
             );
@@ -132,12 +134,12 @@ impl<E: Write> Log<'_, E> {
     }
 
     /// Prints how a connection ended, if the log is verbose. Else prints only that a client speaks
-    /// another protocol, which is a fault; a stream that ends inside a message is none.
+    /// another protocol, which is a fault; a stream that ends inside a message isn't one.
     pub(crate) fn print_end(&self, rt: &impl Wait, conn: u32, end: Result<(), ServeFault>) {
         if self.verbose {
             match end {
-                Ok(()) => self.print_line(rt, &format_args!("{conn} ended")),
-                Err(fault) => self.print_line(rt, &format_args!("{conn} ended: {fault}")),
+                Ok(()) => self.print(rt, &format_args!("{conn} ended")),
+                Err(fault) => self.print(rt, &format_args!("{conn} ended: {fault}")),
             }
             return;
         }

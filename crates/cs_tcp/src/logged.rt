@@ -19,11 +19,12 @@ pub(crate) struct LoggedStream<'a, RW, R, E> {
     messages: Framer,
     /// What was written, from the first reply on that isn't whole.
     replies: Framer,
-    /// Whether some of it was lost because memory ran out. Then no more is printed.
+    /// Whether bytes were lost because memory ran out. Then no more is printed.
     lost: bool,
 }
 
-/// Prints each whole reply with its message, and drops both from the framers.
+/// Prints each whole reply with its message, and drops both from the framers. A reply without a
+/// message, which the server doesn't write, would be dropped unprinted.
 fn log_each<R: Wait, E: Write>(
     rt: &R,
     alloc: Global,
@@ -60,13 +61,14 @@ impl<'a, RW, R: Wait, E: Write> LoggedStream<'a, RW, R, E> {
         }
     }
 
-    /// Stops printing messages for good, and prints that.
+    /// Stops printing messages for good, and prints that it does.
     fn stop_printing(&mut self) {
         self.lost = true;
         self.log.print_loss(self.rt, self.conn);
     }
 
-    /// Takes bytes of messages that were read. If there is no memory for them printing stops.
+    /// Takes bytes of messages that were read, unless printing has stopped. If there is no memory
+    /// for them, printing stops.
     fn take_messages(&mut self, bytes: &[u8]) {
         if !self.lost && self.messages.feed(bytes).is_err() {
             self.stop_printing();
@@ -74,7 +76,7 @@ impl<'a, RW, R: Wait, E: Write> LoggedStream<'a, RW, R, E> {
     }
 
     /// Takes bytes of replies that were written, and prints each reply that is whole now with its
-    /// message. If there is no memory for them printing stops.
+    /// message, unless printing has stopped. If there is no memory for them, printing stops.
     fn take_replies(&mut self, bytes: &[u8]) {
         if self.lost {
             return;
@@ -104,8 +106,8 @@ impl<RW: Read, R: Wait, E: Write> Read for LoggedStream<'_, RW, R, E> {
 }
 
 impl<RW: Write, R: Wait, E: Write> Write for LoggedStream<'_, RW, R, E> {
-    /// Writes to the stream, and prints what that answers. Printing changes neither result nor
-    /// error.
+    /// Writes to the stream, and prints each reply that is now written whole. Printing changes
+    /// neither result nor error.
     fn write(&mut self, buf: &[u8]) -> io::Result<usize> {
         let count = self.stream.write(buf)?;
         self.take_replies(&buf[..count]);

@@ -32,17 +32,20 @@ pub(crate) struct PendingRequests {
     renaming: Option<Renaming>,
 }
 
-/// The type of a client's message. None if the bytes are too few, or it has no known type.
+/// The type of a client's message, by its fifth byte: its size is in the first four. None if there
+/// are fewer bytes, or if no type of request has that number.
 pub(crate) fn request_type_of(request: &[u8]) -> Option<TKind> {
     TKind::of_number(request.get(4).copied()?)
 }
 
-/// The type of a reply. None if the bytes are too few, or it has no known type.
+/// The type of a reply, by its fifth byte. None if there are fewer bytes, or if no type of reply
+/// has that number.
 pub(crate) fn reply_type_of(reply: &[u8]) -> Option<RKind> {
     RKind::of_number(reply.get(4).copied()?)
 }
 
-/// The same request, owned, if its reply matters: a walk, or a rename. None of any other.
+/// The same request, owned, if its reply matters: a walk, or a rename. None for any other. The types
+/// are those that `decode_if_it_matters` decodes.
 fn owned_if_it_matters(request: TMessage<'_>) -> Option<TMessage<'static>> {
     let tag = request.tag;
     match request.body {
@@ -61,9 +64,9 @@ fn owned_if_it_matters(request: TMessage<'_>) -> Option<TMessage<'static>> {
     }
 }
 
-/// The request that the bytes spell, if its reply matters. None of any other, and of bytes that
-/// can't be decoded, also if memory runs out: that request goes on as one whose reply doesn't
-/// matter.
+/// The request that the bytes spell, if its reply matters. None for any other, and for bytes that
+/// can't be decoded, also because memory runs out: that request goes on as one whose reply doesn't
+/// matter. The types are those of `owned_if_it_matters`.
 fn decode_if_it_matters(alloc: Global, request: &[u8]) -> Option<TMessage<'static>> {
     match request_type_of(request) {
         Some(TKind::Walk | TKind::Wstat) => {}
@@ -76,12 +79,13 @@ fn decode_if_it_matters(alloc: Global, request: &[u8]) -> Option<TMessage<'stati
 }
 
 /// The reply that the bytes spell. If they can't be decoded, an Rerror `out of memory` with their
-/// tag: the server's own replies are well-formed, so only memory can be missing.
+/// tag: the server's own replies are well-formed, so only memory can be missing. The text is one that
+/// `reply_to_linux` knows.
 fn reply_of(alloc: Global, reply: &[u8]) -> RMessage {
     match decode_reply(alloc, reply) {
         Ok(reply) => reply,
         Err(_) => {
-            // a whole reply has at least 7 bytes
+            // the tag is in bytes 5 and 6, and a whole reply has at least 7 bytes
             let (low, high) = (reply.get(5).copied(), reply.get(6).copied());
             RMessage {
                 tag: u16::from_le_bytes([low.unwrap_or(0), high.unwrap_or(0)]),
@@ -108,6 +112,7 @@ impl PendingRequests {
     /// Notes a request that the server is asked now. True if its reply matters: then no other may
     /// be asked before that comes.
     pub(crate) fn note_request(&mut self, request: &[u8]) -> bool {
+        // no connection has as many requests as a u64 counts
         self.unanswered = self.unanswered.saturating_add(1);
         self.last = decode_if_it_matters(self.alloc, request);
         self.last.is_some()
@@ -127,7 +132,7 @@ impl PendingRequests {
     }
 
     /// What is done with the reply to this walk or rename. A walk's fid is kept if it may be on a
-    /// directory. If out of memory the client gets the reply as it is.
+    /// directory. If memory runs out, the client gets the reply as it is.
     fn fate_of_reply(&mut self, request: TMessage<'_>, reply: &[u8]) -> ReplyFate {
         let Ok(reply) = decode_reply(self.alloc, reply) else {
             return ReplyFate::Passed;
@@ -145,8 +150,10 @@ impl PendingRequests {
     }
 
     /// Notes the reply to the first request that isn't answered, and returns what is done with it.
-    /// An Rversion forgets the directories' fids; an Rattach is counted.
+    /// An Rversion forgets the directories' fids; an Rattach is counted. A reply to a step of a
+    /// rename leads to its next step.
     pub(crate) fn note_reply(&mut self, reply: &[u8]) -> ReplyFate {
+        // the server replies only to requests
         self.unanswered = self.unanswered.saturating_sub(1);
         match reply_type_of(reply) {
             Some(RKind::Version) => self.directories = Directories::new(),

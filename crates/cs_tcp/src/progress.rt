@@ -10,23 +10,25 @@ use std::sync::Wait;
 /// A line is printed before each state whose number is a multiple of this, but not before state 0.
 const STATES: u32 = 1_024;
 
-/// A gate that holds no state: before some it prints how many are published, if the log prints
-/// progress.
+/// A gate that never blocks a worker: before some states it prints how many are published, if the
+/// log prints progress.
 #[derive(Drop)]
-pub(crate) struct Progress<'a, S: ServerBrand, R, E> {
+pub(crate) struct ProgressGate<'a, S: ServerBrand, R, E> {
     pub(crate) rt: &'a R,
     pub(crate) server: &'a Server<S>,
     pub(crate) log: Log<'a, E>,
 }
 
-impl<S: ServerBrand + Send + Sync, R: Wait + Sync, E: Write + Send> Gate for Progress<'_, S, R, E> {
+impl<S: ServerBrand + Send + Sync, R: Wait + Sync, E: Write + Send> Gate
+    for ProgressGate<'_, S, R, E> {
     /// Prints how many states are published, if the number is a multiple of STATES and isn't 0.
-    fn before(&self, number: u32) {
+    fn before_make(&self, number: u32) {
         if number == 0 || number % STATES != 0 {
             return;
         }
         let registry = self.server.registry();
         let all = registry.scene().plan().len() as u32;
+        // no more states are missing than there are
         let missing = registry.missing(self.rt);
         self.log
             .print_progress(self.rt, all.saturating_sub(missing), all);

@@ -2,7 +2,7 @@
 ghost use Rattle.cs_shared_runs.specs.Serving.{IsOnly};
 
 use crate::log::Log;
-use crate::progress::Progress;
+use crate::progress::ProgressGate;
 use cs_connection::Server;
 use cs_publish::{PublishAllFault, publish_own_into};
 use cs_serve::ProgramFault;
@@ -14,16 +14,14 @@ use std::thread::Threads;
 
 /// Publishes all states of the server's scene by `workers` threads, and returns once they have
 /// ended. False if a fault was printed; some states may be published then.
-pub(crate) fn publish<S: ServerBrand + Send + Sync, R: Threads + Wait + Sync, E: Write + Send>(
-    rt: &R,
-    alloc: Global,
-    server: &Server<S>,
-    workers: u32,
-    log: Log<E>,
-) -> bool
+pub(crate) fn publish_or_print<
+    S: ServerBrand + Send + Sync,
+    R: Threads + Wait + Sync,
+    E: Write + Send,
+>(rt: &R, alloc: Global, server: &Server<S>, workers: u32, log: Log<E>) -> bool
     requires { IsOnly S.is_scene server.now }
 {
-    let progress = Progress { rt, server, log };
+    let progress = ProgressGate { rt, server, log };
     let fault = match publish_own_into(rt, alloc, server.registry(), workers, &progress) {
         Ok(states) => {
             log.print_published(rt, states);

@@ -19,13 +19,13 @@ use std::sync::{Mutex, Wait};
 enum ReloadFault {
     /// The file can't be read.
     Unread,
-    /// It is no users file, or there is no memory for it.
+    /// It isn't a users file, or there is no memory for it.
     Users(UsersFault),
 }
 
 /// What can read a file in any thread. Each runtime with `Files` can.
 pub trait ReadsFiles {
-    /// The bytes of the file at the path.
+    /// The bytes of the file at the path. The error is that of the file, or out of memory.
     fn read_file(&self, alloc: Global, path: &str) -> io::Result<Vec<u8>>;
 }
 
@@ -39,8 +39,9 @@ impl<R: Files> ReadsFiles for R {
     }
 }
 
-/// Loads the users that the bytes of a users file spell, unless they are the bytes `last`, and
-/// makes them the last, also if they have a fault. If out of memory users and `last` stay, so that
+/// Gives the registry the users that the bytes of a users file spell, and sets `last` to the bytes;
+/// if they are those of `last` already, does nothing. After a fault of the file the users stay, but
+/// `last` is set, so that the fault is reported once. If memory runs out `last` stays too, so that
 /// the same bytes are tried again.
 fn load<S: ServerBrand>(
     rt: &impl Wait,
@@ -59,6 +60,7 @@ fn load<S: ServerBrand>(
     }
     let loaded = match Users::read(alloc, &bytes) {
         Ok(users) => match registry.reload(rt, alloc, users) {
+            // the list that it returns is the one that was loaded
             Ok(_) => Ok(()),
             Err(_) => Err(UsersFault::Memory),
         },
@@ -79,7 +81,7 @@ pub(crate) struct Reloading {
 }
 
 impl Reloading {
-    /// The users file of the path, which had these bytes when the server was made. They are as
+    /// The users file at the path. `bytes` are those that it had when the server was made, as
     /// `with_line_feeds` gives them.
     pub(crate) fn new(alloc: Global, path: &str, bytes: &[u8]) -> Result<Reloading, AllocError> {
         Ok(Reloading {
@@ -88,9 +90,10 @@ impl Reloading {
         })
     }
 
-    /// Reads the file, and loads its users if it changed. The lock is held all the time: else a
-    /// thread could load what it read after another has read and loaded a later file.
-    fn reload<S: ServerBrand, R: ReadsFiles + Wait>(
+    /// Reads the file, and loads its users if it changed. After a fault the users stay. The lock is
+    /// held all the time: else a thread could load what it read after another has read and loaded a
+    /// later file.
+    fn load_if_changed<S: ServerBrand, R: ReadsFiles + Wait>(
         &self,
         rt: &R,
         alloc: Global,
@@ -119,7 +122,7 @@ impl Reloading {
         log: Log<E>,
     ) {
         let path = self.path.as_str();
-        match self.reload(rt, alloc, registry) {
+        match self.load_if_changed(rt, alloc, registry) {
             Ok(()) => {}
             Err(ReloadFault::Unread) => log.print_fault(rt, &format_args!("{path}: cannot read")),
             Err(ReloadFault::Users(fault)) => log.print_fault(rt, &fault),

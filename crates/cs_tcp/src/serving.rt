@@ -8,11 +8,11 @@ use crate::address::Address;
 use crate::client::Client;
 use crate::entrance::Entrance;
 use crate::log::Log;
-use crate::publishing::publish;
+use crate::publishing::publish_or_print;
 use crate::reloading::{ReadsFiles, Reloading};
 use crate::site::Site;
 use crate::slots::{start_slots, start_watch};
-use crate::summary::summary_of;
+use crate::summary::summary_of_runs;
 use cs_connection::Server;
 use cs_plan::Scene;
 use cs_serve::{Inputs, ProgramFault, print_to, scene_of, users_of};
@@ -48,8 +48,8 @@ pub struct Serving<'a> {
     pub progress: bool,
 }
 
-/// A server of the scene with the users of the inputs. No state is published yet. The errors are a
-/// fault of the users, and out of memory.
+/// A server of the scene with the users of the inputs. No state is published yet. The error is a
+/// fault of the users file, or out of memory.
 pub(crate) fn server_of<S: ServerBrand>(
     alloc: Global,
     scene: Arc<Scene>,
@@ -84,7 +84,7 @@ fn reloading_of(
     }
 }
 
-/// A listener on the address, and the port that it has. It is not blocking: an accept without a
+/// A listener on the address, and the port that it has. It doesn't block: an accept without a
 /// connection is an error at once.
 fn listen<R: Net<Listener = TcpListener, Stream = TcpStream>>(
     rt: &R,
@@ -104,7 +104,8 @@ fn print_address<W: Write>(given: &str, taken: u16, out: &mut W) -> Result<(), P
 }
 
 /// Accepts connections and serves each in a thread, and returns once all have ended. Without
-/// `ready` it also publishes the states, in another thread. False if a fault was printed.
+/// `ready` it also publishes the states, in another thread. False if a fault was printed; if that
+/// was a thread that can't be started, the entrance is closed.
 fn serve_each<
     's,
     S: ServerBrand + Send + Sync + 's,
@@ -131,7 +132,7 @@ fn serve_each<
             let publisher = scope.spawn(
                 move || -> bool
                     requires { IsOnly S.is_scene site.now.server }
-                { publish(rt, alloc, &site.server, workers, log) },
+                { publish_or_print(rt, alloc, &site.server, workers, log) },
             );
             let Ok(publisher) = publisher else {
                 log.print_fault(rt, &ProgramFault::Memory);
@@ -164,7 +165,7 @@ where
 {
     let server = server_of::<S>(alloc, scene, inputs)?;
     let reloading = reloading_of(alloc, inputs, serving)?;
-    if serving.ready && !publish(rt, alloc, &server, serving.workers, log) {
+    if serving.ready && !publish_or_print(rt, alloc, &server, serving.workers, log) {
         return Ok(false);
     }
     let (listener, port) = match listen(rt, serving.listen) {
@@ -184,7 +185,7 @@ where
     let served = serve_each(rt, alloc, &site, serving, input, log);
     let failed = site.entrance.has_failed(rt);
     let (server, passes) = site.into_parts();
-    let summary = summary_of(rt, alloc, &server, &passes)?;
+    let summary = summary_of_runs(rt, alloc, &server, &passes)?;
     print_to(out, summary.as_bytes())?;
     out.flush().map_err(|_| ProgramFault::Output)?;
     Ok(served && !failed)
@@ -222,11 +223,11 @@ where
 /// The bytes of `input` are dropped; without `again` none is read.
 ///
 /// With `reload` it reads the users file again after each accept: runs that are made from then on
-/// have its users. If the file can't be read or is no users file, or if out of memory, a line on
-/// `err` says so, and the users stay.
+/// have its users. If the file can't be read or isn't a users file, or if memory runs out, a line
+/// on `err` says so, and the users stay.
 ///
 /// It returns 0, or 1 if a fault was printed, each as a line on `err`. A fault of a connection, or
-/// of a users file that is read again, is none of the command. If accepting or publishing fails
+/// of a users file that is read again, doesn't count for this. If accepting or publishing fails
 /// while there are connections, these are served to their end, and the runs are printed; with
 /// `again` not before `input` ends. If the inputs are verbose, `err` also gets a line for each
 /// connection that comes and for each that ends, each message with its reply, and each attach that
@@ -253,6 +254,7 @@ where
         Ok(true) => 0,
         Ok(false) => 1,
         Err(fault) => {
+            // only the fault that ended the command is reported
             let _printed = out.flush();
             log.print_fault(rt, &fault);
             1

@@ -36,13 +36,14 @@ impl<S: ServerBrand> Site<S> {
         }
     }
 
-    /// Keeps the passes of a connection that has ended, for the audits. If out of memory some are
-    /// dropped: the audits of their runs then say `count`.
+    /// Keeps the passes of a connection that has ended, for the audits. If memory runs out, some
+    /// are dropped: the audits of their runs then report `count`.
     pub(crate) fn keep_passes(&self, rt: &impl Wait, alloc: Global, connection: Connection<S>) {
         let _lost = self.passes.lock(rt).keep(alloc, connection);
     }
 
-    /// The server, and the passes of all connections that have ended.
+    /// The server, and the passes that `keep_passes` kept. The entrance, with its listener, and the
+    /// users file are dropped.
     pub(crate) fn into_parts(self) -> (Server<S>, GivenPasses) {
         (self.server, self.passes.into_inner())
     }

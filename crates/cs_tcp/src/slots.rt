@@ -1,5 +1,5 @@
-//! The threads that accept and serve connections, each one after another, and the one that ends
-//! them.
+//! The threads that accept and serve connections, each thread one at a time, and the thread that
+//! closes the entrance when the input ends.
 
 use crate::client::Client;
 use crate::connection::serve_client;
@@ -16,8 +16,8 @@ use std::sync::Wait;
 use std::thread::Scope;
 
 /// Serves one connection after another until no more come in, and keeps the passes of each. Before
-/// one is served the users file is read again, if the site has one. A fault of accepting is
-/// printed.
+/// one is served the users file is read again, if the site has one. If accepting fails, that is
+/// printed, and the function returns.
 fn serve_slot<S: ServerBrand, R: Wait + Clock + ReadsFiles, E: Write>(
     rt: &R,
     alloc: Global,
@@ -48,7 +48,7 @@ fn serve_slot<S: ServerBrand, R: Wait + Clock + ReadsFiles, E: Write>(
 }
 
 /// Starts `slots` threads that serve connections. False if one can't be started: then that is
-/// printed, and the entrance is closed, so that those before it end.
+/// printed, and the entrance is closed, so that the threads started before it end.
 pub(crate) fn start_slots<
     's,
     Env,
@@ -82,8 +82,9 @@ fn close_at_end<I: Read + Drop>(rt: &impl Wait, mut input: I, entrance: &Entranc
     entrance.close(rt);
 }
 
-/// Starts a thread that closes the entrance when `input` ends, if `again`; else does nothing. False
-/// if it can't be started: then that is printed, and the entrance is closed.
+/// If `again`, starts a thread that closes the entrance when `input` ends; else does nothing and
+/// returns true. False if the thread can't be started: then that is printed, and the entrance is
+/// closed.
 pub(crate) fn start_watch<'s, Env, R: Wait + Sync, I: Read + Drop + Send + 's, E: Write + Send>(
     scope: &'s Scope<'s, Env>,
     rt: &'s R,

@@ -19,7 +19,7 @@ struct Verdict(Result<(), AuditFault>);
 impl fmt::Display for Verdict {
     ghost output = { λ verdict. Some (verdict_text verdict.0) };
 
-    /// Writes `ok`, `count`, or `missing` or `changed` with the place of a receipt.
+    /// Writes `ok`, `count`, or `missing` or `changed` with the place of the first such entry.
     fn fmt<W: fmt::Write>(&self, f: &mut fmt::Formatter<W>) -> fmt::Result {
         match self.0 {
             Ok(()) => f.write_str("ok"),
@@ -31,7 +31,7 @@ impl fmt::Display for Verdict {
 }
 
 /// How many entries a run's journal has, and the result of its audit. None if the run under the
-/// lock is of another number.
+/// lock is of another number, which can't happen.
 #[derive(Clone, Copy)]
 struct Finding(Option<(usize, Result<(), AuditFault>)>);
 
@@ -51,7 +51,7 @@ impl fmt::Display for Finding {
 }
 
 /// What is printed of a run: its key, how many entries its journal has, and its audit's result. The
-/// last two are missing if the run under the lock is of another number.
+/// last two are missing if the run under the lock is of another number, which can't happen.
 #[derive(Drop)]
 pub(crate) struct RunReport {
     key: RunKey,
@@ -109,7 +109,7 @@ fn runs_text<S: ServerBrand, R: Wait>(
 /// A line for each run of the server, in the order of the numbers of their states and then of their
 /// names: its key, how many entries its journal has, and the result of its audit by the passes that
 /// were kept for its key. The error is out of memory.
-pub(crate) fn summary_of<S: ServerBrand, R: Wait>(
+pub(crate) fn summary_of_runs<S: ServerBrand, R: Wait>(
     rt: &R,
     alloc: Global,
     server: &Server<S>,

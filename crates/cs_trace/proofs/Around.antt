@@ -23,7 +23,7 @@ use Rattle.cs_trace.specs.Below.{is_below}
 use Rattle.cs_trace.specs.Entries.{Entries}
 use Rattle.cs_trace.specs.Siblings.{AreBefore, AreElsewhere, AreIn, BeginsAt, IsIn, Siblings, with_all}
 use Rattle.cs_trace.specs.Unions.{union}
-use Rattle.cs_trace.specs.declared.entry.StartFile.{StartFile}
+use Rattle.cs_trace.specs.declared.entry.StartEntry.{StartEntry}
 use Rattle.cs_trace.proofs.Beneath.{name-in, past-entries}
 use Rattle.cs_trace.proofs.InDirectory.{places}
 use Rattle.cs_trace.proofs.Unions.{find-append, get-union}
@@ -44,7 +44,7 @@ either R (Ok a) p q f g = f p
 either R (Err e) p q f g = g q
 
 abbrev Listed : Type 0
-Listed = List (Path × StartFile)
+Listed = List (Path × StartEntry)
 
 -- ---- one after another, with no order of their own
 
@@ -117,7 +117,7 @@ sorted_between (b ∷ bs) es fs outer inner low high =
 
 -- ---- the siblings of a directory, and the others
 
-elsewhere_first : (o p r : Option StartFile) → option_or o r ≡ None → option_or o (option_or p r) ≡ option_or p (option_or o r)
+elsewhere_first : (o p r : Option StartEntry) → option_or o r ≡ None → option_or o (option_or p r) ≡ option_or p (option_or o r)
 elsewhere_first None p r is = refl
 elsewhere_first (Some x) p r is = absurd (cc)
 
@@ -125,7 +125,7 @@ module _ (s : Siblings) (m : Entries) (bs fs : Listed) (parts : entries m ≡ bs
   none_here : (q : Path) → ((n : NameBytes) → q ≢ s.directory ++ n ∷ []) → get s.entries q ≡ None
   none_here q other = ⊎_elim
       (λ (none : get s.entries q ≡ None). none)
-      (λ (some : (e : StartFile) × (get s.entries q ≡ Some e)). absurd
+      (λ (some : (e : StartEntry) × (get s.entries q ≡ Some e)). absurd
       (let here : IsIn s.directory q = all q (ap is_some some.1) in other here.0 here.1))
       (option_cases (get s.entries q))
 
@@ -163,12 +163,12 @@ module _ (s : Siblings) (m : Entries) (bs fs : Listed) (parts : entries m ≡ bs
 
 -- ---- where the others are split
 
-kept_by : (f : Path × StartFile → Bool) (e : Path × StartFile) (es : Listed) (b : Bool) → f e ≡ b → AllByRecursion (λ e. f e ≡ true) es
+kept_by : (f : Path × StartEntry → Bool) (e : Path × StartEntry) (es : Listed) (b : Bool) → f e ≡ b → AllByRecursion (λ e. f e ≡ true) es
     → AllByRecursion (λ e. f e ≡ true) (cond b (e ∷ es) es)
 kept_by f e es true is all = (is, all)
 kept_by f e es false is all = all
 
-all_kept : (f : Path × StartFile → Bool) (es : Listed) → AllByRecursion (λ e. f e ≡ true) (filter f es)
+all_kept : (f : Path × StartEntry → Bool) (es : Listed) → AllByRecursion (λ e. f e ≡ true) (filter f es)
 all_kept f [] = tt
 all_kept f (e ∷ es) = kept_by f e (filter f es) (f e) refl (all_kept f es)
 
@@ -180,7 +180,7 @@ any_right : (a b : Bool) → a || b ≡ false → b ≡ false
 any_right true b is = absurd (false≢true (sym is))
 any_right false b is = is
 
-pub none_later : (f : Path × StartFile → Bool) (es fs : Listed) → list_any f (es ++ fs) ≡ false → AllByRecursion (λ e. f e ≡ false) fs
+pub none_later : (f : Path × StartEntry → Bool) (es fs : Listed) → list_any f (es ++ fs) ≡ false → AllByRecursion (λ e. f e ≡ false) fs
 none_later f [] [] is = tt
 none_later f [] (e ∷ es) is = (any_left (f e) (list_any f es) is, none_later f [] es (any_right (f e) (list_any f es) is))
 none_later f (e ∷ es) fs is = none_later f es fs (any_right (f e) (list_any f (es ++ fs)) is)
@@ -200,14 +200,14 @@ nothing_in d n (e ∷ es) is = ⊎_elim
 pub elsewhere-none : (s : Siblings) (es : Listed) → list_any (λ e. is_below s.directory e.0) es ≡ false → AreElsewhere s (from_entries es)
 elsewhere-none s es is n = get-from_entries path_total es (s.directory ++ n ∷ []) ∙ nothing_in s.directory n es is
 
-pub elsewhere-insert : (s : Siblings) (m k : Entries) (p : Path) (e : StartFile) → k ≡ insert m p e
+pub elsewhere-insert : (s : Siblings) (m k : Entries) (p : Path) (e : StartEntry) → k ≡ insert m p e
     → ((n : NameBytes) → p ≢ s.directory ++ n ∷ []) → AreElsewhere s m → AreElsewhere s k
 elsewhere-insert s m k p e is other all n =
     ap (λ l. get l (s.directory ++ n ∷ [])) is
     ∙ get-insert_other path_total path_exact m (s.directory ++ n ∷ []) p e (λ same. other n (sym same))
     ∙ all n
 
-none_left : (b : Bool) (o : Option StartFile) → o ≡ None → cond b None o ≡ None
+none_left : (b : Bool) (o : Option StartEntry) → o ≡ None → cond b None o ≡ None
 none_left true o is = refl
 none_left false o is = is
 
@@ -216,10 +216,6 @@ elsewhere-remove s m k p is all n =
     ap (λ l. get l (s.directory ++ n ∷ [])) is
     ∙ get-remove path_total m p (s.directory ++ n ∷ [])
     ∙ none_left (eq_by_cmp path_cmp (s.directory ++ n ∷ []) p) (get m (s.directory ++ n ∷ [])) (all n)
-
--- the directory stays
-pub elsewhere-same : (s t : Siblings) (m : Entries) → t.directory ≡ s.directory → AreElsewhere s m → AreElsewhere t m
-elsewhere-same s t m is all n = ap (λ d. get m (d ++ n ∷ [])) is ∙ all n
 
 module _ (s : Siblings) (first : Path) (begins : BeginsAt s.entries first) (all : AreIn s) where
   reversed : (o : Ordering) → is_gt o ≡ true → ordering_reverse o ≡ Less
@@ -271,7 +267,7 @@ module _ (s : Siblings) (first : Path) (begins : BeginsAt s.entries first) (all 
         each_after es fs (λ q some. is q (later (eq_by_cmp path_cmp q e.0) e.1 (find path_cmp q es) some)) high none,
       )
     where
-      later : (b : Bool) (v : StartFile) (o : Option StartFile) → IsSome o → IsSome (cond b (Some v) o)
+      later : (b : Bool) (v : StartEntry) (o : Option StartEntry) → IsSome o → IsSome (cond b (Some v) o)
       later true v o some = refl
       later false v o some = some
 
@@ -283,13 +279,13 @@ module _ (s : Siblings) (first : Path) (begins : BeginsAt s.entries first) (all 
 
 -- the parts of a map before the first of the siblings, and after them
 module _ {E : Type 0} (old new : Listed) (order : entries (from_entries {R = path_cmp} old) ≡ old)
-    (low : IsStrictlySortedBy path_cmp (keys_of new)) (r : Result (BTreeMap Path StartFile) E) where
+    (low : IsStrictlySortedBy path_cmp (keys_of new)) (r : Result (BTreeMap Path StartEntry) E) where
   pub split_parts : IfOk r (IsOrdered path_cmp) → IfOk r (λ n. old ≡ new ++ n.entries)
       → IfOk r (λ n. entries (from_entries {R = path_cmp} old) ≡ entries (from_entries {R = path_cmp} new)
       ++ entries (from_entries {R = path_cmp} n.entries))
   split_parts = by r
     where
-      by : (r : Result (BTreeMap Path StartFile) E) → IfOk r (IsOrdered path_cmp) → IfOk r (λ n. old ≡ new ++ n.entries)
+      by : (r : Result (BTreeMap Path StartEntry) E) → IfOk r (IsOrdered path_cmp) → IfOk r (λ n. old ≡ new ++ n.entries)
           → IfOk r (λ n. entries (from_entries {R = path_cmp} old) ≡ entries (from_entries {R = path_cmp} new)
           ++ entries (from_entries {R = path_cmp} n.entries))
       by (Ok n) high parts = order ∙ parts ∙ (λ i. sym (entries-keyed new low) i ++ sym (entries-keyed n.entries high) i)
@@ -307,7 +303,7 @@ module _ {E : Type 0} (old new : Listed) (order : entries (from_entries {R = pat
         → IfOk r (λ n. AreBefore (entries s.entries) (entries (from_entries {R = path_cmp} n.entries)))
     split_after none = by r
       where
-        by : (r : Result (BTreeMap Path StartFile) E) → IfOk r (IsOrdered path_cmp) → IfOk r (λ n. old ≡ new ++ n.entries)
+        by : (r : Result (BTreeMap Path StartEntry) E) → IfOk r (IsOrdered path_cmp) → IfOk r (λ n. old ≡ new ++ n.entries)
             → IfOk r (λ n. n.entries ≡ filter (λ e. is_le (path_cmp first e.0)) old)
             → IfOk r (λ n. AreBefore (entries s.entries) (entries (from_entries {R = path_cmp} n.entries)))
         by (Ok n) high parts is =

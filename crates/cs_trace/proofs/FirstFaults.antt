@@ -22,7 +22,7 @@ use Rattle.cs_trace.specs.Names.{are_user_names, entry_path_of, new_path_of, pat
 use Rattle.cs_trace.specs.Operations.{Paths}
 use Rattle.cs_trace.specs.States.{State, at_line, after_header, first_step, later_step, line_step, empty_state, start_file_at}
 use Rattle.cs_trace.specs.States.{start_file_by, start_link_step, start_step, state_from, state_in, step, after_operation}
-use Rattle.cs_trace.specs.declared.entry.StartFile.{StartFile}
+use Rattle.cs_trace.specs.declared.entry.StartEntry.{StartEntry}
 use Rattle.cs_trace.specs.declared.fault.TraceFault.{TraceFault}
 use Rattle.cs_trace.specs.declared.fault.TraceFaultKind.{TraceFaultKind}
 use Rattle.cs_trace.specs.declared.fault.TraceFaultKind.TheVariants.{Syntax, UnknownOp, BadName, Missing}
@@ -58,13 +58,14 @@ module _ {A : Type 0} where
   tells_file (Some Directory) f cs each = refl
   tells_file (Some (File file)) f cs each = each file
 
-  tells_file_by : (e : StartFile) (content : Option (List ℕ)) (f : StartFile → Result A TraceFaultKind) (cs : List Check)
-      → ((x : StartFile) → Tells cs (f x))
+  tells_file_by : (e : StartEntry) (content : Option (List ℕ)) (f : StartEntry → Result A TraceFaultKind) (cs : List Check)
+      → ((x : StartEntry) → Tells cs (f x))
       → Tells (file_checks (Some (node_by content e.number)) ++ cs) (and_then (start_file_by e content) f)
   tells_file_by e None f cs each = refl
   tells_file_by e (Some bytes) f cs each = each e
 
-  tells_start_file : (o : Option StartFile) (f : StartFile → Result A TraceFaultKind) (cs : List Check) → ((x : StartFile) → Tells cs (f x))
+  tells_start_file : (o : Option StartEntry) (f : StartEntry → Result A TraceFaultKind) (cs : List Check)
+      → ((x : StartEntry) → Tells cs (f x))
       → Tells (file_checks (option_map node_of o) ++ cs) (and_then (start_file_at o) f)
   tells_start_file None f cs each = refl
   tells_start_file (Some e) f cs each = tells_file_by e e.content f cs each

@@ -13,7 +13,7 @@ use Rattle.cs_tree_model.specs.Laws.Paths.{path_cases, path_exact, path_total, s
 use Rattle.cs_tree_model.specs.Tree.{NameBytes, Path, name_cmp, path_cmp}
 use Rattle.cs_trace.specs.Entries.{Entries}
 use Rattle.cs_trace.specs.Siblings.{AreIn, IsIn, entry_in, in_directory, siblings_of}
-use Rattle.cs_trace.specs.declared.entry.StartFile.{StartFile}
+use Rattle.cs_trace.specs.declared.entry.StartEntry.{StartEntry}
 
 -- a path is the root's, or has a last name
 split : (p : Path) → (p ≡ []) ⊎ ((d : Path) × ((n : NameBytes) × (p ≡ d ++ n ∷ [])))
@@ -47,9 +47,9 @@ same_test (y ∷ d) n x =
     ap (λ o. is_eq (ordering_then o (path_cmp (d ++ n ∷ []) (d ++ x ∷ [])))) (tied_itself total y) ∙ same_test d n x
 
 abbrev pub Named : Type 0
-Named = List (NameBytes × (Path × StartFile))
+Named = List (NameBytes × (Path × StartEntry))
 
-chosen : (b : Bool) (v : Path × StartFile) (o : Option (Path × StartFile)) → cond b (Some v.1) (entry_in o) ≡ entry_in (cond b (Some v) o)
+chosen : (b : Bool) (v : Path × StartEntry) (o : Option (Path × StartEntry)) → cond b (Some v.1) (entry_in o) ≡ entry_in (cond b (Some v) o)
 chosen true v o = refl
 chosen false v o = refl
 
@@ -79,7 +79,7 @@ pub get-at : (d p : Path) (n : NameBytes) (es : Named) → p ≡ d ++ n ∷ [] �
 get-at d p n es is = ap (get (whole d es)) is ∙ get-here d n es
 
 -- the value of one name changes
-change : (d : Path) (n : NameBytes) (w : Option StartFile) (es fs : Named)
+change : (d : Path) (n : NameBytes) (w : Option StartEntry) (es fs : Named)
     → ((x : NameBytes) → entry_in (find name_cmp x fs) ≡ cond (eq_by_cmp name_cmp x n) w (entry_in (find name_cmp x es)))
     → (q : Path) → get (whole d fs) q ≡ cond (eq_by_cmp path_cmp q (d ++ n ∷ [])) w (get (whole d es) q)
 change d n w es fs each q = ⊎_elim
@@ -96,7 +96,7 @@ change d n w es fs each q = ⊎_elim
     (path_cases q (d ++ n ∷ []))))
     (places d q)
 
-pub whole-insert : (d p : Path) (n : NameBytes) (e : StartFile) (es fs : Named) → p ≡ d ++ n ∷ []
+pub whole-insert : (d p : Path) (n : NameBytes) (e : StartEntry) (es fs : Named) → p ≡ d ++ n ∷ []
     → ((x : NameBytes) → find name_cmp x fs ≡ cond (eq_by_cmp name_cmp x n) (Some (p, e)) (find name_cmp x es))
     → whole d fs ≡ insert (whole d es) p e
 whole-insert d p n e es fs is each = same_map path_total path_exact _ _ (λ q.
@@ -105,7 +105,7 @@ whole-insert d p n e es fs is each = same_map path_total path_exact _ _ (λ q.
     ∙ ap (λ r. cond (eq_by_cmp path_cmp q r) (Some e) (get (whole d es) q)) (sym is)
     ∙ sym (get-insert path_total (whole d es) p e q))
 
-none_chosen : (b : Bool) (o : Option (Path × StartFile)) → entry_in (cond b None o) ≡ cond b None (entry_in o)
+none_chosen : (b : Bool) (o : Option (Path × StartEntry)) → entry_in (cond b None o) ≡ cond b None (entry_in o)
 none_chosen true o = refl
 none_chosen false o = refl
 

@@ -19,7 +19,7 @@ use Rattle.cs_tree_model.specs.Maps.Values.{map_values}
 use Rattle.cs_trace.specs.Below.{has_below, is_below}
 use Rattle.cs_trace.specs.Entries.{node_of}
 use Rattle.cs_trace.specs.Siblings.{AreWithPaths, in_directory}
-use Rattle.cs_trace.specs.declared.entry.StartFile.{StartFile}
+use Rattle.cs_trace.specs.declared.entry.StartEntry.{StartEntry}
 use Rattle.cs_trace.proofs.Beneath.{below-name}
 use Rattle.cs_trace.proofs.InDirectory.{Named, whole}
 use Rattle.cs_trace.proofs.Trees.{has_below-start}
@@ -61,7 +61,7 @@ name_less [] n x is = ap (λ o. ordering_then o Equal) is
 name_less (y ∷ c) n x is =
     ap (λ o. ordering_then o (path_cmp (c ++ n ∷ []) (c ++ x ∷ []))) (tied_itself total y) ∙ name_less c n x is
 
-any_name : (d q : Path) (e : NameBytes × (Path × StartFile)) (es : Named)
+any_name : (d q : Path) (e : NameBytes × (Path × StartEntry)) (es : Named)
     → list_any (λ e. is_below q e.0) (in_directory d (e ∷ es)) ≡ starts_with same_bytes d q
 any_name d q e [] = ap (λ b. b || false) (below-name q d e.0) ∙ or_false (starts_with same_bytes d q)
 any_name d q e (f ∷ es) = (λ i. below-name q d e.0 i || any_name d q f es i) ∙ or_same (starts_with same_bytes d q)
@@ -69,7 +69,8 @@ any_name d q e (f ∷ es) = (λ i. below-name q d e.0 i || any_name d q f es i) 
 -- ---- each entry has its path
 
 module _ {Y : Type 0} (d : Path) where
-  pub with_paths-insert : (k : String Y) (v : Path × StartFile) (es : List (String Y × (Path × StartFile))) → v.0 ≡ d ++ string_bytes k ∷ []
+  pub with_paths-insert : (k : String Y) (v : Path × StartEntry) (es : List (String Y × (Path × StartEntry)))
+      → v.0 ≡ d ++ string_bytes k ∷ []
       → AreWithPaths d (by_bytes es) → AreWithPaths d (by_bytes (insert_entry string_cmp es k v))
   with_paths-insert k v [] is all = (is, tt)
   with_paths-insert k v (e ∷ es) is all =
@@ -81,7 +82,7 @@ module _ {Y : Type 0} (d : Path) where
         | Greater ↦ λ o. (all.0, with_paths-insert k v es is all.1)
       ] refl
 
-  pub with_paths-remove : (test : String Y → Bool) (es : List (String Y × (Path × StartFile)))
+  pub with_paths-remove : (test : String Y → Bool) (es : List (String Y × (Path × StartEntry)))
       → AreWithPaths d (by_bytes es) → AreWithPaths d (by_bytes (remove_entry test es))
   with_paths-remove test [] all = tt
   with_paths-remove test (e ∷ es) all =
@@ -92,34 +93,34 @@ module _ {Y : Type 0} (d : Path) where
 
   -- ---- the entries in the order of paths
 
-  all_less : (k : String Y) (es : List (String Y × (Path × StartFile))) → AllByRecursion (λ l. string_cmp k l ≡ Less) (keys_of es)
+  all_less : (k : String Y) (es : List (String Y × (Path × StartEntry))) → AllByRecursion (λ l. string_cmp k l ≡ Less) (keys_of es)
       → AllByRecursion (λ l. path_cmp (d ++ string_bytes k ∷ []) l ≡ Less) (keys_of (in_directory d (by_bytes es)))
   all_less k [] all = tt
   all_less k (e ∷ es) all = (name_less d (string_bytes k) (string_bytes e.0) all.0, all_less k es all.1)
 
-  sorted_paths : (es : List (String Y × (Path × StartFile))) → IsStrictlySortedBy string_cmp (keys_of es)
+  sorted_paths : (es : List (String Y × (Path × StartEntry))) → IsStrictlySortedBy string_cmp (keys_of es)
       → IsStrictlySortedBy path_cmp (keys_of (in_directory d (by_bytes es)))
   unfolding IsStrictlySortedBy
   sorted_paths [] sorted = tt
   sorted_paths (e ∷ es) sorted = (all_less e.0 es sorted.0, sorted_paths es sorted.1)
 
-  kept_paths : (es : List (String Y × (Path × StartFile))) → AreWithPaths d (by_bytes es)
+  kept_paths : (es : List (String Y × (Path × StartEntry))) → AreWithPaths d (by_bytes es)
       → in_directory d (by_bytes es) ≡ map (λ e. e.1) es
   kept_paths [] all = refl
   kept_paths (e ∷ es) all = λ i. (sym all.0 i, e.1.1) ∷ kept_paths es all.1 i
 
-  pub entries-whole : (es : List (String Y × (Path × StartFile))) → AreWithPaths d (by_bytes es)
+  pub entries-whole : (es : List (String Y × (Path × StartEntry))) → AreWithPaths d (by_bytes es)
       → IsStrictlySortedBy string_cmp (keys_of es) → entries (whole d (by_bytes es)) ≡ map (λ e. e.1) es
   entries-whole es all sorted = entries-keyed (in_directory d (by_bytes es)) (sorted_paths es sorted) ∙ kept_paths es all
 
   -- ---- what is below a path
 
-  pub below-nothing : (q : Path) (es : List (String Y × (Path × StartFile))) → length es ≡ 0
+  pub below-nothing : (q : Path) (es : List (String Y × (Path × StartEntry))) → length es ≡ 0
       → false ≡ has_below (map_values node_of (whole d (by_bytes es))) q
-  below-nothing q [] none = sym (any-entries {X = StartFile} (is_below q) []) ∙ has_below-start q (whole d [])
+  below-nothing q [] none = sym (any-entries {X = StartEntry} (is_below q) []) ∙ has_below-start q (whole d [])
   below-nothing q (e ∷ es) none = absurd (omega arith)
 
-  pub below-whole : (q : Path) (es : List (String Y × (Path × StartFile))) → (length es ≡ 0 → ⊥)
+  pub below-whole : (q : Path) (es : List (String Y × (Path × StartEntry))) → (length es ≡ 0 → ⊥)
       → starts_with same_bytes d q ≡ has_below (map_values node_of (whole d (by_bytes es))) q
   below-whole q [] some = absurd (some refl)
   below-whole q (e ∷ es) some =

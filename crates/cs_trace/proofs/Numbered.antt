@@ -6,10 +6,10 @@ use Rattle.cs_tree_model.specs.Maps.Values.{map_entries}
 use Rattle.cs_tree_model.specs.Tree.{Path}
 use Rattle.cs_tree_model.specs.declared.record.Record.{Record}
 use Rattle.cs_trace.specs.Entries.{node_of, record_of, with_nodes, with_records}
-use Rattle.cs_trace.specs.declared.entry.StartFile.{StartFile}
+use Rattle.cs_trace.specs.declared.entry.StartEntry.{StartEntry}
 use Rattle.cs_trace.specs.declared.operation.Node.{Node}
 
-one_record : (rs : List (Path × Record)) (e : Path × StartFile) (es : List (Path × StartFile))
+one_record : (rs : List (Path × Record)) (e : Path × StartEntry) (es : List (Path × StartEntry))
     → with_records rs (e ∷ es) ≡ with_records (rs ++ (e.0, fresh_record (length rs) (record_of e.1)) ∷ []) es
 one_record rs e es =
     let one = (e.0, fresh_record (length rs) (record_of e.1)) ∷ [] in
@@ -17,17 +17,17 @@ one_record rs e es =
     sym (append_assoc rs one (with_numbers_from (length rs + 1) (map_entries record_of es)))
     ∙ ap (λ n. (rs ++ one) ++ with_numbers_from n (map_entries record_of es)) next
 
-pub records-append : (rs : List (Path × Record)) (es fs : List (Path × StartFile))
+pub records-append : (rs : List (Path × Record)) (es fs : List (Path × StartEntry))
     → with_records (with_records rs es) fs ≡ with_records rs (es ++ fs)
 records-append rs [] fs = ap (λ r. with_records r fs) (append-nil rs)
 records-append rs (e ∷ es) fs =
     let next = rs ++ (e.0, fresh_record (length rs) (record_of e.1)) ∷ [] in
     ap (λ r. with_records r fs) (one_record rs e es) ∙ records-append next es fs ∙ sym (one_record rs e (es ++ fs))
 
-nodes_append : (es fs : List (Path × StartFile))
+nodes_append : (es fs : List (Path × StartEntry))
     → map (λ e. node_of e.1) es ++ map (λ e. node_of e.1) fs ≡ map (λ e. node_of e.1) (es ++ fs)
 nodes_append [] fs = refl
 nodes_append (e ∷ es) fs = ap (λ ns. node_of e.1 ∷ ns) (nodes_append es fs)
 
-pub nodes-append : (ns : List Node) (es fs : List (Path × StartFile)) → with_nodes (with_nodes ns es) fs ≡ with_nodes ns (es ++ fs)
+pub nodes-append : (ns : List Node) (es fs : List (Path × StartEntry)) → with_nodes (with_nodes ns es) fs ≡ with_nodes ns (es ++ fs)
 nodes-append ns es fs = append_assoc ns (map (λ e. node_of e.1) es) (map (λ e. node_of e.1) fs) ∙ ap (λ m. ns ++ m) (nodes_append es fs)

@@ -13,7 +13,7 @@ use Rattle.cs_trace.specs.Operations.{Paths}
 use Rattle.cs_trace.specs.Entries.{Entries}
 use Rattle.cs_trace.specs.Kept.{AreShortAtStart}
 use Rattle.cs_trace.specs.States.{State, start_at, start_file_at, start_file_by, start_link_at}
-use Rattle.cs_trace.specs.declared.entry.StartFile.{StartFile}
+use Rattle.cs_trace.specs.declared.entry.StartEntry.{StartEntry}
 use Rattle.cs_trace.specs.declared.fault.TraceFaultKind.{TraceFaultKind}
 use Rattle.cs_trace.specs.declared.operation.Node.{Node}
 use Rattle.cs_trace.specs.declared.operation.Node.TheVariants.{Directory, File}
@@ -68,21 +68,21 @@ past_say text = past_limit _ _
 pub past_start_at : (s : State) (p : Path) (claims : Claims) (content : Option (List ℕ)) → IsPastNames (start_at s p claims content)
 past_start_at s p claims content = past_free (get s.paths (parent_path p)) (get s.paths p) _ (past_limit _ _)
 
-past_file_by : {A : Type 0} (e : StartFile) (content : Option (List ℕ)) (f : StartFile → Result A TraceFaultKind)
-    → ((x : StartFile) → IsPastNames (f x)) → IsPastNames (and_then (start_file_by e content) f)
+past_file_by : {A : Type 0} (e : StartEntry) (content : Option (List ℕ)) (f : StartEntry → Result A TraceFaultKind)
+    → ((x : StartEntry) → IsPastNames (f x)) → IsPastNames (and_then (start_file_by e content) f)
 past_file_by e None f past = tt
 past_file_by e (Some bytes) f past = past e
 
-past_file_at : {A : Type 0} (o : Option StartFile) (f : StartFile → Result A TraceFaultKind) → ((x : StartFile) → IsPastNames (f x))
+past_file_at : {A : Type 0} (o : Option StartEntry) (f : StartEntry → Result A TraceFaultKind) → ((x : StartEntry) → IsPastNames (f x))
     → IsPastNames (and_then (start_file_at o) f)
 past_file_at None f past = tt
 past_file_at (Some e) f past = past_file_by e e.content f past
 
-past_copy_by : (e : StartFile) (content : Option (List ℕ)) → IsPastNames (start_file_by e content)
+past_copy_by : (e : StartEntry) (content : Option (List ℕ)) → IsPastNames (start_file_by e content)
 past_copy_by e None = tt
 past_copy_by e (Some bytes) = tt
 
-pub past_copy : (o : Option StartFile) → IsPastNames (start_file_at o)
+pub past_copy : (o : Option StartEntry) → IsPastNames (start_file_at o)
 past_copy None = tt
 past_copy (Some e) = past_copy_by e e.content
 
@@ -140,7 +140,7 @@ module _ (m : Paths) where
     nothing_above p long = nothing_by (parent_path p) (get m (parent_path p)) refl (omega (arith, length-take (length p - 1) p))
 
 module _ (m : Entries) (short : AreShortAtStart m) where
-  no_start_by : (p : Path) (o : Option StartFile) → get m p ≡ o → TRACE_PATH_NAMES < length p → get m p ≡ None
+  no_start_by : (p : Path) (o : Option StartEntry) → get m p ≡ o → TRACE_PATH_NAMES < length p → get m p ≡ None
   no_start_by p None is long = is
   no_start_by p (Some e) is long = absurd (omega (arith, short p e is))
 

@@ -20,7 +20,7 @@ use Rattle.cs_trace.specs.Kept.{AreShortAtStart}
 use Rattle.cs_trace.specs.Operations.{AreLegal, IsDirectoryAt, Paths, made_by, paths_after_all, sizes_after_all}
 use Rattle.cs_trace.specs.States.{State, empty_state, with_entry, with_link}
 use Rattle.cs_trace.specs.Traces.{AreLinks}
-use Rattle.cs_trace.specs.declared.entry.StartFile.{StartFile}
+use Rattle.cs_trace.specs.declared.entry.StartEntry.{StartEntry}
 use Rattle.cs_trace.specs.declared.operation.Node.{Node}
 use Rattle.cs_trace.specs.declared.operation.Rights.{Rights}
 use Rattle.cs_trace.specs.declared.operation.Node.TheVariants.{Directory, File}
@@ -31,7 +31,7 @@ abbrev pub start_of : State → Paths
 start_of s = map_values node_of s.start
 
 -- the size of what an entry is
-abbrev pub entry_size : Option StartFile → ℕ
+abbrev pub entry_size : Option StartEntry → ℕ
 entry_size e = option_map_or (λ f. size_of f.content) e 0
 
 -- the sizes of the start's files
@@ -40,22 +40,22 @@ sizes_of s = map (λ p. entry_size (get s.start p)) s.files
 
 -- no file at the start has too many bytes
 abbrev pub AreSmall : Entries → Type 0
-AreSmall m = (p : Path) (e : StartFile) → get m p ≡ Some e → size_of e.content ≤ FILE_BYTES
+AreSmall m = (p : Path) (e : StartEntry) → get m p ≡ Some e → size_of e.content ≤ FILE_BYTES
 
 -- the file of an entry was made at a path that has this entry too
-pub record HasOwn (files : List Path) (m : Entries) (e : StartFile) : Type 0 where
+pub record HasOwn (files : List Path) (m : Entries) (e : StartEntry) : Type 0 where
   pub own : Path
   pub at : slice_get files e.number ≡ Some own
   pub entry : get m own ≡ Some e
 
 abbrev pub AreFound : List Path → Entries → Type 0
-AreFound files m = (p : Path) (e : StartFile) → get m p ≡ Some e → (bytes : List ℕ) → e.content ≡ Some bytes → HasOwn files m e
+AreFound files m = (p : Path) (e : StartEntry) → get m p ≡ Some e → (bytes : List ℕ) → e.content ≡ Some bytes → HasOwn files m e
 
 pub record IsSound (s : State) : Type 0 where
   pub fresh : s.made ≡ 0 → s ≡ empty_state
   pub rooted : s.made ≢ 0 → IsDirectoryAt (start_of s) []
   pub nested : (p : Path) (node : Node) → get (start_of s) p ≡ Some node → p ≢ [] → IsDirectoryAt (start_of s) (parent_path p)
-  pub octal : (p : Path) (e : StartFile) → get s.start p ≡ Some e → e.rights.permissions ≤ 511
+  pub octal : (p : Path) (e : StartEntry) → get s.start p ≡ Some e → e.rights.permissions ≤ 511
   pub numbered : (n : ℕ) (p : Path) → slice_get s.files n ≡ Some p → get (start_of s) p ≡ Some (File n)
   pub linked : AreLinks (start_of s) s.links
   pub found : AreFound s.files s.start
@@ -104,7 +104,7 @@ map_same f g (x ∷ xs) same = λ i. same 0 x refl i ∷ map_same f g xs (λ n y
 
 -- ---- one entry more at the start
 
-pub map_values-insert : (m : Entries) (p : Path) (e : StartFile)
+pub map_values-insert : (m : Entries) (p : Path) (e : StartEntry)
     → map_values node_of (insert m p e) ≡ insert (map_values node_of m) p (node_of e)
 map_values-insert m p e = same_map path_total path_exact _ _ (λ q. ⊎_elim
     (λ (one : (eq_by_cmp path_cmp q p ≡ true) × (q ≡ p)).
@@ -145,7 +145,7 @@ not_file n is = absurd (cc)
 pub file_number : (a b : ℕ) → File a ≡ File b → a ≡ b
 file_number a b is = cc
 
-module _ (s : State) (sound : IsSound s) (p : Path) (e : StartFile)
+module _ (s : State) (sound : IsSound s) (p : Path) (e : StartEntry)
     (none : s.operations ≡ []) (free : get (start_of s) p ≡ None) (above : p ≢ [] → IsDirectoryAt (start_of s) (parent_path p))
     (octal : e.rights.permissions ≤ 511) (short : length p ≤ TRACE_PATH_NAMES) (few : s.made + 1 ≤ TREE_RECORDS)
     (small : size_of e.content ≤ FILE_BYTES) where
@@ -164,20 +164,20 @@ module _ (s : State) (sound : IsSound s) (p : Path) (e : StartFile)
   pub stays : (q : Path) (node : Node) → get (start_of s) q ≡ Some node → get now q ≡ Some node
   stays q node there = get-insert_other path_total path_exact (start_of s) q p (node_of e) (other q node there) ∙ there
 
-  entry_stays : (q : Path) (f : StartFile) → get s.start q ≡ Some f → get (insert s.start p e) q ≡ Some f
+  entry_stays : (q : Path) (f : StartEntry) → get s.start q ≡ Some f → get (insert s.start p e) q ≡ Some f
   entry_stays q f there =
       get-insert_other path_total path_exact s.start q p e
       (other q (node_of f) (get-map_values path_cmp node_of s.start q ∙ ap (option_map node_of) there)) ∙ there
 
   -- what was there before finds its file, also after new ones
   still_found : (files : List Path) → ((n : ℕ) (q : Path) → slice_get s.files n ≡ Some q → slice_get files n ≡ Some q)
-      → (q : Path) (f : StartFile) → get s.start q ≡ Some f → (bytes : List ℕ) → f.content ≡ Some bytes
+      → (q : Path) (f : StartEntry) → get s.start q ≡ Some f → (bytes : List ℕ) → f.content ≡ Some bytes
       → HasOwn files (insert s.start p e) f
   still_found files more q f there bytes content =
       let old = sound.found q f there bytes content in
       record { own = old.own; at = more f.number old.own old.at; entry = entry_stays old.own f old.entry }
 
-  abbrev Finds : List Path → Path → StartFile → Type 0
+  abbrev Finds : List Path → Path → StartEntry → Type 0
   Finds files q f = (bytes : List ℕ) → f.content ≡ Some bytes → HasOwn files (insert s.start p e) f
 
   all_found : (files : List Path) → ((n : ℕ) (q : Path) → slice_get s.files n ≡ Some q → slice_get files n ≡ Some q) → Finds files p e
@@ -198,13 +198,13 @@ module _ (s : State) (sound : IsSound s) (p : Path) (e : StartFile)
       (λ named. stays (parent_path p) Directory (above named))
       (λ q node apart there named. stays (parent_path q) Directory (sound.nested q node there named))
 
-  all_octal : (q : Path) (f : StartFile) → get (insert s.start p e) q ≡ Some f → f.rights.permissions ≤ 511
+  all_octal : (q : Path) (f : StartEntry) → get (insert s.start p e) q ≡ Some f → f.rights.permissions ≤ 511
   all_octal = each_of s.start p e (λ q f. f.rights.permissions ≤ 511) octal (λ q f apart there. sound.octal q f there)
 
   all_small : AreSmall (insert s.start p e)
   all_small = each_of s.start p e (λ q f. size_of f.content ≤ FILE_BYTES) small (λ q f apart there. sound.small q f there)
 
-  no_entry : (o : Option StartFile) → option_map node_of o ≡ None → is_some o ≡ false
+  no_entry : (o : Option StartEntry) → option_map node_of o ≡ None → is_some o ≡ false
   no_entry None is = refl
   no_entry (Some f) is = absurd (cc)
 

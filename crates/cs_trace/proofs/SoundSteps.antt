@@ -23,7 +23,7 @@ use Rattle.cs_trace.specs.Operations.{IsDirectoryAt, IsLegal, made_by, paths_aft
 use Rattle.cs_trace.specs.States.{State, at_line, after_header, entry_for, first_step, later_step, line_step, empty_state, start_file_at}
 use Rattle.cs_trace.specs.States.{start_file_by, start_link_step, start_step, state_from, state_in, step, after_operation, with_link}
 use Rattle.cs_trace.specs.States.{with_start}
-use Rattle.cs_trace.specs.declared.entry.StartFile.{StartFile}
+use Rattle.cs_trace.specs.declared.entry.StartEntry.{StartEntry}
 use Rattle.cs_trace.specs.declared.fault.TraceFaultKind.{TraceFaultKind}
 use Rattle.cs_trace.specs.declared.fault.TraceFaultKind.TheVariants.{Syntax, UnknownOp, BadName}
 use Rattle.cs_trace.specs.declared.operation.Node.TheVariants.{Directory, File}
@@ -137,14 +137,14 @@ module _ (s : State) (sound : IsSound s) (made : s.made ≢ 0) where
       (ap (λ m. get m p) (sym same) ∙ parts.0) (ap (λ m. get m (parent_path p)) (sym same) ∙ parts.1) limits.0 limits.1 l.content
       (within _ both.1))))
 
-  start_file_by_is : (f e : StartFile) (content : Option (List ℕ)) → f.content ≡ content → start_file_by f content ≡ Ok e
+  start_file_by_is : (f e : StartEntry) (content : Option (List ℕ)) → f.content ≡ content → start_file_by f content ≡ Ok e
       → (Some f ≡ Some e)
       × (bytes : List ℕ) × (e.content ≡ Some bytes)
   start_file_by_is f e None has is = absurd (cc)
   start_file_by_is f e (Some bytes) has is = let same : f ≡ e = cc in
-      (ap Some same, bytes, ap (λ (g : StartFile). g.content) (sym same) ∙ has)
+      (ap Some same, bytes, ap (λ (g : StartEntry). g.content) (sym same) ∙ has)
 
-  start_file_is : (o : Option StartFile) (e : StartFile) → start_file_at o ≡ Ok e → (o ≡ Some e) × (bytes : List ℕ)
+  start_file_is : (o : Option StartEntry) (e : StartEntry) → start_file_at o ≡ Ok e → (o ≡ Some e) × (bytes : List ℕ)
       × (e.content ≡ Some bytes)
   start_file_is None e is = absurd (cc)
   start_file_is (Some f) e is = start_file_by_is f e f.content refl is
@@ -221,7 +221,7 @@ sound-nothing = record {
   known = λ p file there. absurd (not_both _ (File file) (get-empty path_cmp p) there);
   few = omega arith;
   counted = omega arith;
-  tallied = sym (ap (λ n. n + 0) (len-empty path_cmp StartFile));
+  tallied = sym (ap (λ n. n + 0) (len-empty path_cmp StartEntry));
   small = λ p e there. absurd (not_both _ e (get-empty path_cmp p) there);
   rights = none_octal;
 }

@@ -20,20 +20,20 @@ use Rattle.cs_tree_model.specs.declared.record.Record.{Record}
 use Rattle.cs_tree_model.specs.Maps.Orders.{both_first, both_second, less_of}
 use Rattle.cs_trace.specs.Entries.{Entries, node_by, node_of, record_of, size_of}
 use Rattle.cs_trace.specs.Traces.{IsNodeOf, IsUnchanged, StandsAs}
-use Rattle.cs_trace.specs.declared.entry.StartFile.{StartFile}
+use Rattle.cs_trace.specs.declared.entry.StartEntry.{StartEntry}
 use Rattle.cs_trace.specs.declared.operation.Node.{Node}
 
 -- ---- in the order of their paths
 
-abbrev pub numbered_from : ℕ → List (Path × StartFile) → List (Path × Record)
+abbrev pub numbered_from : ℕ → List (Path × StartEntry) → List (Path × Record)
 numbered_from k es = with_numbers_from k (map (λ e. (e.0, record_of e.1)) es)
 
-keys_below : (p : Path) (k : ℕ) (es : List (Path × StartFile)) → T (below_all path_cmp p es)
+keys_below : (p : Path) (k : ℕ) (es : List (Path × StartEntry)) → T (below_all path_cmp p es)
     → AllByRecursion (λ q. path_cmp p q ≡ Less) (map (λ e. e.0) (numbered_from k es))
 keys_below p k [] all = tt
 keys_below p k (e ∷ es) all = (less_of _ (both_first _ _ all), keys_below p (k + 1) es (both_second _ _ all))
 
-pub keys_ascend : (k : ℕ) (es : List (Path × StartFile)) → T (is_sorted path_cmp es)
+pub keys_ascend : (k : ℕ) (es : List (Path × StartEntry)) → T (is_sorted path_cmp es)
     → IsStrictlySortedBy path_cmp (map (λ e. e.0) (numbered_from k es))
 unfolding IsStrictlySortedBy
 keys_ascend k [] sorted = tt
@@ -41,25 +41,25 @@ keys_ascend k (e ∷ es) sorted = (keys_below e.0 (k + 1) es (both_first _ _ sor
 
 -- ---- by their places
 
-less_at : (p : Path) (es : List (Path × StartFile)) (n : ℕ) (e : Path × StartFile) → T (below_all path_cmp p es) → slice_get es n ≡ Some e
+less_at : (p : Path) (es : List (Path × StartEntry)) (n : ℕ) (e : Path × StartEntry) → T (below_all path_cmp p es) → slice_get es n ≡ Some e
     → path_cmp p e.0 ≡ Less
 less_at p [] n e all at = absurd (cc)
 less_at p (f ∷ es) zero e all at =
-    ap (λ (g : Path × StartFile). path_cmp p g.0) (sym (same_Some f e at)) ∙ less_of _ (both_first _ _ all)
+    ap (λ (g : Path × StartEntry). path_cmp p g.0) (sym (same_Some f e at)) ∙ less_of _ (both_first _ _ all)
 less_at p (f ∷ es) (suc n) e all at = less_at p es n e (both_second _ _ all) at
 
 equal_less : Equal ≢ Less
 equal_less is = false≢true (ap is_lt is)
 
 -- the entry at a place is found by its path
-found_at : (es : List (Path × StartFile)) → T (is_sorted path_cmp es) → (n : ℕ) (e : Path × StartFile) → slice_get es n ≡ Some e
+found_at : (es : List (Path × StartEntry)) → T (is_sorted path_cmp es) → (n : ℕ) (e : Path × StartEntry) → slice_get es n ≡ Some e
     → find path_cmp e.0 es ≡ Some e.1
 found_at [] sorted n e at = absurd (cc)
 found_at (f ∷ es) sorted zero e at =
     let same : f ≡ e = same_Some f e at in
-    ap (λ (g : Path × StartFile). find path_cmp g.0 (f ∷ es)) (sym same)
+    ap (λ (g : Path × StartEntry). find path_cmp g.0 (f ∷ es)) (sym same)
     ∙ ap (λ o. cond (is_tied o) (Some f.1) (find path_cmp f.0 es)) (tied_itself path_total f.0)
-    ∙ ap (λ (g : Path × StartFile). Some g.1) same
+    ∙ ap (λ (g : Path × StartEntry). Some g.1) same
   where
     is_tied : Ordering → Bool
     is_tied Less = false
@@ -74,19 +74,19 @@ found_at (f ∷ es) sorted (suc n) e at =
     ∙ found_at es (both_second _ _ sorted) n e at)
     (path_cases e.0 f.0)
 
-pub get_at : (m : Entries) (n : ℕ) (e : Path × StartFile) → slice_get (entries m) n ≡ Some e → get m e.0 ≡ Some e.1
+pub get_at : (m : Entries) (n : ℕ) (e : Path × StartEntry) → slice_get (entries m) n ≡ Some e → get m e.0 ≡ Some e.1
 get_at m n e at = get-entries m e.0 ∙ found_at (entries m) (entries_sorted m) n e at
 
 -- the record at a place is a fresh one of the entry there
-pub record Numbers (k n : ℕ) (es : List (Path × StartFile)) (r : Path × Record) : Type 0 where
-  pub entry : Path × StartFile
+pub record Numbers (k n : ℕ) (es : List (Path × StartEntry)) (r : Path × Record) : Type 0 where
+  pub entry : Path × StartEntry
   pub at : slice_get es n ≡ Some entry
   pub is : r ≡ (entry.0, fresh_record (k + n) (record_of entry.1))
 
 one_later : (k n : ℕ) → k + 1 + n ≡ k + suc n
 one_later k n = omega arith
 
-pub numbers : (k n : ℕ) (es : List (Path × StartFile)) (r : Path × Record) → slice_get (numbered_from k es) n ≡ Some r → Numbers k n es r
+pub numbers : (k n : ℕ) (es : List (Path × StartEntry)) (r : Path × Record) → slice_get (numbered_from k es) n ≡ Some r → Numbers k n es r
 numbers k n [] r at = absurd (cc)
 numbers k zero (e ∷ es) r at =
     let none : k ≡ k + 0 = omega arith in
@@ -102,7 +102,7 @@ numbers k (suc n) (e ∷ es) r at =
 
 -- ---- what they are
 
-unchanged_by : (n : ℕ) (e : StartFile) (r : Record) → e.rights.permissions ≤ 511 → r ≡ fresh_record n (record_of e) → IsUnchanged n r
+unchanged_by : (n : ℕ) (e : StartEntry) (r : Record) → e.rights.permissions ≤ 511 → r ≡ fresh_record n (record_of e) → IsUnchanged n r
 unchanged_by n e r low is =
     subst (IsUnchanged n) (sym is) (record { fresh = refl; permissions = e.rights.permissions; octal = low; mode = refl })
 
@@ -110,7 +110,7 @@ kind_by : (content : Option (List ℕ)) (number : ℕ) (r : Record) → r.conten
 kind_by None number r is = is
 kind_by (Some bytes) number r is = (bytes, is)
 
-module _ (m : Entries) (octal : (p : Path) (e : StartFile) → get m p ≡ Some e → e.rights.permissions ≤ 511) where
+module _ (m : Entries) (octal : (p : Path) (e : StartEntry) → get m p ≡ Some e → e.rights.permissions ≤ 511) where
   pub unchanged_at : (n : ℕ) (r : Path × Record) → slice_get (numbered_from 0 (entries m)) n ≡ Some r → IsUnchanged n r.1
   unchanged_at n r at =
       let there = numbers 0 n (entries m) r at in
@@ -118,15 +118,15 @@ module _ (m : Entries) (octal : (p : Path) (e : StartFile) → get m p ≡ Some 
       unchanged_by n there.entry.1 r.1 (octal there.entry.0 there.entry.1 (get_at m n there.entry there.at))
       (ap (λ (x : Path × Record). x.1) there.is ∙ ap (λ i. fresh_record i (record_of there.entry.1)) zero_more)
 
-module _ (es : List (Path × StartFile)) where
-  node_by_place : (n : ℕ) (node : Node) (e : Path × StartFile) → slice_get (map (λ f. node_of f.1) es) n ≡ Some node
+module _ (es : List (Path × StartEntry)) where
+  node_by_place : (n : ℕ) (node : Node) (e : Path × StartEntry) → slice_get (map (λ f. node_of f.1) es) n ≡ Some node
       → slice_get es n ≡ Some e
       → node ≡ node_of e.1
   node_by_place n node e at there =
-      let same : option_map (λ (f : Path × StartFile). node_of f.1) (slice_get es n) ≡ Some node =
+      let same : option_map (λ (f : Path × StartEntry). node_of f.1) (slice_get es n) ≡ Some node =
       sym (slice_get-map (λ f. node_of f.1) es n)
       ∙ at in
-      same_Some node (node_of e.1) (sym same ∙ ap (option_map (λ (f : Path × StartFile). node_of f.1)) there)
+      same_Some node (node_of e.1) (sym same ∙ ap (option_map (λ (f : Path × StartEntry). node_of f.1)) there)
 
   pub kind_at : (n : ℕ) (node : Node) (r : Path × Record) → slice_get (map (λ f. node_of f.1) es) n ≡ Some node
       → slice_get (numbered_from 0 es) n ≡ Some r → IsNodeOf node r.1
@@ -136,11 +136,11 @@ module _ (es : List (Path × StartFile)) where
       subst (λ w. IsNodeOf w r.1) (sym same) (kind_by there.entry.1.content there.entry.1.number r.1
       (ap (λ (x : Path × Record). x.1.content) there.is))
 
-pub stands_by : (n : ℕ) (o : Option StartFile) → StandsAs (option_map node_of o) (option_map (fresh_record n) (option_map record_of o))
+pub stands_by : (n : ℕ) (o : Option StartEntry) → StandsAs (option_map node_of o) (option_map (fresh_record n) (option_map record_of o))
 stands_by n None = tt
 stands_by n (Some e) = kind_by e.content e.number (fresh_record n (record_of e)) refl
 
-pub small_by : (o : Option StartFile) → ((e : StartFile) → o ≡ Some e → size_of e.content ≤ FILE_BYTES)
+pub small_by : (o : Option StartEntry) → ((e : StartEntry) → o ≡ Some e → size_of e.content ≤ FILE_BYTES)
     → option_map_or (λ e. size_of e.content) o 0 ≤ FILE_BYTES
 small_by None small = omega arith
 small_by (Some e) small = small e refl

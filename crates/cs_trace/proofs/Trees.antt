@@ -16,7 +16,7 @@ use Rattle.cs_trace.specs.Entries.{Entries, node_of}
 use Rattle.cs_trace.specs.Operations.{Paths}
 use Rattle.cs_trace.specs.Trees.{Tree, empty_tree, tree_of, with_start}
 use Rattle.cs_trace.specs.Unions.{union}
-use Rattle.cs_trace.specs.declared.entry.StartFile.{StartFile}
+use Rattle.cs_trace.specs.declared.entry.StartEntry.{StartEntry}
 use Rattle.cs_trace.specs.declared.operation.Node.{Node}
 use Rattle.cs_trace.specs.declared.operation.Node.TheVariants.{Directory}
 use Rattle.cs_trace.proofs.Sound.{map_values-insert}
@@ -40,7 +40,7 @@ map_values-empty = same_map path_total path_exact _ _ (λ q.
     get-map_values path_cmp node_of empty q ∙ ap (option_map node_of) (get-empty path_cmp q) ∙ sym (get-empty path_cmp q))
 
 module _ (d : Path) where
-  any_same : (es : List (Path × StartFile)) → list_any (λ e. is_below d e.0) (map_entries node_of es) ≡ list_any (λ e. is_below d e.0) es
+  any_same : (es : List (Path × StartEntry)) → list_any (λ e. is_below d e.0) (map_entries node_of es) ≡ list_any (λ e. is_below d e.0) es
   any_same [] = refl
   any_same (e ∷ es) = ap (λ b. is_below d e.0 || b) (any_same es)
 
@@ -52,7 +52,7 @@ pub is_some-map : {A B : Type 0} (f : A → B) (o : Option A) → is_some (optio
 is_some-map f None = refl
 is_some-map f (Some x) = refl
 
-none_maps : (b : Bool) (o : Option StartFile) → option_map node_of (cond b None o) ≡ cond b None (option_map node_of o)
+none_maps : (b : Bool) (o : Option StartEntry) → option_map node_of (cond b None o) ≡ cond b None (option_map node_of o)
 none_maps true o = refl
 none_maps false o = refl
 
@@ -95,7 +95,7 @@ pub below-nodes : (k g : Entries) (s : Paths) (d : Path)
 below-nodes k g s d = any-union (is_below d) s (map_values node_of k)
 
 -- an entry more at the start
-pub start-tree : (k t g : Entries) (s u : Paths) (p : Path) (e : StartFile) → t ≡ insert k p e → u ≡ remove s p
+pub start-tree : (k t g : Entries) (s u : Paths) (p : Path) (e : StartEntry) → t ≡ insert k p e → u ≡ remove s p
     → tree_of t g u ≡ with_start (tree_of k g s) p e
 start-tree k t g s u p e is gone = λ i. with_nodes
     ((ap (λ m. union m g) is ∙ union-insert k g p e) i)
@@ -119,7 +119,7 @@ remove-nodes k t g h s u p is gone =
 pub remove-nothing : (k t g : Entries) (p : Path) → t ≡ remove k p → get k p ≡ None → union t g ≡ union k g
 remove-nothing k t g p is none = ap (λ m. union m g) (is ∙ remove-absent k g p none)
 
-pub remove-entry : (k t g h : Entries) (p : Path) (e : StartFile) → t ≡ remove k p → get k p ≡ Some e → h ≡ insert g p e
+pub remove-entry : (k t g h : Entries) (p : Path) (e : StartEntry) → t ≡ remove k p → get k p ≡ Some e → h ≡ insert g p e
     → union t h ≡ union k g
 remove-entry k t g h p e is there added = (λ i. union (is i) (added i)) ∙ union-move k g p e there
 

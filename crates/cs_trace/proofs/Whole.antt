@@ -24,7 +24,7 @@ use Rattle.cs_trace.specs.Operations.{AreLegal, AreNested, IsDirectoryAt}
 use Rattle.cs_trace.specs.States.{State}
 use Rattle.cs_trace.specs.Traces.{AreAlikeAt, AreLinks, IsNodeOf, IsPathOf, IsTrace, IsUnchanged, StandsAs, record_in, records_made}
 use Rattle.cs_trace.specs.Traces.{size_at, paths_of_records, start_paths, start_sizes, trace_of_state}
-use Rattle.cs_trace.specs.declared.entry.StartFile.{StartFile}
+use Rattle.cs_trace.specs.declared.entry.StartEntry.{StartEntry}
 use Rattle.cs_trace.specs.declared.operation.Node.{Node}
 use Rattle.cs_trace.specs.declared.operation.Node.TheVariants.{Directory, File}
 use Rattle.cs_trace.proofs.Sound.{IsSound, entry_size, start_of, sizes_of}
@@ -43,7 +43,7 @@ has_bit n low =
     let below : n < 2 ^ 31 = omega arith in
     and_pow (DMDIR + n) 31 ∙ ap (λ b. b * 2 ^ 31) (bit_at_cat_high 1 31 n 31 below (lit≤ tt))
 
-marked_by : (e : StartFile) (content : Option (List ℕ)) → e.rights.permissions ≤ 511 → e.content ≡ content → IsMarked (record_of e)
+marked_by : (e : StartEntry) (content : Option (List ℕ)) → e.rights.permissions ≤ 511 → e.content ≡ content → IsMarked (record_of e)
 marked_by e None low is = rw (is, has_bit e.rights.permissions low) refl
 marked_by e (Some bytes) low is = rw (is, no_bit e.rights.permissions low) refl
 
@@ -59,18 +59,18 @@ file_by None number n is = absurd (cc)
 file_by (Some bytes) number n is = (bytes, refl, cc)
 
 module _ (m : Entries) where
-  entry_by : {X : Type 0} (f : StartFile → X) (p : Path) (x : X) (o : Option StartFile) → get m p ≡ o → option_map f o ≡ Some x
-      → (e : StartFile)
+  entry_by : {X : Type 0} (f : StartEntry → X) (p : Path) (x : X) (o : Option StartEntry) → get m p ≡ o → option_map f o ≡ Some x
+      → (e : StartEntry)
       × (get m p ≡ Some e) × (f e ≡ x)
   entry_by f p x None at is = absurd (cc)
   entry_by f p x (Some e) at is = (e, at, cc)
 
   -- the entry that a value of the map comes from
-  entry_at : {X : Type 0} (f : StartFile → X) (p : Path) (x : X) → get (map_values f m) p ≡ Some x → (e : StartFile) × (get m p ≡ Some e)
+  entry_at : {X : Type 0} (f : StartEntry → X) (p : Path) (x : X) → get (map_values f m) p ≡ Some x → (e : StartEntry) × (get m p ≡ Some e)
       × (f e ≡ x)
   entry_at f p x there = entry_by f p x (get m p) refl (sym (get-map_values path_cmp f m p) ∙ there)
 
-  value_at : {X : Type 0} (f : StartFile → X) (p : Path) (e : StartFile) → get m p ≡ Some e → get (map_values f m) p ≡ Some (f e)
+  value_at : {X : Type 0} (f : StartEntry → X) (p : Path) (e : StartEntry) → get m p ≡ Some e → get (map_values f m) p ≡ Some (f e)
   value_at f p e there = get-map_values path_cmp f m p ∙ ap (option_map f) there
 
   -- a directory's record
@@ -82,7 +82,7 @@ module _ (m : Entries) where
 
   -- ---- what is at each path, and the sizes
 
-  zipped : (k : ℕ) (es : List (Path × StartFile))
+  zipped : (k : ℕ) (es : List (Path × StartEntry))
       → zip (map (λ e. e.0) (with_numbers_from k (map_entries record_of es))) (map (λ e. node_of e.1) es) ≡ map_entries node_of es
   zipped k [] = refl
   zipped k (e ∷ es) = λ i. (e.0, node_of e.1) ∷ zipped (k + 1) es i
@@ -103,7 +103,7 @@ module _ (m : Entries) where
       ∙ sym (ap length same_listing ∙ length-numbered 0 (map_entries record_of (entries m)) ∙ length-map (entries m)
       (λ e. (e.0, record_of e.1)))
 
-  size_by : (n : ℕ) (o : Option StartFile)
+  size_by : (n : ℕ) (o : Option StartEntry)
       → option_map_or (λ r. size_of r.content) (option_map (fresh_record n) (option_map record_of o)) 0 ≡ entry_size o
   size_by n None = refl
   size_by n (Some e) = refl
@@ -170,12 +170,12 @@ module _ (s : State) (sound : IsSound s) (made : s.made ≢ 0) where
       (stands_by (place_in p (entries (map_values record_of s.start))) (get s.start p)))
 
   -- two paths with one entry have like records
-  alike_by : (k n : ℕ) (e : StartFile)
+  alike_by : (k n : ℕ) (e : StartEntry)
       → AreAlikeAt (option_map (fresh_record k) (option_map record_of (Some e)))
       (option_map (fresh_record n) (option_map record_of (Some e)))
   alike_by k n e = record { content = refl; owner = refl; group = refl; mode = refl }
 
-  record_of_entry : (p : Path) (e : StartFile) → get s.start p ≡ Some e
+  record_of_entry : (p : Path) (e : StartEntry) → get s.start p ≡ Some e
       → record_in (records_in s.start) p ≡ option_map (fresh_record (place_in p (entries (map_values record_of s.start))))
       (option_map record_of (Some e))
   record_of_entry p e there =

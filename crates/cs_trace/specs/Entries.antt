@@ -7,15 +7,15 @@ use Rattle.cs_tree_model.specs.Maps.Values.{map_entries, map_values}
 use Rattle.cs_tree_model.specs.Tree.{Path, path_cmp}
 use Rattle.cs_tree_model.specs.declared.mode.TheConstants.{DMDIR}
 use Rattle.cs_tree_model.specs.declared.record.Record.{Record}
-use Rattle.cs_trace.specs.declared.entry.StartFile.{StartFile}
+use Rattle.cs_trace.specs.declared.entry.StartEntry.{StartEntry}
 use Rattle.cs_trace.specs.declared.operation.Node.{Node}
 use Rattle.cs_trace.specs.declared.operation.Node.TheVariants.{Directory, File}
 
 -- in the order of paths
 abbrev pub Entries : Type 0
-Entries = FinMap path_cmp StartFile
+Entries = FinMap path_cmp StartEntry
 
-abbrev pub entry_code : Coded StartFile
+abbrev pub entry_code : Coded StartEntry
 entry_code = code_by
     (ℕ × (List ℕ × (List ℕ × (ℕ × Option (List ℕ)))))
     (coded× coded_ℕ
@@ -38,7 +38,7 @@ abbrev pub node_by : Option (List ℕ) → ℕ → Node
 node_by None number = Directory
 node_by (Some bytes) number = File number
 
-abbrev pub node_of : StartFile → Node
+abbrev pub node_of : StartEntry → Node
 node_of e = node_by e.content e.number
 
 -- the bytes of a file; a directory has none
@@ -52,7 +52,7 @@ file_mode None permissions = DMDIR + permissions
 file_mode (Some bytes) permissions = permissions
 
 -- the record of an entry, which nobody changed and which has no number yet
-abbrev pub record_of : StartFile → Record
+abbrev pub record_of : StartEntry → Record
 record_of e = record {
   number = 0;
   vers = 0;
@@ -74,9 +74,9 @@ abbrev pub nodes_in : Entries → List Node
 nodes_in m = map (λ e. node_of e.1) (entries m)
 
 -- these records, and the records of the entries, with the next numbers
-abbrev pub with_records : List (Path × Record) → List (Path × StartFile) → List (Path × Record)
+abbrev pub with_records : List (Path × Record) → List (Path × StartEntry) → List (Path × Record)
 with_records rs es = rs ++ with_numbers_from (length rs) (map_entries record_of es)
 
 -- these nodes, and those of the entries
-abbrev pub with_nodes : List Node → List (Path × StartFile) → List Node
+abbrev pub with_nodes : List Node → List (Path × StartEntry) → List Node
 with_nodes ns es = ns ++ map (λ e. node_of e.1) es

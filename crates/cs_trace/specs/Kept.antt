@@ -8,7 +8,7 @@ use Rattle.cs_trace.specs.Entries.{Entries}
 use Rattle.cs_trace.specs.Judging.{AreShort}
 use Rattle.cs_trace.specs.States.{State}
 use Rattle.cs_trace.specs.declared.attributes.Attributes.{Attributes as KeptAttributes}
-use Rattle.cs_trace.specs.declared.entry.StartFile.{StartFile}
+use Rattle.cs_trace.specs.declared.entry.StartEntry.{StartEntry}
 use Rattle.cs_trace.specs.declared.operation.Node.{Node}
 use Rattle.cs_trace.specs.declared.operation.Node.TheVariants.{Directory, File}
 use Rattle.cs_trace.specs.declared.operation.Operation.{Operation}
@@ -44,7 +44,7 @@ IsWithin _ = Unit {0}
 
 -- no path at the start has too many names
 abbrev pub AreShortAtStart : Entries → Type 0
-AreShortAtStart m = (p : Path) (e : StartFile) → get m p ≡ Some e → length p ≤ TRACE_PATH_NAMES
+AreShortAtStart m = (p : Path) (e : StartEntry) → get m p ≡ Some e → length p ≤ TRACE_PATH_NAMES
 
 -- no path, now or at the start, has too many names, there are not too many records, and each file
 -- is one of them

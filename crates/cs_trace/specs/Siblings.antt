@@ -7,7 +7,7 @@ use Rattle.std.specs.List.{AllByRecursion}
 use Rattle.cs_tree_model.specs.Tree.{NameBytes, Path, path_cmp}
 use Rattle.cs_trace.specs.Entries.{Entries, entries_code}
 use Rattle.cs_trace.specs.Unions.{union}
-use Rattle.cs_trace.specs.declared.entry.StartFile.{StartFile}
+use Rattle.cs_trace.specs.declared.entry.StartEntry.{StartEntry}
 
 -- the directory's path, and its entries at their whole paths
 pub record Siblings : Type 0 where
@@ -23,20 +23,20 @@ siblings_code = code_by
     (λ _. refl)
 
 -- the entries of names, at the paths of these names in the directory
-abbrev pub in_directory : Path → List (NameBytes × (Path × StartFile)) → List (Path × StartFile)
+abbrev pub in_directory : Path → List (NameBytes × (Path × StartEntry)) → List (Path × StartEntry)
 in_directory d [] = []
 in_directory d (e ∷ es) = (d ++ e.0 ∷ [], e.1.1) ∷ in_directory d es
 
-abbrev pub siblings_of : Path → List (NameBytes × (Path × StartFile)) → Siblings
+abbrev pub siblings_of : Path → List (NameBytes × (Path × StartEntry)) → Siblings
 siblings_of d es = record { directory = d; entries = from_entries (in_directory d es) }
 
 -- each name is kept with its path in the directory
-abbrev pub AreWithPaths : Path → List (NameBytes × (Path × StartFile)) → Type 0
+abbrev pub AreWithPaths : Path → List (NameBytes × (Path × StartEntry)) → Type 0
 AreWithPaths d [] = Unit {0}
 AreWithPaths d (e ∷ es) = (e.1.0 ≡ d ++ e.0 ∷ []) × AreWithPaths d es
 
 -- the entry that is kept with a path
-abbrev pub entry_in : Option (Path × StartFile) → Option StartFile
+abbrev pub entry_in : Option (Path × StartEntry) → Option StartEntry
 entry_in = option_map (λ e. e.1)
 
 -- the path is that of a name in the directory
@@ -52,7 +52,7 @@ abbrev pub AreElsewhere : Siblings → Entries → Type 0
 AreElsewhere s m = (n : NameBytes) → get m (s.directory ++ n ∷ []) ≡ None
 
 -- these entries too, one after another
-abbrev pub with_all : Entries → List (Path × StartFile) → Entries
+abbrev pub with_all : Entries → List (Path × StartEntry) → Entries
 with_all m [] = m
 with_all m (e ∷ es) = with_all (insert m e.0 e.1) es
 
@@ -68,8 +68,8 @@ AreApart (Some s) m = AreElsewhere s m
 
 -- the map begins with an entry at the path
 abbrev pub BeginsAt : Entries → Path → Type 0
-BeginsAt m p = (e : StartFile) × ((es : List (Path × StartFile)) × (entries m ≡ (p, e) ∷ es))
+BeginsAt m p = (e : StartEntry) × ((es : List (Path × StartEntry)) × (entries m ≡ (p, e) ∷ es))
 
 -- each path of the first list is before all of the second
-abbrev pub AreBefore : List (Path × StartFile) → List (Path × StartFile) → Type 0
+abbrev pub AreBefore : List (Path × StartEntry) → List (Path × StartEntry) → Type 0
 AreBefore es fs = AllByRecursion (λ e. T (below_all path_cmp e.0 fs)) es

@@ -15,7 +15,7 @@ use Rattle.cs_trace_lines.specs.Lines.{Claims, Header, Line, Operation, Start, S
 use Rattle.cs_trace_lines.specs.Lines.{UnknownOperation, UnknownStart, is_blank, line_in}
 use Rattle.cs_trace.specs.Names.{are_user_names, entry_path_of, new_path_of, rights_of}
 use Rattle.cs_trace.specs.Operations.{Paths, made_by, paths_after, sizes_after}
-use Rattle.cs_trace.specs.declared.entry.StartFile.{StartFile}
+use Rattle.cs_trace.specs.declared.entry.StartEntry.{StartEntry}
 use Rattle.cs_trace.specs.declared.fault.TraceFault.{TraceFault}
 use Rattle.cs_trace.specs.declared.fault.TraceFaultKind.{TraceFaultKind}
 use Rattle.cs_trace.specs.declared.fault.TraceFaultKind.TheVariants.{Syntax, UnknownOp, BadName}
@@ -55,7 +55,7 @@ empty_state = record {
 -- ---- one line more
 
 -- a directory, or a file with its bytes, at the start
-abbrev pub with_entry : State → Path → StartFile → Option (List ℕ) → State
+abbrev pub with_entry : State → Path → StartEntry → Option (List ℕ) → State
 with_entry s p e None = record s {
   start = insert s.start p e;
   paths = insert s.paths p (node_of e);
@@ -76,7 +76,7 @@ abbrev pub number_for : State → Option (List ℕ) → ℕ
 number_for s None = 0
 number_for s (Some bytes) = length s.sizes
 
-abbrev pub entry_for : State → Claims → Option (List ℕ) → StartFile
+abbrev pub entry_for : State → Claims → Option (List ℕ) → StartEntry
 entry_for s claims content =
     record { number = number_for s content; rights = rights_of claims; content = content }
 
@@ -84,7 +84,7 @@ abbrev pub with_start : State → Path → Claims → Option (List ℕ) → Stat
 with_start s p claims content = with_entry s p (entry_for s claims content) content
 
 -- one path more, p, for a file at the start: a record of its own, with what the file has
-abbrev pub with_link : State → Path → StartFile → State
+abbrev pub with_link : State → Path → StartEntry → State
 with_link s p e = record s {
   start = insert s.start p e;
   links = s.links ++ (p, e.number) ∷ [];
@@ -114,11 +114,11 @@ start_step s line =
     with_path (new_path_of line.path line.claims) (λ p. start_at s p line.claims line.content)
 
 -- the file at a path of the start
-abbrev pub start_file_by : StartFile → Option (List ℕ) → Result StartFile TraceFaultKind
+abbrev pub start_file_by : StartEntry → Option (List ℕ) → Result StartEntry TraceFaultKind
 start_file_by e None = Err NotFile
 start_file_by e (Some bytes) = Ok e
 
-abbrev pub start_file_at : Option StartFile → Result StartFile TraceFaultKind
+abbrev pub start_file_at : Option StartEntry → Result StartEntry TraceFaultKind
 start_file_at None = Err Missing
 start_file_at (Some e) = start_file_by e e.content
 

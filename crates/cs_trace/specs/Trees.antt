@@ -8,7 +8,7 @@ use Rattle.cs_trace.specs.Below.{paths_code}
 use Rattle.cs_trace.specs.Entries.{Entries, entries_code, node_of}
 use Rattle.cs_trace.specs.Operations.{Paths}
 use Rattle.cs_trace.specs.Unions.{union}
-use Rattle.cs_trace.specs.declared.entry.StartFile.{StartFile}
+use Rattle.cs_trace.specs.declared.entry.StartEntry.{StartEntry}
 
 pub record Tree : Type 0 where
   pub start : Entries
@@ -34,5 +34,5 @@ abbrev pub empty_tree : Tree
 empty_tree = record { start = empty; nodes = empty }
 
 -- one entry more at the start
-abbrev pub with_start : Tree → Path → StartFile → Tree
+abbrev pub with_start : Tree → Path → StartEntry → Tree
 with_start t p e = record { start = insert t.start p e; nodes = insert t.nodes p (node_of e) }

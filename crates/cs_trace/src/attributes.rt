@@ -1,6 +1,6 @@
 //! Rights (owner, group and permissions) of the files and directories while a trace is read. They
-//! are kept in the versions that have chmod and chown. An error is that memory ran out; then the
-//! whole trace is given up, so no clause says what is left.
+//! are kept in the versions that have chmod and chown. An error means out of memory; then the whole
+//! trace is given up, so no clause says what is left.
 ghost use Rattle.std.specs.Prelude.{◌≡◌, ◌∷◌, ◌++◌, [], IfOk, OnOk, option_map, slice_set};
 ghost use Rattle.std.specs.FinMap as map;
 ghost use Rattle.cs_trace.specs.Attributes.{attributes_after, no_attributes, rights_at};
@@ -25,6 +25,7 @@ pub(crate) struct Directories {
 pub(crate) struct Attributes {
     /// Each file's, by its number.
     pub(crate) files: Vec<Rights>,
+    /// Each directory's, by its path.
     pub(crate) directories: Directories,
 }
 
@@ -66,7 +67,8 @@ impl Directories {
     }
 }
 
-/// Sets the rights of the file of that number. If there is no such file, nothing changes.
+/// Sets the rights of the file of that number. If there is no such file, nothing changes;
+/// operations that were checked name only files that there are.
 fn set_file(files: &mut [Rights], file: u32, rights: Rights)
     ensures { files.new ≡ slice_set files.old file rights }
 {
@@ -95,7 +97,7 @@ impl Attributes {
         Ok(())
     }
 
-    /// As `Directories::insert`, in the table of directories.
+    /// Sets the rights of the directory at the path (`Directories::insert`).
     fn set_directory(&mut self, path: Path, rights: Rights) -> Result<(), AllocError>
         ensures { OnOk result
             (attributes_of self.new ≡ with_directory (attributes_of self.old) path rights) }
@@ -134,8 +136,8 @@ impl Attributes {
         }
     }
 
-    /// Applies an operation. A creat and a mkdir add rights, a chmod and a chown set them, and any
-    /// other operation leaves them as they are.
+    /// Applies an operation. A creat adds the rights of its file; a mkdir, a chmod and a chown set
+    /// rights; any other operation leaves them as they are.
     pub(crate) fn change(&mut self, alloc: Global, operation: &Operation) -> Result<(), AllocError>
         ensures { OnOk result (attributes_of self.new
             ≡ attributes_after (attributes_of self.old) operation.now) }

@@ -1,5 +1,6 @@
 //! The files and directories at the start, by their paths. What operations put at paths, without
-//! bytes and rights, is in `standing`.
+//! bytes and rights, is in `placed`. After an error, the trace is given up; entries may be missing
+//! then, or only some of them appended to the lists of the start.
 ghost use Rattle.std.specs.Prelude.{◌≡◌, ◌++◌, false, IfOk, OnErr, OnOk};
 ghost use Rattle.std.specs.FinMap as map;
 ghost use Rattle.std.specs.List.{list_any};
@@ -12,10 +13,10 @@ ghost use Rattle.cs_trace.specs.Siblings.{AreBefore, AreElsewhere, AreIn, with_a
 ghost use Rattle.cs_trace.specs.Siblings.{with_siblings};
 ghost use Rattle.cs_trace.specs.Unions.{union};
 
-use crate::entry::StartFile;
+use crate::entry::StartEntry;
 use crate::operation::Node;
-use crate::parts::Parts;
 use crate::siblings::Siblings;
+use crate::start_lists::StartLists;
 use cs_names::Path;
 use cs_tree_model::Record;
 use std::alloc::{AllocError, Global};
@@ -27,8 +28,10 @@ use std::ops::Bound;
 /// paths.
 #[derive(Drop)]
 pub(crate) struct Entries {
-    by_path: BTreeMap<Path, StartFile>,
-    /// The entries of one directory, if they are kept apart: none of the others is in it.
+    /// All entries, or all others if those of one directory are kept apart.
+    by_path: BTreeMap<Path, StartEntry>,
+    /// The entries of one directory, if they are kept apart. Then no entry in `by_path` is in that
+    /// directory, but some may be further down.
     siblings: Option<Siblings>,
 }
 
@@ -49,8 +52,9 @@ impl Model for Entries {
         AreApart entries.siblings (map.from_entries {R = path_cmp} entries.by_path.entries) };
 }
 
-/// Whether something is below the path: it would come right after it. It takes no memory.
-fn has_below(by_path: &BTreeMap<Path, StartFile>, path: &Path) -> bool
+/// Whether an entry of this map is below the path. In the order of paths, it would come right after
+/// the path, as in `Placed::has_below`. It takes no memory.
+fn has_below(by_path: &BTreeMap<Path, StartEntry>, path: &Path) -> bool
     ensures value { result ≡ list_any (λ e. is_below path.now e.0) by_path.now.entries }
     ensures order { map.entries (map.from_entries {R = path_cmp} by_path.now.entries)
         ≡ by_path.now.entries }
@@ -64,26 +68,27 @@ fn has_below(by_path: &BTreeMap<Path, StartFile>, path: &Path) -> bool
     }
 }
 
-/// Appends the entries, in the order of paths.
-fn append_all(by_path: BTreeMap<Path, StartFile>, parts: &mut Parts) -> Result<(), AllocError>
-    ensures records { OnOk result (parts.new.records.items ≡ with_records parts.old.records.items
+/// Appends the entries of one map to the lists, in the order of paths.
+fn append_map(by_path: BTreeMap<Path, StartEntry>, lists: &mut StartLists) -> Result<(), AllocError>
+    ensures records { OnOk result (lists.new.records.items ≡ with_records lists.old.records.items
         (map.entries (map.from_entries {R = path_cmp} by_path.entries))) }
-    ensures nodes { OnOk result (parts.new.nodes.items ≡ with_nodes parts.old.nodes.items
+    ensures nodes { OnOk result (lists.new.nodes.items ≡ with_nodes lists.old.nodes.items
         (map.entries (map.from_entries {R = path_cmp} by_path.entries))) }
 {
     for (path, entry) in by_path {
-        parts.append(path, entry)?;
+        lists.append(path, entry)?;
     }
     Ok(())
 }
 
-/// Puts the entry at the path, and returns whether another was there before.
-fn insert_other(
-    by_path: &mut BTreeMap<Path, StartFile>,
+/// Puts the entry at the path in this map, and returns whether it replaced another. An error
+/// changes nothing.
+fn insert_in_map(
+    by_path: &mut BTreeMap<Path, StartEntry>,
     path: Path,
-    entry: StartFile,
+    entry: StartEntry,
 ) -> Result<bool, AllocError>
-    ensures stood { IfOk result (λ stood. stood
+    ensures replaced { IfOk result (λ replaced. replaced
         ≡ is_some (map.get (map.from_entries {R = path_cmp} by_path.old.entries) path)) }
     ensures state { OnOk result (map.from_entries by_path.new.entries
         ≡ map.insert (map.from_entries {R = path_cmp} by_path.old.entries) path entry) }
@@ -93,24 +98,25 @@ fn insert_other(
     Ok(before.is_some())
 }
 
-/// Puts each entry at its path.
+/// Puts each entry of the list at its path in this map, over any entry that is there.
 fn insert_all(
-    by_path: &mut BTreeMap<Path, StartFile>,
-    list: Vec<(Path, StartFile)>,
+    by_path: &mut BTreeMap<Path, StartEntry>,
+    list: Vec<(Path, StartEntry)>,
 ) -> Result<(), AllocError>
     ensures { OnOk result (map.from_entries by_path.new.entries
         ≡ with_all (map.from_entries by_path.old.entries) list.items) }
 {
     for (path, entry) in list {
-        insert_other(by_path, path, entry)?;
+        insert_in_map(by_path, path, entry)?;
     }
     Ok(())
 }
 
-/// Puts the siblings, if there are any, among the others.
-fn pour(
+/// Puts the entries that were kept apart back into the map of the others. If none were (None),
+/// nothing changes.
+fn put_back(
     alloc: Global,
-    by_path: &mut BTreeMap<Path, StartFile>,
+    by_path: &mut BTreeMap<Path, StartEntry>,
     siblings: Option<Siblings>,
 ) -> Result<(), AllocError>
     ensures { OnOk result (map.from_entries by_path.new.entries
@@ -127,13 +133,14 @@ fn pour(
     }
 }
 
-/// Takes out what comes after the siblings, if nothing else is below their directory: then they
-/// come one after another.
+/// Splits the others at the siblings: those before the siblings stay, and those after them are
+/// returned. The others must have no entry below the directory of the siblings, since such an entry
+/// could come between two siblings. If the directory has no entries, all of the others stay.
 fn split_off_after(
     alloc: Global,
-    others: &mut BTreeMap<Path, StartFile>,
+    others: &mut BTreeMap<Path, StartEntry>,
     siblings: &Siblings,
-) -> Result<BTreeMap<Path, StartFile>, AllocError>
+) -> Result<BTreeMap<Path, StartEntry>, AllocError>
     requires all { AreIn siblings.now }
     requires below { list_any (λ e. is_below siblings.now.directory e.0) others.old.entries
         ≡ false }
@@ -156,56 +163,59 @@ fn split_off_after(
     }
 }
 
-/// Appends the entries, in the order of paths, if nothing else is below the directory of the
-/// siblings.
-fn append_around(
+/// Appends both maps to the lists, in the order of paths: the others before the siblings, the
+/// siblings, and the others after them. As for `split_off_after`, the others must have no entry
+/// below the directory of the siblings.
+fn append_split(
     alloc: Global,
-    others: BTreeMap<Path, StartFile>,
+    others: BTreeMap<Path, StartEntry>,
     siblings: Siblings,
-    parts: &mut Parts,
+    lists: &mut StartLists,
 ) -> Result<(), AllocError>
     requires all { AreIn siblings }
     requires apart { AreElsewhere siblings (map.from_entries others.entries) }
     requires below { list_any (λ e. is_below siblings.directory e.0) others.entries ≡ false }
     requires order { map.entries (map.from_entries {R = path_cmp} others.entries)
         ≡ others.entries }
-    ensures records { OnOk result (parts.new.records.items ≡ with_records parts.old.records.items
+    ensures records { OnOk result (lists.new.records.items ≡ with_records lists.old.records.items
         (map.entries (union siblings.entries (map.from_entries others.entries)))) }
-    ensures nodes { OnOk result (parts.new.nodes.items ≡ with_nodes parts.old.nodes.items
+    ensures nodes { OnOk result (lists.new.nodes.items ≡ with_nodes lists.old.nodes.items
         (map.entries (union siblings.entries (map.from_entries others.entries)))) }
 {
     let mut before = others;
     let after = split_off_after(alloc, &mut before, &siblings)?;
-    append_all(before, parts)?;
-    siblings.append_to(parts)?;
-    append_all(after, parts)?;
+    append_map(before, lists)?;
+    siblings.append_to(lists)?;
+    append_map(after, lists)?;
     Ok(())
 }
 
-/// Appends the entries, in the order of paths.
-fn append_with(
+/// Appends both maps to the lists, in the order of paths. If some of the others are below the
+/// directory of the siblings, they may come between siblings, so the two maps are put together
+/// first; otherwise it is faster to append them one after another (`append_split`).
+fn append_both(
     alloc: Global,
-    others: BTreeMap<Path, StartFile>,
+    others: BTreeMap<Path, StartEntry>,
     siblings: Siblings,
-    parts: &mut Parts,
+    lists: &mut StartLists,
 ) -> Result<(), AllocError>
     requires apart { AreElsewhere siblings (map.from_entries others.entries) }
-    ensures records { OnOk result (parts.new.records.items ≡ with_records parts.old.records.items
+    ensures records { OnOk result (lists.new.records.items ≡ with_records lists.old.records.items
         (map.entries (union siblings.entries (map.from_entries others.entries)))) }
-    ensures nodes { OnOk result (parts.new.nodes.items ≡ with_nodes parts.old.nodes.items
+    ensures nodes { OnOk result (lists.new.nodes.items ≡ with_nodes lists.old.nodes.items
         (map.entries (union siblings.entries (map.from_entries others.entries)))) }
 {
     if !has_below(&others, siblings.directory()) {
-        return append_around(alloc, others, siblings, parts);
+        return append_split(alloc, others, siblings, lists);
     }
     let mut by_path = others;
-    pour(alloc, &mut by_path, Some(siblings))?;
-    append_all(by_path, parts)?;
+    put_back(alloc, &mut by_path, Some(siblings))?;
+    append_map(by_path, lists)?;
     Ok(())
 }
 
 impl Entries {
-    /// A start without files and directories, not even the root.
+    /// An empty map: even the root has no entry, and no directory is kept apart.
     pub(crate) fn new(alloc: Global) -> Entries
         ensures { result ≡ map.empty }
     {
@@ -215,16 +225,20 @@ impl Entries {
         }
     }
 
-    /// The entry at the path; None if nothing is there. It takes no memory.
-    pub(crate) fn entry(&self, path: &Path) -> Option<&StartFile>
+    /// The entry at the path; None if nothing is there. It takes no memory. The entry of a path in
+    /// the directory that is kept apart is only in `siblings`; `insert` and `remove` choose as here.
+    pub(crate) fn entry(&self, path: &Path) -> Option<&StartEntry>
         ensures { option_map (λ entry. entry.now) result ≡ map.get self.now path.now }
     {
         match &self.siblings {
             None => self.by_path.get(path),
-            Some(siblings) => match siblings.entry(path) {
-                Some(entry) => Some(entry),
-                None => self.by_path.get(path),
-            },
+            Some(siblings) => {
+                if siblings.is_in_directory(path) {
+                    siblings.entry(path)
+                } else {
+                    self.by_path.get(path)
+                }
+            }
         }
     }
 
@@ -239,7 +253,7 @@ impl Entries {
         }
     }
 
-    /// Whether something is below the path. It takes no memory.
+    /// Whether something is below the path, kept apart or not. It takes no memory.
     pub(crate) fn has_below(&self, path: &Path) -> bool
         ensures { result ≡ has_below (map_values node_of self.now) path.now }
     {
@@ -249,13 +263,14 @@ impl Entries {
         }
     }
 
-    /// Keeps the entries of the directory apart from now on, and no others, if nothing is below it
-    /// yet. This makes it faster to put many into one directory.
-    pub(crate) fn gather(&mut self, alloc: Global, directory: &Path) -> Result<(), AllocError>
+    /// Puts the entries that were kept apart back among the others. Then, if nothing is below the
+    /// directory yet, its entries are kept apart from now on, which makes it faster to insert many;
+    /// otherwise none are kept apart. An error may lose those that were kept apart.
+    pub(crate) fn keep_apart(&mut self, alloc: Global, directory: &Path) -> Result<(), AllocError>
         ensures { OnOk result (self.new ≡ self.old) }
     {
         let siblings = self.siblings.take();
-        pour(alloc, &mut self.by_path, siblings)?;
+        put_back(alloc, &mut self.by_path, siblings)?;
         if has_below(&self.by_path, directory) {
             return Ok(());
         }
@@ -263,51 +278,54 @@ impl Entries {
         Ok(())
     }
 
-    /// Puts the entry at the path, and returns whether it replaced another. After an error, the
-    /// trace is given up.
+    /// Puts the entry at the path, in the map that `entry` looks in. Returns whether it replaced
+    /// another.
     pub(crate) fn insert(
         &mut self,
         alloc: Global,
         path: Path,
-        entry: StartFile,
+        entry: StartEntry,
     ) -> Result<bool, AllocError>
-        ensures stood { IfOk result (λ stood. stood ≡ is_some (map.get self.old path)) }
+        ensures replaced { IfOk result (λ replaced. replaced ≡ is_some (map.get self.old path)) }
         ensures state { OnOk result (self.new ≡ map.insert self.old path entry) }
     {
         match &mut self.siblings {
-            None => insert_other(&mut self.by_path, path, entry),
+            None => insert_in_map(&mut self.by_path, path, entry),
             Some(siblings) => {
-                if siblings.is_at(&path) {
+                if siblings.is_in_directory(&path) {
                     siblings.insert(alloc, path, entry)
                 } else {
-                    insert_other(&mut self.by_path, path, entry)
+                    insert_in_map(&mut self.by_path, path, entry)
                 }
             }
         }
     }
 
-    /// Removes the entry at the path, if there is one, and returns it.
-    pub(crate) fn remove(&mut self, path: &Path) -> Option<StartFile>
+    /// Removes the entry at the path from the map that `entry` looks in, and returns it; None if
+    /// nothing is there.
+    pub(crate) fn remove(&mut self, path: &Path) -> Option<StartEntry>
         ensures entry { result ≡ map.get self.old path.now }
         ensures state { self.new ≡ map.remove self.old path.now }
     {
         match &mut self.siblings {
             None => self.by_path.remove(path),
             Some(siblings) => {
-                let sibling = siblings.remove(path);
-                let other = self.by_path.remove(path);
-                sibling.or(other)
+                if siblings.is_in_directory(path) {
+                    siblings.remove(path)
+                } else {
+                    self.by_path.remove(path)
+                }
             }
         }
     }
 
-    /// These entries, and the others at paths that have none here.
-    pub(crate) fn with_others(self, alloc: Global, others: Entries) -> Result<Entries, AllocError>
-        ensures { IfOk result (λ entries. entries ≡ union self others) }
+    /// These entries, and those of `second` at the paths that have none here.
+    pub(crate) fn union_with(self, alloc: Global, second: Entries) -> Result<Entries, AllocError>
+        ensures { IfOk result (λ entries. entries ≡ union self second) }
     {
-        let Entries { by_path, siblings } = others;
+        let Entries { by_path, siblings } = second;
         let mut added = by_path;
-        pour(alloc, &mut added, siblings)?;
+        put_back(alloc, &mut added, siblings)?;
         let mut entries = self;
         for (path, entry) in added {
             if entries.entry(&path).is_none() {
@@ -317,7 +335,8 @@ impl Entries {
         Ok(entries)
     }
 
-    /// How many entries there are.
+    /// How many entries there are. No clause says so, since the number only sizes vectors. The sum
+    /// can't overflow, since all entries are in memory; `saturating_add` spares the proof.
     fn count(&self) -> usize {
         match &self.siblings {
             None => self.by_path.len(),
@@ -325,31 +344,32 @@ impl Entries {
         }
     }
 
-    /// Appends the entries, in the order of paths.
-    fn append_to(self, alloc: Global, parts: &mut Parts) -> Result<(), AllocError>
-        ensures records { OnOk result (parts.new.records.items
-            ≡ with_records parts.old.records.items (map.entries self)) }
-        ensures nodes { OnOk result (parts.new.nodes.items
-            ≡ with_nodes parts.old.nodes.items (map.entries self)) }
+    /// Appends all entries to the lists, in the order of paths, whether or not some of them are
+    /// kept apart.
+    fn append_to(self, alloc: Global, lists: &mut StartLists) -> Result<(), AllocError>
+        ensures records { OnOk result (lists.new.records.items
+            ≡ with_records lists.old.records.items (map.entries self)) }
+        ensures nodes { OnOk result (lists.new.nodes.items
+            ≡ with_nodes lists.old.nodes.items (map.entries self)) }
     {
         let Entries { by_path, siblings } = self;
         match siblings {
-            None => append_all(by_path, parts),
-            Some(siblings) => append_with(alloc, by_path, siblings, parts),
+            None => append_map(by_path, lists),
+            Some(siblings) => append_both(alloc, by_path, siblings, lists),
         }
     }
 
     /// A record of each entry, in the order of their paths and numbered from 0; and, in the same
     /// order, the node of each: a directory, or a file by its number.
-    pub(crate) fn into_parts(
+    pub(crate) fn into_lists(
         self,
         alloc: Global,
     ) -> Result<(Vec<(Path, Record)>, Vec<Node>), AllocError>
-        ensures records { IfOk result (λ parts. parts.0.items ≡ records_in self) }
-        ensures nodes { IfOk result (λ parts. parts.1.items ≡ nodes_in self) }
+        ensures records { IfOk result (λ lists. lists.0.items ≡ records_in self) }
+        ensures nodes { IfOk result (λ lists. lists.1.items ≡ nodes_in self) }
     {
-        let mut parts = Parts::with_capacity(alloc, self.count())?;
-        self.append_to(alloc, &mut parts)?;
-        Ok((parts.records, parts.nodes))
+        let mut lists = StartLists::with_capacity(alloc, self.count())?;
+        self.append_to(alloc, &mut lists)?;
+        Ok((lists.records, lists.nodes))
     }
 }

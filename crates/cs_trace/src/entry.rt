@@ -9,7 +9,7 @@ use std::alloc::{AllocError, Global};
 
 /// A file or a directory at the start, without its path.
 #[derive(Debug, Drop)]
-pub(crate) struct StartFile {
+pub(crate) struct StartEntry {
     /// The number of a file; 0 for a directory, which has none.
     pub(crate) number: u32,
     pub(crate) rights: Rights,
@@ -26,7 +26,7 @@ fn file_mode(content: &Content, permissions: u16) -> u32
     }
 }
 
-impl StartFile {
+impl StartEntry {
     /// The entry without its rights and its bytes: a directory, or a file by its number.
     pub(crate) fn node(&self) -> Node
         ensures { result ≡ node_of self.now }
@@ -38,10 +38,10 @@ impl StartFile {
     }
 
     /// A copy of the entry, for another path of its file.
-    pub(crate) fn try_clone(&self, alloc: Global) -> Result<StartFile, AllocError>
+    pub(crate) fn try_clone(&self, alloc: Global) -> Result<StartEntry, AllocError>
         ensures { IfOk result (λ copy. copy ≡ self.now) }
     {
-        Ok(StartFile {
+        Ok(StartEntry {
             number: self.number,
             rights: self.rights.try_clone()?,
             content: self.content.try_clone(alloc)?,

@@ -7,7 +7,7 @@ use std::alloc::AllocError;
 use std::fmt;
 
 /// What is wrong with a line of a trace. A line that has several faults has the first of them, in
-/// this order.
+/// this order; but a link and a rename look up the path `from` first, and the new path after it.
 #[derive(Clone, Copy, Debug, PartialEq, Eq)]
 pub enum TraceFaultKind {
     /// No line has this form, or none may have it at this place.
@@ -16,20 +16,20 @@ pub enum TraceFaultKind {
     UnknownOp,
     /// A path, or the name of an owner or a group, is not legal.
     BadName,
-    /// There is nothing at the path of the directory.
+    /// Nothing is at the path of a new entry's directory.
     NoParent,
-    /// A file is at the path of the directory, or of a directory that is to be removed.
+    /// A file is at the path of a new entry's directory, or of a directory that is to be removed.
     NotDir,
-    /// Something is at the path.
+    /// Something is at the path of a new entry.
     Exists,
-    /// Nothing is at the path.
+    /// Nothing is at another path that the line needs.
     Missing,
-    /// A directory is at the path.
+    /// A directory is at a path that must be a file's.
     NotFile,
-    /// Something is in the directory.
+    /// Something is in a directory that is to be removed.
     NotEmpty,
-    /// A path of too many names, too many files, a file of too many bytes, or a text that is too
-    /// long.
+    /// A path of too many names, too many records, a file of too many bytes, or a say of a text
+    /// that is too long.
     TooLarge,
     /// Out of memory.
     Memory,

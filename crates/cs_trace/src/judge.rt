@@ -11,7 +11,8 @@ use crate::tree::Tree;
 use cs_names::Path;
 use cs_names::limits::{FILE_BYTES, TRACE_PATH_NAMES, TREE_RECORDS};
 
-/// The number of the file at the path. Nothing there is Missing, and a directory is NotFile.
+/// The number of the file at the path now. Nothing there is Missing, and a directory is NotFile, as
+/// in `start_file`.
 pub(crate) fn file_at(tree: &Tree, path: &Path) -> Result<u32, TraceFaultKind>
     ensures { result ≡ file_at tree.now.nodes path.now }
 {
@@ -23,7 +24,8 @@ pub(crate) fn file_at(tree: &Tree, path: &Path) -> Result<u32, TraceFaultKind>
 }
 
 /// Checks that a new entry may be made at the path, whose parent path is `above`. Nothing at the
-/// parent path is NoParent, a file there is NotDir, and anything at the path itself is Exists.
+/// parent path is NoParent, a file there is NotDir (as in `find_above`), and anything at the path
+/// itself is Exists.
 pub(crate) fn check_free(tree: &Tree, above: &Path, path: &Path) -> Result<(), TraceFaultKind>
     requires { above.now ≡ parent_path path.now }
     ensures { result ≡ free_at tree.now.nodes path.now }
@@ -64,7 +66,8 @@ pub(crate) fn check_emptied(tree: &Tree, path: &Path) -> Result<(), TraceFaultKi
     }
 }
 
-/// Whether the node, of what is at some path, is the file of that number.
+/// Whether a path with this node is one of the file of that number. False for a directory, and for
+/// None, which means that nothing is at the path.
 pub(crate) fn is_path_of(file: u32, node: Option<Node>) -> bool
     ensures { result ≡ is_path_of file node }
 {
@@ -74,18 +77,19 @@ pub(crate) fn is_path_of(file: u32, node: Option<Node>) -> bool
     }
 }
 
-/// Whether a path of this many names is over the limit of a trace's paths.
-pub(crate) fn are_too_many(names: usize) -> bool
+/// Whether a path of this many names is over the limit of a trace's paths (TRACE_PATH_NAMES).
+pub(crate) fn are_too_many_names(names: usize) -> bool
     ensures { result ≡ nat_lt TRACE_PATH_NAMES names }
 {
     names > TRACE_PATH_NAMES
 }
 
-/// Whether a limit forbids one more record, at a path of this many names, after `made` records.
-pub(crate) fn is_too_much(made: usize, names: usize) -> bool
+/// Whether one more record, after `made` records, would be over TREE_RECORDS, or its path, of this
+/// many names, is over TRACE_PATH_NAMES.
+pub(crate) fn is_over_limits(made: usize, names: usize) -> bool
     ensures { result ≡ (nat_lt TRACE_PATH_NAMES names || nat_le TREE_RECORDS made) }
 {
-    are_too_many(names) || made >= TREE_RECORDS
+    are_too_many_names(names) || made >= TREE_RECORDS
 }
 
 /// Whether a write of these bytes at the offset ends above FILE_BYTES, the greatest size of a file.
@@ -97,7 +101,8 @@ pub(crate) fn ends_above(offset: u64, bytes: &[u8]) -> bool
     count > 0 && (offset > FILE_BYTES || count > FILE_BYTES - offset)
 }
 
-/// The size in bytes of the file of that number; 0 if there is no such file.
+/// The size in bytes of the file of that number. If there is no such file, 0; callers pass files of
+/// the tree, all of which have sizes.
 pub(crate) fn size_in(sizes: &[u64], file: u32) -> u64
     ensures { result ≡ size_in sizes.now file }
 {

@@ -13,14 +13,15 @@ ghost use Rattle.cs_trace.specs.declared.fault.TraceFaultKind.TheVariants.{Memor
 
 use crate::fault::{TraceFault, TraceFaultKind};
 use crate::resolve::resolve;
-use crate::start::{take_header, take_link, take_start};
+use crate::start::{apply_header, apply_link, apply_start};
 use crate::state::LinesSoFar;
 use cs_trace_lines::{Line, LineFault, OperationLine, Version, is_blank, read_line};
 use std::alloc::Global;
 
-/// The line that a text spells by itself, in a trace of this version. If it spells none, it is
-/// Syntax.
-fn read(alloc: Global, version: Version, text: &str) -> Result<Line, TraceFaultKind>
+/// The line that a text spells by itself, whatever the lines before it: `read_line` with the fault
+/// of a whole trace. A text that spells no line of this version is Syntax, and out of memory is
+/// Memory.
+fn line_by_itself(alloc: Global, version: Version, text: &str) -> Result<Line, TraceFaultKind>
     ensures read { IfOk result (λ line. line_in version text.now ≡ Some (line_value line)) }
     ensures fault { IfErr result (λ kind. kind ≢ Memory → kind ≡ Syntax) }
     ensures none { IfErr result (λ kind. kind ≢ Memory → line_in version text.now ≡ None) }
@@ -32,8 +33,9 @@ fn read(alloc: Global, version: Version, text: &str) -> Result<Line, TraceFaultK
     }
 }
 
-/// Checks the line of an operation in the state, and applies it.
-fn take_operation(
+/// Checks the line of an operation in the state (`resolve`, whose faults it returns), and applies
+/// the operation (`LinesSoFar::apply`).
+fn apply_operation(
     alloc: Global,
     state: &mut LinesSoFar,
     line: OperationLine,
@@ -48,22 +50,25 @@ fn take_operation(
     Ok(())
 }
 
-/// Applies the first line that isn't blank. If it isn't the header, it is Syntax.
-fn take_first(alloc: Global, state: &mut LinesSoFar, line: Line) -> Result<(), TraceFaultKind>
+/// Applies the first line that isn't blank. If it is no header, it is Syntax; the other faults are
+/// those of `apply_header`.
+fn apply_first(alloc: Global, state: &mut LinesSoFar, line: Line) -> Result<(), TraceFaultKind>
     requires { IsBounded (state_of state.old) }
     ensures { Leaves
         (first_step (state_of state.old) (line_value line))
         result (state_of state.new) IsPastNames }
 {
     match line {
-        Line::Header(version, claims) => take_header(alloc, state, version, claims),
+        Line::Header(version, claims) => apply_header(alloc, state, version, claims),
         _ => Err(TraceFaultKind::Syntax),
     }
 }
 
-/// Applies a line after the header that isn't blank. A second header is Syntax, and so is a start
-/// line after an operation.
-fn take_later(alloc: Global, state: &mut LinesSoFar, line: Line) -> Result<(), TraceFaultKind>
+/// Applies a line after the header that isn't blank. A second header is Syntax, and so is any start
+/// line after an operation. An operation of no known name is UnknownOp, and so is a start line of
+/// no known kind before the first operation. The other faults are those of `apply_start`,
+/// `apply_link` and `apply_operation`.
+fn apply_later(alloc: Global, state: &mut LinesSoFar, line: Line) -> Result<(), TraceFaultKind>
     requires { IsBounded (state_of state.old) }
     ensures { Leaves
         (later_step (state_of state.old) (line_value line))
@@ -72,19 +77,20 @@ fn take_later(alloc: Global, state: &mut LinesSoFar, line: Line) -> Result<(), T
     let is_start = state.operations.is_empty();
     match line {
         Line::Header(..) => Err(TraceFaultKind::Syntax),
-        Line::Start(line) if is_start => take_start(alloc, state, line),
+        Line::Start(line) if is_start => apply_start(alloc, state, line),
         Line::Start(_) => Err(TraceFaultKind::Syntax),
-        Line::StartLink { path, from } if is_start => take_link(alloc, state, &path, &from),
+        Line::StartLink { path, from } if is_start => apply_link(alloc, state, &path, &from),
         Line::StartLink { .. } => Err(TraceFaultKind::Syntax),
         Line::UnknownStart if is_start => Err(TraceFaultKind::UnknownOp),
         Line::UnknownStart => Err(TraceFaultKind::Syntax),
-        Line::Operation(line) => take_operation(alloc, state, line),
+        Line::Operation(line) => apply_operation(alloc, state, line),
         Line::UnknownOperation => Err(TraceFaultKind::UnknownOp),
     }
 }
 
-/// Applies the next line, given as its text. A blank one changes nothing.
-fn take(alloc: Global, state: &mut LinesSoFar, text: &str) -> Result<(), TraceFaultKind>
+/// Applies the next line, given as its text. A blank line changes nothing, and a text that is no
+/// line of the trace's version is Syntax.
+fn apply_line(alloc: Global, state: &mut LinesSoFar, text: &str) -> Result<(), TraceFaultKind>
     requires { IsBounded (state_of state.old) }
     ensures { Leaves
         (step (state_of state.old) text.now)
@@ -93,17 +99,18 @@ fn take(alloc: Global, state: &mut LinesSoFar, text: &str) -> Result<(), TraceFa
     if is_blank(text) {
         return Ok(());
     }
-    let line = read(alloc, state.version, text)?;
+    let line = line_by_itself(alloc, state.version, text)?;
+    // The header makes the first record, that of the root.
     if state.made == 0 {
-        take_first(alloc, state, line)
+        apply_first(alloc, state, line)
     } else {
-        take_later(alloc, state, line)
+        apply_later(alloc, state, line)
     }
 }
 
 /// The state after all lines of the text, or the first fault, with the number of its line from 1.
-/// Whether there was a header isn't checked: if there was none, `made` is 0.
-pub(crate) fn take_lines(alloc: Global, text: &str) -> Result<LinesSoFar, TraceFault>
+/// Whether there was a header isn't checked here; if there was none, `made` is 0.
+pub(crate) fn state_after_lines(alloc: Global, text: &str) -> Result<LinesSoFar, TraceFault>
     ensures done { IfOk result (λ state. state_in (lines_in text.now) ≡ Ok (state_of state)) }
     ensures fault { IfErr result (λ fault. fault.kind ≢ Memory
         → state_in (lines_in text.now) ≡ Err fault) }
@@ -112,7 +119,7 @@ pub(crate) fn take_lines(alloc: Global, text: &str) -> Result<LinesSoFar, TraceF
 {
     let mut state = LinesSoFar::new(alloc);
     for (i, line) in text.split('\n').enumerate() {
-        if let Err(kind) = take(alloc, &mut state, line) {
+        if let Err(kind) = apply_line(alloc, &mut state, line) {
             return Err(TraceFault { line: i + 1, kind });
         }
     }

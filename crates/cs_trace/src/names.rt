@@ -32,17 +32,17 @@ pub(crate) fn are_set_names(change: &Change) -> bool
     }
 }
 
-/// The text as the name of a user or a group. It takes no memory. The caller has checked that it is
-/// legal; one that isn't would be an AllocError.
+/// The text as the name of a user or a group, moved without taking memory. The caller has checked
+/// by `are_user_names` that it is legal, so there is never an error.
 pub(crate) fn user_name(text: String) -> Result<UserName, AllocError>
     ensures { IfOk result (λ name. name ≡ string_bytes text) }
 {
     UserName::from_text(text).map_err(|_| AllocError)
 }
 
-/// A copy of the name of a user or a group. The caller has checked that it is legal; one that isn't
-/// would be an AllocError, too.
-pub(crate) fn keep_user_name(alloc: Global, text: &str) -> Result<UserName, AllocError>
+/// The text, copied, as the name of a user or a group. The caller has checked by `are_set_names`
+/// that it is legal, so an AllocError means out of memory.
+pub(crate) fn copy_user_name(alloc: Global, text: &str) -> Result<UserName, AllocError>
     ensures { IfOk result (λ name. name ≡ text.now) }
 {
     UserName::read(alloc, text.as_bytes()).map_err(|_| AllocError)

@@ -5,7 +5,7 @@ ghost use Rattle.cs_trace.specs.Judging.{rights_after};
 ghost use Rattle.cs_trace.specs.Names.{rights_of};
 ghost use Rattle.cs_trace_lines.specs.Said.{change_value, claims_of};
 
-use crate::names::{keep_user_name, user_name};
+use crate::names::{copy_user_name, user_name};
 use cs_names::{Bytes, Path, UserName};
 use cs_trace_lines::{Change, Claims};
 use std::alloc::{AllocError, Global};
@@ -152,8 +152,8 @@ impl Rights {
         match change {
             Change::Mode(permissions) => rights.permissions = *permissions,
             Change::Owner { owner, group } => {
-                rights.owner = keep_user_name(alloc, owner)?;
-                rights.group = keep_user_name(alloc, group)?;
+                rights.owner = copy_user_name(alloc, owner)?;
+                rights.group = copy_user_name(alloc, group)?;
             }
         }
         Ok(rights)
@@ -161,8 +161,8 @@ impl Rights {
 }
 
 impl Target {
-    /// The target of a chmod or a chown: the file of the number in `node`, or the directory at the
-    /// path.
+    /// The target of a chmod or a chown: the file of the number in `node`, whose path is dropped,
+    /// or the directory at the path.
     pub(crate) fn of(node: Node, path: Path) -> Target
         ensures { result ≡ target_of node path }
     {

@@ -30,7 +30,7 @@ impl<'a> Model for PathText<'a> {
 }
 
 impl<'a> PathText<'a> {
-    /// The path that the text spells; None if it spells none.
+    /// The path that the text spells, perhaps the root; None if it spells none.
     pub(crate) fn of(text: &'a str) -> Option<PathText<'a>>
         ensures { result ≡ path_of text.now }
     {
@@ -76,7 +76,7 @@ impl<'a> PathText<'a> {
         self.count
     }
 
-    /// The path that the text spells, as a Path of its own.
+    /// The path that the text spells, copied as a Path. An error means out of memory.
     pub(crate) fn to_path(&self, alloc: Global) -> Result<Path, AllocError>
         ensures { IfOk result (λ path. path ≡ self.now) }
     {
@@ -84,16 +84,17 @@ impl<'a> PathText<'a> {
     }
 
     /// Whether the path has so many names that neither the path nor its directory can be in a
-    /// trace's tree: more than TRACE_PATH_NAMES + 1.
+    /// trace's tree: more than TRACE_PATH_NAMES + 1. (`LastDirectory::has_long_text`
+    /// counts bytes.)
     pub(crate) fn is_long(&self) -> bool
         ensures { IsTrue result ↔ (TRACE_PATH_NAMES + 1 < length self.now) }
     {
         self.len() > TRACE_PATH_NAMES + 1
     }
 
-    /// The path that the text spells, as a Path of its own. If `is_long`, it is this fault instead,
-    /// and takes no memory.
-    pub(crate) fn keep_or(
+    /// As `to_path`, but a path that `is_long` is this fault instead, and takes no memory. Callers
+    /// pass the fault that a look-up of the path, or of its directory, would have.
+    pub(crate) fn to_path_or(
         &self,
         alloc: Global,
         fault: TraceFaultKind,

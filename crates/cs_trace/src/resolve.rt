@@ -1,5 +1,7 @@
 //! From the line of an operation to the operation: its paths are checked, then copied, and then
-//! looked up in the tree. The state is only read; `LinesSoFar::apply` changes it.
+//! looked up in the tree. A path of too many names (`PathText::is_long`) isn't copied: it is
+//! NoParent if it is new, and otherwise Missing. The state is only read; `LinesSoFar::apply`
+//! changes it.
 ghost use Rattle.std.specs.Prelude.{◌≡◌, ◌<◌, ◌^◌, length};
 ghost use Rattle.cs_trace.specs.Judging.{AreShort, IsPastNames, creat, fsync, fsync_range};
 ghost use Rattle.cs_trace.specs.Judging.{or_bad_name, link, mkdir, rename, resolve, rmdir, say};
@@ -11,8 +13,8 @@ ghost use Rattle.cs_trace_lines.specs.Said.{change_value, claims_of, operation_v
 
 use crate::fault::TraceFaultKind;
 use crate::judge::{
-    are_too_many, check_emptied, check_free, check_target, ends_above, file_at, is_path_of,
-    is_too_much, size_in,
+    are_too_many_names, check_emptied, check_free, check_target, ends_above, file_at,
+    is_over_limits, is_path_of, size_in,
 };
 use crate::names::{are_set_names, are_user_names};
 use crate::operation::{Covers, Node, Operation, Rights, Target};
@@ -38,7 +40,8 @@ pub(crate) fn entry_path(text: &str) -> Result<PathText<'_>, TraceFaultKind>
     PathText::of_entry(text).ok_or(TraceFaultKind::BadName)
 }
 
-/// The path of a new entry. If the path, the owner or the group isn't legal, it is BadName.
+/// The path of a new entry, read as by `entry_path`. If the path, the owner or the group isn't
+/// legal, it is BadName.
 pub(crate) fn new_path<'a>(text: &'a str, claims: &Claims) -> Result<PathText<'a>, TraceFaultKind>
     ensures { result ≡ or_bad_name (new_path_of text.now (claims_of claims.now)) }
 {
@@ -49,7 +52,8 @@ pub(crate) fn new_path<'a>(text: &'a str, claims: &Claims) -> Result<PathText<'a
     Ok(path)
 }
 
-/// The path of a chmod or a chown. If the path, the owner or the group isn't legal, it is BadName.
+/// The path of a chmod or a chown, which may be the root. If the path, or the owner or the group
+/// of a chown, isn't legal, it is BadName.
 fn set_path<'a>(text: &'a str, change: &Change) -> Result<PathText<'a>, TraceFaultKind>
     ensures { result ≡ or_bad_name (set_path_of text.now (change_value change.now)) }
 {
@@ -60,8 +64,8 @@ fn set_path<'a>(text: &'a str, change: &Change) -> Result<PathText<'a>, TraceFau
     Ok(path)
 }
 
-/// The creat of a file at the path, with the next number. The directory and the path are checked as
-/// `check_free` does, and then the limits, past which it is TooLarge.
+/// The creat of a file at the path, with the next number. The path and its parent are checked as
+/// `check_free` does; then a path of too many names, or one record too many, is TooLarge.
 #[tactic(auto, using(crate::proofs::Past::nothing_above, crate::proofs::Past::past_creat))]
 fn creat(
     alloc: Global,
@@ -76,10 +80,10 @@ fn creat(
         path.now (claims_of claims))
         result IsPastNames }
 {
-    let path = path.keep_or(alloc, TraceFaultKind::NoParent)?;
+    let path = path.to_path_or(alloc, TraceFaultKind::NoParent)?;
     let above = Path::of(alloc, &path.names().parent())?;
     check_free(&state.tree, &above, &path)?;
-    if is_too_much(state.made, path.names().len()) {
+    if is_over_limits(state.made, path.names().len()) {
         return Err(TraceFaultKind::TooLarge);
     }
     let file = state.sizes.len() as u32;
@@ -87,8 +91,8 @@ fn creat(
     Ok(Operation::Creat { path, file, rights })
 }
 
-/// The mkdir of a directory at the path, after `made` records. The directory above and the path are
-/// checked as `check_free` does, and then the limits, past which it is TooLarge.
+/// The mkdir of a directory at the path, after `made` records. The path and its parent are checked
+/// as `check_free` does; then a path of too many names, or one record too many, is TooLarge.
 #[tactic(auto, using(crate::proofs::Past::nothing_above, crate::proofs::Past::past_mkdir))]
 fn mkdir(
     alloc: Global,
@@ -100,18 +104,18 @@ fn mkdir(
     requires { AreShort tree.now.nodes }
     ensures { Gives (mkdir tree.now.nodes made path.now (claims_of claims)) result IsPastNames }
 {
-    let path = path.keep_or(alloc, TraceFaultKind::NoParent)?;
+    let path = path.to_path_or(alloc, TraceFaultKind::NoParent)?;
     let above = Path::of(alloc, &path.names().parent())?;
     check_free(tree, &above, &path)?;
-    if is_too_much(made, path.names().len()) {
+    if is_over_limits(made, path.names().len()) {
         return Err(TraceFaultKind::TooLarge);
     }
     let rights = Rights::of_claims(claims)?;
     Ok(Operation::Mkdir { path, rights })
 }
 
-/// The link of one more path, `to`, to the file at `from`, after `made` records. Nothing at `from`
-/// is Missing, and a directory is NotFile; then `to` is checked as in a mkdir.
+/// The link that gives the file at `from` one more path, `to`, after `made` records. Nothing at
+/// `from` is Missing, and a directory is NotFile; then `to` is checked as the path of a mkdir.
 #[tactic(auto, using(crate::proofs::Past::nothing_at, crate::proofs::Past::nothing_above, crate::proofs::Past::past_link))]
 fn link(
     alloc: Global,
@@ -123,12 +127,12 @@ fn link(
     requires { AreShort tree.now.nodes }
     ensures { Gives (link tree.now.nodes made from.now to.now) result IsPastNames }
 {
-    let from = from.keep_or(alloc, TraceFaultKind::Missing)?;
+    let from = from.to_path_or(alloc, TraceFaultKind::Missing)?;
     let file = file_at(tree, &from)?;
-    let path = to.keep_or(alloc, TraceFaultKind::NoParent)?;
+    let path = to.to_path_or(alloc, TraceFaultKind::NoParent)?;
     let above = Path::of(alloc, &path.names().parent())?;
     check_free(tree, &above, &path)?;
-    if is_too_much(made, path.names().len()) {
+    if is_over_limits(made, path.names().len()) {
         return Err(TraceFaultKind::TooLarge);
     }
     Ok(Operation::Link { path, file })
@@ -140,7 +144,7 @@ fn unlink(alloc: Global, tree: &Tree, path: &PathText<'_>) -> Result<Operation, 
     requires { AreShort tree.now.nodes }
     ensures { Gives (unlink tree.now.nodes path.now) result IsPastNames }
 {
-    let path = path.keep_or(alloc, TraceFaultKind::Missing)?;
+    let path = path.to_path_or(alloc, TraceFaultKind::Missing)?;
     file_at(tree, &path)?;
     Ok(Operation::Unlink { path })
 }
@@ -152,14 +156,14 @@ fn rmdir(alloc: Global, tree: &Tree, path: &PathText<'_>) -> Result<Operation, T
     requires { AreShort tree.now.nodes }
     ensures { Gives (rmdir tree.now.nodes path.now) result IsPastNames }
 {
-    let path = path.keep_or(alloc, TraceFaultKind::Missing)?;
+    let path = path.to_path_or(alloc, TraceFaultKind::Missing)?;
     check_emptied(tree, &path)?;
     Ok(Operation::Rmdir { path })
 }
 
 /// The rename of the file at `from`, which may replace a file at `to`. Nothing at `from` is
 /// Missing, and a directory is NotFile; `to` is checked as `check_target` does, and a `to` of too
-/// many names is TooLarge. If both are paths of one file, the rename is one of `to` to itself.
+/// many names is TooLarge. If both are paths of one file, the result is a rename of `to` to itself.
 #[tactic(auto, using(crate::proofs::Past::nothing_at, crate::proofs::Past::nothing_above, crate::proofs::Past::past_rename))]
 fn rename(
     alloc: Global,
@@ -170,12 +174,12 @@ fn rename(
     requires { AreShort tree.now.nodes }
     ensures { Gives (rename tree.now.nodes from.now to.now) result IsPastNames }
 {
-    let from = from.keep_or(alloc, TraceFaultKind::Missing)?;
+    let from = from.to_path_or(alloc, TraceFaultKind::Missing)?;
     let file = file_at(tree, &from)?;
-    let to = to.keep_or(alloc, TraceFaultKind::NoParent)?;
+    let to = to.to_path_or(alloc, TraceFaultKind::NoParent)?;
     let above = Path::of(alloc, &to.names().parent())?;
     check_target(tree, &above, &to)?;
-    if are_too_many(to.names().len()) {
+    if are_too_many_names(to.names().len()) {
         return Err(TraceFaultKind::TooLarge);
     }
     // As rename(2), which does nothing if both are paths of one file.
@@ -202,7 +206,7 @@ fn write(
         (write state.now.tree.nodes state.now.sizes.items path.now offset bytes.items)
         result IsPastNames }
 {
-    let path = path.keep_or(alloc, TraceFaultKind::Missing)?;
+    let path = path.to_path_or(alloc, TraceFaultKind::Missing)?;
     let file = file_at(&state.tree, &path)?;
     if ends_above(offset, &bytes) {
         return Err(TraceFaultKind::TooLarge);
@@ -229,7 +233,7 @@ fn truncate(
         (truncate state.now.tree.nodes state.now.sizes.items path.now length)
         result IsPastNames }
 {
-    let path = path.keep_or(alloc, TraceFaultKind::Missing)?;
+    let path = path.to_path_or(alloc, TraceFaultKind::Missing)?;
     let file = file_at(&state.tree, &path)?;
     if length > FILE_BYTES {
         return Err(TraceFaultKind::TooLarge);
@@ -239,7 +243,8 @@ fn truncate(
 }
 
 /// The chmod or chown of the file or directory at the path, with its rights before and after.
-/// Nothing there is Missing.
+/// Nothing there is Missing. So is a node without rights; in the versions that have a chmod and a
+/// chown, each node has rights.
 #[tactic(auto, using(crate::proofs::Past::nothing_at, crate::proofs::Past::past_set_attr))]
 fn set_attr(
     alloc: Global,
@@ -253,7 +258,7 @@ fn set_attr(
         path.now (change_value change.now))
         result IsPastNames }
 {
-    let path = path.keep_or(alloc, TraceFaultKind::Missing)?;
+    let path = path.to_path_or(alloc, TraceFaultKind::Missing)?;
     let Some(node) = state.tree.get(&path) else {
         return Err(TraceFaultKind::Missing);
     };
@@ -276,7 +281,7 @@ fn fsync(alloc: Global, tree: &Tree, path: &PathText<'_>) -> Result<Operation, T
     requires { AreShort tree.now.nodes }
     ensures { Gives (fsync tree.now.nodes path.now) result IsPastNames }
 {
-    let path = path.keep_or(alloc, TraceFaultKind::Missing)?;
+    let path = path.to_path_or(alloc, TraceFaultKind::Missing)?;
     match tree.get(&path) {
         None => Err(TraceFaultKind::Missing),
         Some(Node::Directory) => Ok(Operation::Sync(Covers::Directory(path))),
@@ -285,7 +290,7 @@ fn fsync(alloc: Global, tree: &Tree, path: &PathText<'_>) -> Result<Operation, T
 }
 
 /// The sync of `length` bytes of the file at the path, from the offset on. Nothing there is
-/// Missing, and a directory is NotFile. The range may end after the file.
+/// Missing, and a directory is NotFile. The range may end after the end of the file.
 #[tactic(auto, using(crate::proofs::Past::nothing_at, crate::proofs::Past::past_fsync_range))]
 fn fsync_range(
     alloc: Global,
@@ -297,7 +302,7 @@ fn fsync_range(
     requires { AreShort tree.now.nodes }
     ensures { Gives (fsync_range tree.now.nodes path.now offset length) result IsPastNames }
 {
-    let path = path.keep_or(alloc, TraceFaultKind::Missing)?;
+    let path = path.to_path_or(alloc, TraceFaultKind::Missing)?;
     let file = file_at(tree, &path)?;
     Ok(Operation::Sync(Covers::Range {
         file,
@@ -317,6 +322,7 @@ fn say(text: &str) -> Result<Operation, TraceFaultKind>
 }
 
 /// The operation that the line means in this state, or the fault of the first check that it fails.
+/// It runs out of memory only if no name and no path of the line is BadName.
 #[tactic(auto, using(crate::proofs::Past::past_say))]
 pub(crate) fn resolve(
     alloc: Global,

@@ -1,7 +1,8 @@
 //! The entries of one directory at the start, by name. To compare names is faster than to compare
-//! whole paths, which are long if the directory is deep.
-ghost use Rattle.std.specs.Prelude.{◌≡◌, ◌≢◌, ◌∷◌, ◌++◌, [], IfNone, IfOk, IfSome, IsTrue, OnOk, None};
-ghost use Rattle.std.specs.Prelude.{false};
+//! whole paths, which are long if the directory is deep. After an error, the trace is given up;
+//! entries may be missing then, or only some of them appended.
+ghost use Rattle.std.specs.Prelude.{◌≡◌, ◌≢◌, ◌∷◌, ◌++◌, [], IfNone, IfOk, IfSome, IsTrue, OnOk};
+ghost use Rattle.std.specs.Prelude.{None, false};
 ghost use Rattle.std.specs.FinMap as map;
 ghost use Rattle.std.specs.Option.{is_some, option_map};
 ghost use Rattle.cs_tree_model.specs.Maps.Values.{map_values};
@@ -10,8 +11,8 @@ ghost use Rattle.cs_trace.specs.Below.{has_below};
 ghost use Rattle.cs_trace.specs.Entries.{node_of, with_nodes, with_records};
 ghost use Rattle.cs_trace.specs.Siblings.{AreIn, BeginsAt, IsIn, entry_in};
 
-use crate::entry::StartFile;
-use crate::parts::Parts;
+use crate::entry::StartEntry;
+use crate::start_lists::StartLists;
 use cs_names::Path;
 use std::alloc::{AllocError, Global};
 use std::collections::BTreeMap;
@@ -21,9 +22,10 @@ use std::marker::Model;
 /// their whole paths.
 #[derive(Drop)]
 pub(crate) struct Siblings {
+    /// The path of the directory.
     directory: Path,
-    /// Each entry with its whole path.
-    by_name: BTreeMap<String, (Path, StartFile)>,
+    /// Each entry with its whole path, by the last name of the path.
+    by_name: BTreeMap<String, (Path, StartEntry)>,
 }
 
 impl Model for Siblings {
@@ -41,7 +43,8 @@ impl Model for Siblings {
         model.AreWithPaths siblings.directory (by_bytes siblings.by_name.entries) };
 }
 
-/// The last name of the path, if the path is in the directory.
+/// The last name of the path, if the path's parent is the directory. None for a path elsewhere or
+/// further down, and for the root, which has no last name.
 fn name_in<'a>(directory: &Path, path: &'a Path) -> Option<&'a str>
     ensures there { IfSome result (λ name. path.now ≡ directory.now ++ name.now ∷ []) }
     ensures elsewhere { IfNone result ((n : NameBytes) → path.now ≢ directory.now ++ n ∷ []) }
@@ -58,8 +61,8 @@ fn name_in<'a>(directory: &Path, path: &'a Path) -> Option<&'a str>
     }
 }
 
-/// The entry that is kept with a path.
-fn entry_in(sibling: Option<(Path, StartFile)>) -> Option<StartFile>
+/// The entry of a sibling, without its path; None if there is no sibling.
+fn entry_in(sibling: Option<(Path, StartEntry)>) -> Option<StartEntry>
     ensures { result ≡ entry_in sibling }
 {
     match sibling {
@@ -69,7 +72,7 @@ fn entry_in(sibling: Option<(Path, StartFile)>) -> Option<StartFile>
 }
 
 impl Siblings {
-    /// The directory, without an entry.
+    /// No entries yet, of the directory at that path.
     pub(crate) fn new(alloc: Global, directory: Path) -> Siblings
         ensures directory { result.directory ≡ directory }
         ensures entries { result.entries ≡ map.empty }
@@ -80,7 +83,7 @@ impl Siblings {
         }
     }
 
-    /// The path of the directory, which all entries are in.
+    /// The path of the directory that all entries are in, even if there are none.
     pub(crate) fn directory(&self) -> &Path
         ensures value { result.now ≡ self.now.directory }
         ensures all { AreIn self.now }
@@ -88,8 +91,9 @@ impl Siblings {
         &self.directory
     }
 
-    /// Whether the path is in the directory. Any other path has no entry here.
-    pub(crate) fn is_at(&self, path: &Path) -> bool
+    /// Whether the path's parent is the directory; such a path may or may not have an entry. No
+    /// other path has one. False for the root.
+    pub(crate) fn is_in_directory(&self, path: &Path) -> bool
         ensures there { IsTrue result → IsIn self.now.directory path.now }
         ensures elsewhere { result ≡ false
             → (n : NameBytes) → path.now ≢ self.now.directory ++ n ∷ [] }
@@ -101,8 +105,9 @@ impl Siblings {
         }
     }
 
-    /// The entry at the path. It takes no memory.
-    pub(crate) fn entry(&self, path: &Path) -> Option<&StartFile>
+    /// The entry at the path; None if nothing is there, and for every path outside the directory.
+    /// It takes no memory.
+    pub(crate) fn entry(&self, path: &Path) -> Option<&StartEntry>
         ensures { option_map (λ entry. entry.now) result ≡ map.get self.now.entries path.now }
     {
         match name_in(&self.directory, path) {
@@ -114,7 +119,8 @@ impl Siblings {
         }
     }
 
-    /// Whether something is below the path. It takes no memory.
+    /// Whether one of the entries is below the path. The entries, if there are any, are below the
+    /// directory and the directories above it, and below no other path. It takes no memory.
     pub(crate) fn has_below(&self, path: &Path) -> bool
         ensures { result ≡ has_below (map_values node_of self.now.entries) path.now }
     {
@@ -124,19 +130,22 @@ impl Siblings {
         self.directory.begins_with(path)
     }
 
-    /// Puts the entry at the path, and returns whether another was there before.
+    /// Puts the entry at the path, which must be in the directory, and returns whether it replaced
+    /// another.
     pub(crate) fn insert(
         &mut self,
         alloc: Global,
         path: Path,
-        entry: StartFile,
+        entry: StartEntry,
     ) -> Result<bool, AllocError>
         requires { IsIn self.old.directory path }
         ensures directory { self.new.directory ≡ self.old.directory }
-        ensures stood { IfOk result (λ stood. stood ≡ is_some (map.get self.old.entries path)) }
+        ensures replaced { IfOk result (λ replaced. replaced
+            ≡ is_some (map.get self.old.entries path)) }
         ensures state { OnOk result (self.new.entries ≡ map.insert self.old.entries path entry) }
     {
         let Some(name) = name_in(&self.directory, &path) else {
+            // By `requires`, the path is in the directory.
             unreachable!()
         };
         let key = String::from_str(alloc, name)?;
@@ -144,8 +153,9 @@ impl Siblings {
         Ok(before.is_some())
     }
 
-    /// Removes the entry at the path, if there is one, and returns it.
-    pub(crate) fn remove(&mut self, path: &Path) -> Option<StartFile>
+    /// Removes the entry at the path and returns it. None if nothing is there, and for every path
+    /// outside the directory.
+    pub(crate) fn remove(&mut self, path: &Path) -> Option<StartEntry>
         ensures directory { self.new.directory ≡ self.old.directory }
         ensures entry { result ≡ map.get self.old.entries path.now }
         ensures state { self.new.entries ≡ map.remove self.old.entries path.now }
@@ -156,7 +166,7 @@ impl Siblings {
         }
     }
 
-    /// The first path that has an entry.
+    /// The first path, in the order of paths, that has an entry; None if there are no entries.
     pub(crate) fn first(&self) -> Option<&Path>
         ensures some { IfSome result (λ path. BeginsAt self.now.entries path.now) }
         ensures none { IfNone result (self.now.entries ≡ map.empty) }
@@ -167,8 +177,8 @@ impl Siblings {
         }
     }
 
-    /// Appends the paths with their entries, in the order of paths.
-    pub(crate) fn push_to(self, list: &mut Vec<(Path, StartFile)>) -> Result<(), AllocError>
+    /// Moves the entries, each with its path, to the end of the list, in the order of paths.
+    pub(crate) fn push_to(self, list: &mut Vec<(Path, StartEntry)>) -> Result<(), AllocError>
         ensures { OnOk result (list.new.items ≡ list.old.items ++ map.entries self.entries) }
     {
         for (_, sibling) in self.by_name {
@@ -177,20 +187,20 @@ impl Siblings {
         Ok(())
     }
 
-    /// How many entries there are.
+    /// How many entries there are. No clause says so, since the number only sizes vectors.
     pub(crate) fn count(&self) -> usize {
         self.by_name.len()
     }
 
-    /// Appends the entries, in the order of paths.
-    pub(crate) fn append_to(self, parts: &mut Parts) -> Result<(), AllocError>
-        ensures records { OnOk result (parts.new.records.items
-            ≡ with_records parts.old.records.items (map.entries self.entries)) }
-        ensures nodes { OnOk result (parts.new.nodes.items
-            ≡ with_nodes parts.old.nodes.items (map.entries self.entries)) }
+    /// Appends the record and the node of each of the siblings to the lists, in the order of paths.
+    pub(crate) fn append_to(self, lists: &mut StartLists) -> Result<(), AllocError>
+        ensures records { OnOk result (lists.new.records.items
+            ≡ with_records lists.old.records.items (map.entries self.entries)) }
+        ensures nodes { OnOk result (lists.new.nodes.items
+            ≡ with_nodes lists.old.nodes.items (map.entries self.entries)) }
     {
         for (_, (path, entry)) in self.by_name {
-            parts.append(path, entry)?;
+            lists.append(path, entry)?;
         }
         Ok(())
     }

@@ -1,5 +1,6 @@
 //! What the header and the start lines add to the state. After a fault, the trace is given up, so
-//! that no clause says what is left of the state.
+//! that no clause says what is left of the state. A line runs out of memory only if none of its
+//! names and paths is BadName.
 ghost use Rattle.std.specs.Prelude.{◌≡◌, ◌≢◌, ◌<◌, ◌^◌, IfErr, IfOk, IsOk, OnOk, None, Some, Ok};
 ghost use Rattle.std.specs.Prelude.{Err, length};
 ghost use Rattle.std.specs.FinMap as map;
@@ -18,11 +19,11 @@ ghost use Rattle.cs_trace.specs.States.{with_link};
 ghost use Rattle.cs_trace.specs.declared.fault.TraceFaultKind.TheVariants.{Memory};
 ghost use Rattle.cs_trace.specs.declared.operation.Node.TheVariants.{Directory};
 
-use crate::entry::StartFile;
+use crate::entry::StartEntry;
 use crate::fault::TraceFaultKind;
-use crate::judge::{check_free, is_too_much};
+use crate::judge::{check_free, is_over_limits};
+use crate::last_directory::LastDirectory;
 use crate::names::are_user_names;
-use crate::near::Near;
 use crate::operation::{Node, Rights};
 use crate::path_text::PathText;
 use crate::resolve::{entry_path, new_path};
@@ -44,25 +45,25 @@ fn size_of(content: &Option<Vec<u8>>) -> u64
     }
 }
 
-/// The entry of a new file with this content and the next number, or of a directory if the content
-/// is None. The names in the claims are moved.
-fn keep_entry(
+/// The entry of a new file with this content and the next number, or of a new directory if the
+/// content is None. The names in the claims, which the caller has checked, are moved.
+fn new_entry(
     state: &LinesSoFar,
     claims: Claims,
     content: Option<Vec<u8>>,
-) -> Result<StartFile, AllocError>
+) -> Result<StartEntry, AllocError>
     requires { length state.now.sizes.items < 2 ^ 32 }
     ensures { IfOk result (λ entry. entry ≡ entry_for (state_of state.now)
         (claims_of claims) (option_map (λ bytes. bytes.items) content)) }
 {
     let rights = Rights::of_claims(claims)?;
     Ok(match content {
-        None => StartFile {
+        None => StartEntry {
             number: 0,
             rights,
             content: Content::directory(),
         },
-        Some(bytes) => StartFile {
+        Some(bytes) => StartEntry {
             number: state.sizes.len() as u32,
             rights,
             content: Content::file(bytes),
@@ -71,16 +72,18 @@ fn keep_entry(
 }
 
 /// Adds the entry of a new file or directory at the path: to the tree, to the files and their sizes
-/// if it is a file, and to the attributes. Counts one more record. Returns whether the path had an
-/// entry, which is a fault of the line.
+/// if it is a file, and to the attributes if the version has them, as `LinesSoFar::apply` does.
+/// Counts one more record. Returns whether it replaced another entry, which the caller reports as a
+/// fault.
 fn put_entry(
     alloc: Global,
     state: &mut LinesSoFar,
     path: Path,
-    entry: StartFile,
+    entry: StartEntry,
 ) -> Result<bool, AllocError>
     requires { state.old.made < 2 ^ 32 }
-    ensures stood { IfOk result (λ stood. stood ≡ is_some (map.get state.old.tree.nodes path)) }
+    ensures replaced { IfOk result (λ replaced. replaced
+        ≡ is_some (map.get state.old.tree.nodes path)) }
     ensures state { OnOk result (state_of state.new
         ≡ with_entry (state_of state.old) path entry entry.content) }
     ensures nodes { OnOk result (state.new.tree.nodes
@@ -98,80 +101,82 @@ fn put_entry(
             state.attributes.add(alloc, node, &path, &entry.rights)?;
         }
     }
-    let stood = state.tree.insert_start(alloc, path, entry)?;
+    let replaced = state.tree.insert_start(alloc, path, entry)?;
     state.made += 1;
-    Ok(stood)
+    Ok(replaced)
 }
 
-/// The directory of a new entry at the path, which `text` spells. Nothing at the parent path is
-/// NoParent, and a file there is NotDir. The directory of the last start line isn't looked up
-/// again.
+/// The directory of a new entry at the path, which `text` spells. As in `check_free`, nothing at
+/// the parent path is NoParent, and a file there is NotDir. The directory of the last start line
+/// isn't looked up again; another one is, and the tree is prepared for many entries in it
+/// (`Tree::prepare_for`).
 fn find_above(
     alloc: Global,
     tree: &mut Tree,
     path: &Path,
     text: &PathText<'_>,
-) -> Result<Near, TraceFaultKind>
+) -> Result<LastDirectory, TraceFaultKind>
     requires { text.now ≡ path.now }
     ensures same { OnOk result (tree.new ≡ tree.old) }
     ensures above { IfOk result (λ above. above ≡ parent_path path.now) }
-    ensures stands { IfOk result (λ above. map.get tree.old.nodes above ≡ Some Directory) }
+    ensures is_there { IfOk result (λ above. map.get tree.old.nodes above ≡ Some Directory) }
     ensures fault { IfErr result (λ kind. kind ≢ Memory
         → free_at tree.old.nodes path.now ≡ Err kind) }
 {
-    if let Some(above) = tree.take_near(path) {
+    if let Some(above) = tree.take_directory(path) {
         return Ok(above);
     }
-    let above = Near::above(alloc, path, text)?;
+    let above = LastDirectory::parent_of(alloc, path, text)?;
     match tree.get(above.path()) {
         None => Err(TraceFaultKind::NoParent),
         Some(Node::File(_)) => Err(TraceFaultKind::NotDir),
         Some(Node::Directory) => {
-            tree.gather(alloc, &above)?;
+            tree.prepare_for(alloc, &above)?;
             Ok(above)
         }
     }
 }
 
-/// Adds a new entry at the path, which has `names` names, in the directory `above`. Anything at the
-/// path is Exists, and an entry over a limit is TooLarge.
+/// Adds a new entry at the path, in the directory `above`, which is remembered for the next line.
+/// `names` is how many names the path has; the caller knows it, so they aren't counted again.
+/// Anything at the path is Exists; if nothing is there, an entry over a limit is TooLarge.
 #[tactic(auto, using(crate::proofs::Past::past_start_at))]
-fn start_in(
+fn add_entry_in(
     alloc: Global,
     state: &mut LinesSoFar,
     path: Path,
     names: usize,
-    above: Near,
+    above: LastDirectory,
     claims: Claims,
     content: Option<Vec<u8>>,
 ) -> Result<(), TraceFaultKind>
     requires bounded { IsBounded (state_of state.old) }
     requires names { names ≡ length path }
     requires above { above ≡ parent_path path }
-    requires stands { map.get state.old.tree.nodes above ≡ Some Directory }
+    requires is_there { map.get state.old.tree.nodes above ≡ Some Directory }
     ensures { Leaves
         (start_at (state_of state.old) path (claims_of claims)
         (option_map (λ bytes. bytes.items) content))
         result (state_of state.new) IsPastNames }
 {
-    if is_too_much(state.made, names) || size_of(&content) > FILE_BYTES {
+    if is_over_limits(state.made, names) || size_of(&content) > FILE_BYTES {
         return Err(match state.tree.get(&path) {
             None => TraceFaultKind::TooLarge,
             Some(_) => TraceFaultKind::Exists,
         });
     }
-    let entry = keep_entry(state, claims, content)?;
-    let stood = put_entry(alloc, state, path, entry)?;
-    if stood {
+    let entry = new_entry(state, claims, content)?;
+    let replaced = put_entry(alloc, state, path, entry)?;
+    if replaced {
         return Err(TraceFaultKind::Exists);
     }
-    state.tree.stay_near(above);
+    state.tree.remember_directory(above);
     Ok(())
 }
 
-/// The path of a start line. If the path, the owner or the group isn't legal, it is BadName. It
-/// does what `new_path` does, but checks only the last name of a path in the directory of the last
-/// start line.
+/// The path of a start line of a file or a directory. If the path, the owner or the group isn't
+/// legal, it is BadName, as by `new_path`; but of a path in the directory of the last start line,
+/// only the last name is checked.
 fn start_path<'a>(
     tree: &Tree,
     path: &'a str,
@@ -179,7 +184,7 @@ fn start_path<'a>(
 ) -> Result<PathText<'a>, TraceFaultKind>
     ensures { result ≡ or_bad_name (new_path_of path.now (claims_of claims.now)) }
 {
-    let Some(entry) = tree.near_entry(path) else {
+    let Some(entry) = tree.path_in_last_directory(path) else {
         return new_path(path, claims);
     };
     if !are_user_names(claims) {
@@ -189,7 +194,8 @@ fn start_path<'a>(
 }
 
 /// Adds a file with this content at the path that the text spells, or a directory if the content is
-/// None.
+/// None. The faults are those of `find_above` and then those of `add_entry_in`. A path of so many
+/// names that its directory can't be in the tree is NoParent, too.
 #[tactic(auto, using(crate::proofs::Past::nothing_above, crate::proofs::Past::past_start_at))]
 fn add_entry(
     alloc: Global,
@@ -204,13 +210,14 @@ fn add_entry(
         (option_map (λ bytes. bytes.items) content))
         result (state_of state.new) IsPastNames }
 {
-    let path = text.keep_or(alloc, TraceFaultKind::NoParent)?;
+    let path = text.to_path_or(alloc, TraceFaultKind::NoParent)?;
     let above = find_above(alloc, &mut state.tree, &path, text)?;
-    start_in(alloc, state, path, text.len(), above, claims, content)
+    add_entry_in(alloc, state, path, text.len(), above, claims, content)
 }
 
-/// Applies the start line of a file or a directory, after a check of its names.
-pub(crate) fn take_start(
+/// Applies the start line of a file, or of a directory if its content is None. A path, an owner or
+/// a group that isn't legal is BadName; the other faults are those of `add_entry`.
+pub(crate) fn apply_start(
     alloc: Global,
     state: &mut LinesSoFar,
     line: StartLine,
@@ -229,9 +236,9 @@ pub(crate) fn take_start(
     add_entry(alloc, state, &text, claims, content)
 }
 
-/// The file that was at the path at the start. Nothing there is Missing, and a directory is
-/// NotFile.
-fn start_file<'a>(tree: &'a Tree, path: &Path) -> Result<&'a StartFile, TraceFaultKind>
+/// The file that was at the path at the start. As in `file_at`, nothing there is Missing, and a
+/// directory is NotFile.
+fn start_file<'a>(tree: &'a Tree, path: &Path) -> Result<&'a StartEntry, TraceFaultKind>
     ensures file { IfOk result (λ entry.
         start_file_at (map.get tree.now.start path.now) ≡ Ok entry.now) }
     ensures fault { IfErr result (λ kind.
@@ -246,13 +253,14 @@ fn start_file<'a>(tree: &'a Tree, path: &Path) -> Result<&'a StartFile, TraceFau
     }
 }
 
-/// Adds the path to the further paths of the file of the start that has this entry. Counts one more
-/// record.
+/// Adds one more path for a file of the start: to the links, and with this copy of the file's entry
+/// to the tree. Counts one more record. The caller has checked that nothing is at the path, so what
+/// `insert_start` returns isn't needed.
 fn put_link(
     alloc: Global,
     state: &mut LinesSoFar,
     path: Path,
-    entry: StartFile,
+    entry: StartEntry,
 ) -> Result<(), AllocError>
     requires { state.old.made < 2 ^ 32 }
     ensures { OnOk result (state_of state.new ≡ with_link (state_of state.old) path entry) }
@@ -263,8 +271,9 @@ fn put_link(
     Ok(())
 }
 
-/// Adds one more path, `to`, to the file that was at `from` at the start. Nothing at `from` is
-/// Missing, and a directory is NotFile; `to` is checked as a new entry.
+/// Adds one more path, `to`, for the file that was at `from` at the start. Nothing at `from` is
+/// Missing, and a directory is NotFile; then `to` is checked as `check_free` does; and last, a link
+/// over a limit is TooLarge.
 #[tactic(auto, using(crate::proofs::Past::nothing_above, crate::proofs::Past::no_start_at, crate::proofs::Past::past_start_link_at))]
 fn add_link(
     alloc: Global,
@@ -277,12 +286,12 @@ fn add_link(
         (start_link_at (state_of state.old) from.now to.now)
         result (state_of state.new) IsPastNames }
 {
-    let from = from.keep_or(alloc, TraceFaultKind::Missing)?;
+    let from = from.to_path_or(alloc, TraceFaultKind::Missing)?;
     let entry = start_file(&state.tree, &from)?;
-    let path = to.keep_or(alloc, TraceFaultKind::NoParent)?;
+    let path = to.to_path_or(alloc, TraceFaultKind::NoParent)?;
     let above = Path::of(alloc, &path.names().parent())?;
     check_free(&state.tree, &above, &path)?;
-    if is_too_much(state.made, path.names().len()) {
+    if is_over_limits(state.made, path.names().len()) {
         return Err(TraceFaultKind::TooLarge);
     }
     let entry = entry.try_clone(alloc)?;
@@ -290,27 +299,28 @@ fn add_link(
     Ok(())
 }
 
-/// Applies the start line of a link: `path` spells one more path of the file at the path that
-/// `from` spells. If either spells no entry, it is BadName.
-pub(crate) fn take_link(
+/// Applies the start line of a link: `to` spells one more path for the file at the path that `from`
+/// spells. A text that spells no path, and the root, are BadName; the other faults are those of
+/// `add_link`.
+pub(crate) fn apply_link(
     alloc: Global,
     state: &mut LinesSoFar,
-    path: &str,
+    to: &str,
     from: &str,
 ) -> Result<(), TraceFaultKind>
     requires { IsBounded (state_of state.old) }
     ensures { Leaves
-        (start_link_step (state_of state.old) path.now from.now)
+        (start_link_step (state_of state.old) to.now from.now)
         result (state_of state.new) IsPastNames }
 {
-    let path = entry_path(path)?;
+    let to = entry_path(to)?;
     let from = entry_path(from)?;
-    add_link(alloc, state, &from, &path)
+    add_link(alloc, state, &from, &to)
 }
 
 /// Applies the header: it sets the version and adds the root. An owner or a group that isn't legal
 /// is BadName.
-pub(crate) fn take_header(
+pub(crate) fn apply_header(
     alloc: Global,
     state: &mut LinesSoFar,
     version: Version,
@@ -325,7 +335,8 @@ pub(crate) fn take_header(
         return Err(TraceFaultKind::BadName);
     }
     state.version = version;
-    let root = keep_entry(state, claims, None)?;
+    let root = new_entry(state, claims, None)?;
+    // The header is the first line, so the root replaces nothing.
     put_entry(alloc, state, Path::root(alloc), root)?;
     Ok(())
 }

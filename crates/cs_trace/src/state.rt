@@ -1,6 +1,6 @@
-//! The state after the lines so far of a trace, and what an operation changes in it. An error is
-//! that memory ran out; then the whole trace is given up, so no clause says what is left. What
-//! the header and the start lines change is in `start`.
+//! The state after the lines so far of a trace, and what an operation changes in it. An error means
+//! out of memory; then the whole trace is given up, so no clause says what is left of the state.
+//! What the header and the start lines change is in `start`.
 ghost use Rattle.std.specs.Prelude.{◌≡◌, ◌<◌, ◌≤◌, ◌+◌, ◌^◌, IfOk, OnOk, List, ℕ, length};
 ghost use Rattle.std.specs.Prelude.{slice_set};
 ghost use Rattle.cs_names.specs.declared.limits.TheConstants.{TREE_RECORDS};
@@ -18,25 +18,27 @@ use std::alloc::{AllocError, Global};
 /// The state after the lines so far.
 #[derive(Drop)]
 pub(crate) struct LinesSoFar {
-    /// That of the header; the first until there is one.
+    /// The version of the header; the first version until there is a header.
     pub(crate) version: Version,
     /// What was at each path at the start, and what is there now.
     pub(crate) tree: Tree,
-    /// The path that each file at the start was made at, by their numbers.
+    /// The path of the start line of each file at the start, by the file's number.
     pub(crate) files: Vec<Path>,
     /// The further paths of files at the start, each with the file's number.
     pub(crate) links: Vec<(Path, u32)>,
     /// The size of each file, by its number.
     pub(crate) sizes: Vec<u64>,
-    /// How many records were ever made.
+    /// How many records were ever made, with those that were removed.
     pub(crate) made: usize,
     /// Owner, group and permissions of each file and directory, if the version has chmod and chown.
     pub(crate) attributes: Attributes,
+    /// The operations, in the order of their lines.
     pub(crate) operations: Vec<Operation>,
 }
 
-/// Moves what is at `from` to `to`, over what is there. If nothing is at `from`, nothing changes.
-fn rename(alloc: Global, tree: &mut Tree, from: &Path, to: &Path) -> Result<(), AllocError>
+/// Moves what is at `from` to `to`, over what is there. If nothing is at `from`, which no checked
+/// rename has, or if both paths are the same, the nodes stay as they are.
+fn move_node(alloc: Global, tree: &mut Tree, from: &Path, to: &Path) -> Result<(), AllocError>
     ensures start { OnOk result (tree.new.start ≡ tree.old.start) }
     ensures nodes { OnOk result (tree.new.nodes
         ≡ paths_after tree.old.nodes (Operation.Rename from.now to.now)) }
@@ -60,7 +62,7 @@ fn move_paths(alloc: Global, tree: &mut Tree, operation: &Operation) -> Result<(
         Operation::Mkdir { path, .. } => { tree.insert(path.try_clone(alloc)?, Node::Directory) }
         Operation::Link { path, file } => { tree.insert(path.try_clone(alloc)?, Node::File(*file)) }
         Operation::Unlink { path } | Operation::Rmdir { path } => tree.remove(alloc, path),
-        Operation::Rename { from, to } => rename(alloc, tree, from, to),
+        Operation::Rename { from, to } => move_node(alloc, tree, from, to),
         Operation::Write { .. }
         | Operation::Truncate { .. }
         | Operation::SetAttr { .. }
@@ -70,7 +72,7 @@ fn move_paths(alloc: Global, tree: &mut Tree, operation: &Operation) -> Result<(
 }
 
 /// The size of a file that had `size` bytes, after a write of these bytes at the offset. A write of
-/// no byte leaves it.
+/// no byte leaves the size as it is, at any offset.
 fn written_size(size: u64, offset: u64, bytes: &Bytes) -> u64
     requires { 0 < length bytes.now → offset + length bytes.now < 2 ^ 64 }
     ensures { result ≡ written_size size offset bytes.now }
@@ -82,7 +84,8 @@ fn written_size(size: u64, offset: u64, bytes: &Bytes) -> u64
     size.max(offset + count)
 }
 
-/// Sets the size of the file of that number. If there is no such file, nothing changes.
+/// Sets the size of the file of that number. If there is no such file, nothing changes; operations
+/// that were checked name only files that there are.
 fn set_size(sizes: &mut [u64], file: u32, size: u64)
     ensures { sizes.new ≡ slice_set sizes.old file size }
 {
@@ -92,8 +95,8 @@ fn set_size(sizes: &mut [u64], file: u32, size: u64)
     }
 }
 
-/// Applies the operation to the sizes of the files: a creat adds one of 0, and a write and a
-/// truncate set one.
+/// Applies the operation to the sizes of the files: a creat adds a size of 0, a write and a
+/// truncate set the size of their file, and the others change nothing.
 fn change_sizes(sizes: &mut Vec<u64>, operation: &Operation) -> Result<(), AllocError>
     requires { IsWithin operation.now }
     ensures { OnOk result (sizes.new.items ≡ sizes_after sizes.old.items operation.now) }
@@ -154,8 +157,8 @@ impl LinesSoFar {
         }
     }
 
-    /// Applies the operation, which was checked in this state, to each part of the state, and
-    /// appends it to the operations.
+    /// Applies the operation, which was checked in this state, to each part of the state (to the
+    /// attributes if the version has them, as in `put_entry`), and appends it to the operations.
     pub(crate) fn apply(&mut self, alloc: Global, operation: Operation) -> Result<(), AllocError>
         requires within { IsWithin operation }
         requires few { self.old.made ≤ TREE_RECORDS }

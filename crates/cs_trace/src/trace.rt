@@ -17,7 +17,7 @@ ghost use Rattle.cs_trace.specs.Traces.{start_sizes, trace_in, trace_of_state};
 ghost use Rattle.cs_trace.specs.declared.fault.TraceFaultKind.TheVariants.{Memory};
 
 use crate::fault::{TraceFault, TraceFaultKind};
-use crate::lines::{line_count, take_lines};
+use crate::lines::{line_count, state_after_lines};
 use crate::operation::{Node, Operation};
 use crate::state::LinesSoFar;
 use cs_names::Path;
@@ -64,7 +64,7 @@ impl Model for Trace {
 
 impl Trace {
     /// The start tree: its records with their paths, in the order of the paths, each numbered by
-    /// its place there.
+    /// its place there, from 0.
     pub fn records(&self) -> &[(Path, Record)]
         ensures value { result.now ≡ self.now.records }
         ensures listing { IsListing self.now.records }
@@ -86,8 +86,8 @@ impl Trace {
         &self.nodes
     }
 
-    /// The path of each of the start's files, in the order of their numbers. A file that has
-    /// further paths has there a record like the one here.
+    /// The path of each of the start's files, in the order of their numbers. A file with further
+    /// paths (`links`) has a record at each; these records differ only in their numbers.
     pub fn files(&self) -> &[Path]
         ensures value { result.now ≡ self.now.files }
         ensures numbered { (n : ℕ) (p : List (List ℕ)) → slice_get self.now.files n ≡ Some p
@@ -134,8 +134,9 @@ impl Trace {
     }
 }
 
-/// Makes the trace of the state after the last line.
-fn finish(alloc: Global, state: LinesSoFar) -> Result<Trace, AllocError>
+/// Makes the trace of the state after the last line. The caller has checked that there was a
+/// header.
+fn trace_of_state(alloc: Global, state: LinesSoFar) -> Result<Trace, AllocError>
     requires { IsTrace (trace_of_state (state_of state)) }
     ensures { IfOk result (λ trace. trace ≡ trace_of_state (state_of state)) }
 {
@@ -213,14 +214,14 @@ pub fn read_trace(alloc: Global, text: &str) -> Result<Trace, TraceFault>
     ensures memory { IfErr result (λ fault. fault.kind ≡ Memory
         → MayWant (lines_in text.now) fault.line) }
 {
-    let state = take_lines(alloc, text)?;
+    let state = state_after_lines(alloc, text)?;
     if state.made == 0 {
         return Err(TraceFault {
             line: 1,
             kind: TraceFaultKind::Syntax,
         });
     }
-    let Ok(trace) = finish(alloc, state) else {
+    let Ok(trace) = trace_of_state(alloc, state) else {
         return Err(TraceFault {
             line: line_count(text),
             kind: TraceFaultKind::Memory,

@@ -11,11 +11,11 @@ ghost use Rattle.cs_trace.specs.Trees.{empty_tree, with_start};
 ghost use Rattle.cs_trace.specs.declared.operation.Node.TheVariants.{Directory};
 
 use crate::entries::Entries;
-use crate::entry::StartFile;
-use crate::near::Near;
+use crate::entry::StartEntry;
+use crate::last_directory::LastDirectory;
 use crate::operation::Node;
 use crate::path_text::PathText;
-use crate::standing::Standing;
+use crate::placed::Placed;
 use cs_names::Path;
 use cs_tree_model::Record;
 use std::alloc::{AllocError, Global};
@@ -30,9 +30,10 @@ pub(crate) struct Tree {
     /// Those at the start that operations removed.
     gone: Entries,
     /// What operations put at a path, perhaps over what was there at the start.
-    placed: Standing,
-    /// The directory of the last start line, which is there: most often the next line's, too.
-    near: Option<Near>,
+    placed: Placed,
+    /// The directory of the last start line, which is in the tree: most often the next line's, too.
+    /// Each change of the tree sets it to None; a start line then sets it again.
+    last_directory: Option<LastDirectory>,
 }
 
 impl Model for Tree {
@@ -47,8 +48,9 @@ impl Model for Tree {
 
     ghost view = { λ tree. model.tree_of tree.kept tree.gone tree.placed };
 
-    ghost invariant = { λ tree. IfSome tree.near (λ near.
-        map.get (model.tree_of tree.kept tree.gone tree.placed).nodes near ≡ Some Directory) };
+    ghost invariant = { λ tree. IfSome tree.last_directory (λ directory.
+        map.get (model.tree_of tree.kept tree.gone tree.placed).nodes directory
+        ≡ Some Directory) };
 }
 
 impl Tree {
@@ -59,8 +61,8 @@ impl Tree {
         Tree {
             kept: Entries::new(alloc),
             gone: Entries::new(alloc),
-            placed: Standing::new(alloc),
-            near: None,
+            placed: Placed::new(alloc),
+            last_directory: None,
         }
     }
 
@@ -75,7 +77,7 @@ impl Tree {
     }
 
     /// The entry that was at the path at the start; None if nothing was. It takes no memory.
-    pub(crate) fn start_entry(&self, path: &Path) -> Option<&StartFile>
+    pub(crate) fn start_entry(&self, path: &Path) -> Option<&StartEntry>
         ensures { option_map (λ entry. entry.now) result ≡ map.get self.now.start path.now }
     {
         match self.kept.entry(path) {
@@ -91,77 +93,85 @@ impl Tree {
         self.placed.has_below(path) || self.kept.has_below(path)
     }
 
-    /// The path of an entry that the text spells, if its directory is that of the last start line;
-    /// only its last name is checked. None for any other text, which may still spell a path.
-    pub(crate) fn near_entry<'a>(&self, text: &'a str) -> Option<PathText<'a>>
+    /// The path that the text spells, if it is in the remembered directory of the last start line;
+    /// only the last name is checked (`LastDirectory::path_in`). None for any other text, which may
+    /// still spell a path, and for every text if no directory is remembered.
+    pub(crate) fn path_in_last_directory<'a>(&self, text: &'a str) -> Option<PathText<'a>>
         ensures { IfSome result (λ path. entry_path_of text.now ≡ Some path) }
     {
-        match &self.near {
-            Some(near) => near.entry(text),
+        match &self.last_directory {
+            Some(directory) => directory.path_in(text),
             None => None,
         }
     }
 
-    /// Takes out the directory of the last start line, if the path is in it; that directory is
-    /// there. None if the path is in another one, or if none is remembered. None is remembered
-    /// afterwards.
+    /// Forgets the directory of the last start line, which is in the tree, and returns it if it is
+    /// the parent of the path. None if the parent is another path, and if no directory was
+    /// remembered.
     #[tactic(auto, using(crate::proofs::Trees::same_path))]
-    pub(crate) fn take_near(&mut self, path: &Path) -> Option<Near>
+    pub(crate) fn take_directory(&mut self, path: &Path) -> Option<LastDirectory>
         ensures same { self.new ≡ self.old }
         ensures above { IfSome result (λ above. above ≡ parent_path path.now) }
-        ensures stands { IfSome result (λ above. map.get self.old.nodes above ≡ Some Directory) }
+        ensures is_there { IfSome result (λ above. map.get self.old.nodes above ≡ Some Directory) }
     {
-        let near = self.near.take()?;
-        if near.path().names() == path.names().parent() {
-            return Some(near);
+        let directory = self.last_directory.take()?;
+        if directory.path().names() == path.names().parent() {
+            return Some(directory);
         }
         None
     }
 
-    /// Remembers the directory of a start line, for `near_entry` and `take_near` of the next line.
-    pub(crate) fn stay_near(&mut self, directory: Near)
+    /// Remembers the directory of a start line, which must be in the tree, for the next line:
+    /// `path_in_last_directory` and `take_directory` then use it.
+    pub(crate) fn remember_directory(&mut self, directory: LastDirectory)
         requires { map.get self.old.nodes directory ≡ Some Directory }
         ensures { self.new ≡ self.old }
     {
-        self.near = Some(directory);
+        self.last_directory = Some(directory);
     }
 
-    /// Makes it faster to add start lines in the directory, if its path is long. After an error, the
-    /// trace is given up.
-    pub(crate) fn gather(&mut self, alloc: Global, directory: &Near) -> Result<(), AllocError>
+    /// Prepares for many start lines in the directory: if its text is long and nothing is below it
+    /// yet, its entries are kept apart from now on (`Entries::keep_apart`). Forgets the directory of
+    /// the last start line in any case. After an error, the trace is given up.
+    pub(crate) fn prepare_for(
+        &mut self,
+        alloc: Global,
+        directory: &LastDirectory,
+    ) -> Result<(), AllocError>
         ensures { OnOk result (self.new ≡ self.old) }
     {
-        self.near = None;
-        if directory.is_long() {
-            self.kept.gather(alloc, directory.path())?;
+        self.last_directory = None;
+        if directory.has_long_text() {
+            self.kept.keep_apart(alloc, directory.path())?;
         }
         Ok(())
     }
 
-    /// Puts the entry at the path, both at the start and now, and returns whether it replaced
-    /// another now. After an error, the trace is given up.
+    /// Puts the entry at the path, both at the start and now, and returns whether anything was
+    /// there until now. After an error, the trace is given up.
     pub(crate) fn insert_start(
         &mut self,
         alloc: Global,
         path: Path,
-        entry: StartFile,
+        entry: StartEntry,
     ) -> Result<bool, AllocError>
-        ensures stood { IfOk result (λ stood. stood ≡ is_some (map.get self.old.nodes path)) }
+        ensures replaced { IfOk result (λ replaced. replaced
+            ≡ is_some (map.get self.old.nodes path)) }
         ensures state { OnOk result (self.new ≡ with_start self.old path entry) }
     {
-        self.near = None;
+        self.last_directory = None;
         let was_placed = self.placed.remove(&path);
         let was_kept = self.kept.insert(alloc, path, entry)?;
         Ok(was_placed || was_kept)
     }
 
-    /// Puts the node at the path now; the start stays as it is. After an error, the trace is given
-    /// up.
+    /// Puts the node at the path now, over anything that is there; the start stays as it is. After
+    /// an error, the trace is given up.
     pub(crate) fn insert(&mut self, path: Path, node: Node) -> Result<(), AllocError>
         ensures start { OnOk result (self.new.start ≡ self.old.start) }
         ensures nodes { OnOk result (self.new.nodes ≡ map.insert self.old.nodes path node) }
     {
-        self.near = None;
+        self.last_directory = None;
         self.placed.insert(path, node)?;
         Ok(())
     }
@@ -172,11 +182,13 @@ impl Tree {
         ensures start { OnOk result (self.new.start ≡ self.old.start) }
         ensures nodes { OnOk result (self.new.nodes ≡ map.remove self.old.nodes path.now) }
     {
-        self.near = None;
+        self.last_directory = None;
+        // Both may have the path: a node may be placed over what was there at the start.
         self.placed.remove(path);
         match self.kept.remove(path) {
             None => Ok(()),
             Some(entry) => {
+                // All start lines come before the first removal, so this replaces nothing.
                 self.gone.insert(alloc, path.try_clone(alloc)?, entry)?;
                 Ok(())
             }
@@ -189,9 +201,9 @@ impl Tree {
         self,
         alloc: Global,
     ) -> Result<(Vec<(Path, Record)>, Vec<Node>), AllocError>
-        ensures records { IfOk result (λ parts. parts.0.items ≡ records_in self.start) }
-        ensures nodes { IfOk result (λ parts. parts.1.items ≡ nodes_in self.start) }
+        ensures records { IfOk result (λ lists. lists.0.items ≡ records_in self.start) }
+        ensures nodes { IfOk result (λ lists. lists.1.items ≡ nodes_in self.start) }
     {
-        self.kept.with_others(alloc, self.gone)?.into_parts(alloc)
+        self.kept.union_with(alloc, self.gone)?.into_lists(alloc)
     }
 }

@@ -9,7 +9,7 @@ use Rattle.cs_trace_lines.specs.Lines.{Change, Claims, Header, Line, Mode, Opera
 use Rattle.cs_trace_lines.specs.Lines.{Start, StartLink, UnknownOperation, UnknownStart, claims_in, content_in, has_only, header_in}
 use Rattle.cs_trace_lines.specs.Lines.{header_key_count, header_with, is_octal, key_count, kind_in, line_by, line_in, line_of, mode_in}
 use Rattle.cs_trace_lines.specs.Lines.{operation_named, operation_of, operation_with, permissions_in, start_key_count, start_line_named}
-use Rattle.cs_trace_lines.specs.Lines.{start_line_with, start_under, start_with, text_in, verb_in, version_in, whole_in}
+use Rattle.cs_trace_lines.specs.Lines.{start_line_with, start_under, start_with, text_in, verb_in, version_in, whole_number_in}
 use Rattle.cs_trace_lines.specs.declared.start.StartKind.{StartKind}
 use Rattle.cs_trace_lines.specs.declared.start.StartKind.TheVariants as kind
 use Rattle.cs_trace_lines.specs.declared.verb.Verb.{Verb}
@@ -110,10 +110,10 @@ operation_octal version verb.Link f =
     and_then_by (text_in f.from) _ HasOctalOperation (λ from. map_by (text_in f.to) _ HasOctalOperation (λ _ _. tt))
 operation_octal version verb.Write f =
     and_then_by (text_in f.path) _ HasOctalOperation
-    (λ path. and_then_by (whole_in f.offset) _ HasOctalOperation
+    (λ path. and_then_by (whole_number_in f.offset) _ HasOctalOperation
     (λ offset. map_by (content_in version f) _ HasOctalOperation (λ _ _. tt)))
 operation_octal version verb.Truncate f =
-    and_then_by (text_in f.path) _ HasOctalOperation (λ path. map_by (whole_in f.length) _ HasOctalOperation (λ _ _. tt))
+    and_then_by (text_in f.path) _ HasOctalOperation (λ path. map_by (whole_number_in f.length) _ HasOctalOperation (λ _ _. tt))
 operation_octal version verb.Chmod f =
     and_then_by (text_in f.path) _ HasOctalOperation (λ path. map_by (mode_in f.mode) _ HasOctalOperation (λ n is. mode_octal f.mode n is))
 operation_octal version verb.Chown f =
@@ -122,7 +122,8 @@ operation_octal version verb.Chown f =
 operation_octal version verb.Fsync f = map_by (text_in f.path) _ HasOctalOperation (λ _ _. tt)
 operation_octal version verb.FsyncRange f =
     and_then_by (text_in f.path) _ HasOctalOperation
-    (λ path. and_then_by (whole_in f.offset) _ HasOctalOperation (λ offset. map_by (whole_in f.length) _ HasOctalOperation (λ _ _. tt)))
+    (λ path. and_then_by (whole_number_in f.offset) _ HasOctalOperation
+    (λ offset. map_by (whole_number_in f.length) _ HasOctalOperation (λ _ _. tt)))
 operation_octal version verb.Sync f = sync_octal
 operation_octal version verb.Say f = map_by (text_in f.text) _ HasOctalOperation (λ _ _. tt)
 

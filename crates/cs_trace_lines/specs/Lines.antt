@@ -81,14 +81,14 @@ abbrev pub text_in : Option Field → Option (List ℕ)
 text_in field = option_and_then text_of field
 
 -- a whole number below 2^64, written without sign, point and exponent
-abbrev pub whole_of : Field → Option ℕ
-whole_of (Text s) = None
-whole_of (Number n) = as_u64 n
-whole_of Other = None
+abbrev pub whole_number_of : Field → Option ℕ
+whole_number_of (Text s) = None
+whole_number_of (Number n) = as_u64 n
+whole_number_of Other = None
 
 -- the same of a field that is in the line
-abbrev pub whole_in : Option Field → Option ℕ
-whole_in field = option_and_then whole_of field
+abbrev pub whole_number_in : Option Field → Option ℕ
+whole_number_in field = option_and_then whole_number_of field
 
 abbrev pub is_octal : ℕ → Bool
 is_octal c = nat_le 48 c && nat_le c 55
@@ -151,7 +151,7 @@ abbrev pub profile_in : Option Field → Option Profile
 profile_in profile = option_and_then profile_named (text_in profile)
 
 abbrev pub block_size_in : Option Field → Option BlockSize
-block_size_in block = option_and_then block_size_of_bytes (whole_in block)
+block_size_in block = option_and_then block_size_of_bytes (whole_number_in block)
 
 -- the version of a header's number
 abbrev pub version_of : Fields → ℕ → Option Version
@@ -164,7 +164,7 @@ version_of f number =
     else None))
 
 abbrev pub version_in : Fields → Option Version
-version_in f = option_and_then (version_of f) (whole_in f.trace)
+version_in f = option_and_then (version_of f) (whole_number_in f.trace)
 
 -- how many keys a header has, a note not counted
 abbrev pub header_key_count : Version → ℕ
@@ -292,9 +292,9 @@ operation_of version verb.Write f =
     option_and_then (λ path.
     option_and_then (λ offset.
     option_map (Write path offset) (content_in version f))
-    (whole_in f.offset)) (text_in f.path)
+    (whole_number_in f.offset)) (text_in f.path)
 operation_of version verb.Truncate f =
-    option_and_then (λ path. option_map (Truncate path) (whole_in f.length)) (text_in f.path)
+    option_and_then (λ path. option_map (Truncate path) (whole_number_in f.length)) (text_in f.path)
 operation_of version verb.Chmod f =
     option_and_then (λ path.
     option_map (λ permissions. SetAttr path (Mode permissions)) (mode_in f.mode)) (text_in f.path)
@@ -307,7 +307,8 @@ operation_of version verb.Fsync f = option_map Fsync (text_in f.path)
 operation_of version verb.FsyncRange f =
     option_and_then (λ path.
     option_and_then (λ offset.
-    option_map (FsyncRange path offset) (whole_in f.length)) (whole_in f.offset)) (text_in f.path)
+    option_map (FsyncRange path offset)
+    (whole_number_in f.length)) (whole_number_in f.offset)) (text_in f.path)
 operation_of version verb.Sync f = Some Sync
 operation_of version verb.Say f = option_map Say (text_in f.text)
 

@@ -17,7 +17,8 @@ pub(crate) enum Field {
     Other,
 }
 
-/// The value of each key of the format; None for a key that the line doesn't have.
+/// The value of each key of the format; None for a key that the line doesn't have. `Fields::new`,
+/// `put` and `has_keys` list the same keys.
 #[derive(Drop)]
 pub(crate) struct Fields {
     pub(crate) trace: Option<Field>,
@@ -80,7 +81,7 @@ impl Fields {
     }
 
     /// Sets the field of a key, and drops what it had before. A key that the format doesn't have
-    /// only sets `has_others`.
+    /// only sets `has_others`. `has_keys` lists the same keys.
     fn put(&mut self, key: &str, field: Field)
         ensures { field_values self.new
             ≡ with_field key.now (field_value field) (field_values self.old) }
@@ -128,7 +129,7 @@ impl Fields {
     }
 
     /// Whether the object has exactly `count` keys of the format, `note` not counted, and no other
-    /// keys.
+    /// keys. The keys are those of `put` without `note`.
     pub(crate) fn has_keys(&self, count: usize) -> bool
         ensures { result ≡ has_keys count (field_values self.now) }
     {

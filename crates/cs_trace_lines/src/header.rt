@@ -1,4 +1,5 @@
-//! Reads the header of a trace from its fields.
+//! Reads the header of a trace from its fields. After a fault, the line is given up; some texts may
+//! be moved out of the fields then.
 ghost use Rattle.std.specs.Prelude.{◌≡◌, option_map};
 ghost use Rattle.cs_trace_lines.specs.Faults.{IsRead};
 ghost use Rattle.cs_trace_lines.specs.Lines.{block_size_in, header_in, header_key_count};
@@ -10,10 +11,10 @@ use crate::fault::LineFault;
 use crate::fields::{Field, Fields};
 use crate::line::Line;
 use crate::profile::Profile;
-use crate::values::{has_only, take_claims, text_of, whole_in};
+use crate::values::{has_only, take_claims, text_of, whole_number_in};
 use crate::version::{BlockSize, Version};
 
-/// The profile of this name: `blocks` or `ordered`. None of any other name.
+/// The profile of this name: `blocks` or `ordered`. None for any other name.
 fn profile_named(name: &str) -> Option<Profile>
     ensures { result ≡ profile_named name.now }
 {
@@ -24,7 +25,7 @@ fn profile_named(name: &str) -> Option<Profile>
     }
 }
 
-/// The profile that the field of `profile` names. Another text, another value or no value is
+/// The profile that the field of `profile` names. An unknown name, another value or no value is
 /// Syntax.
 fn profile_in(profile: &Option<Field>) -> Result<Profile, LineFault>
     ensures { IsRead (λ profile. profile) (profile_in (option_map field_value profile.now)) result }
@@ -32,20 +33,21 @@ fn profile_in(profile: &Option<Field>) -> Result<Profile, LineFault>
     profile_named(text_of(profile)?).ok_or(LineFault::Syntax)
 }
 
-/// The block size in the field of `block`, which has its bytes. Another number, another value or
-/// no value is Syntax.
+/// The block size whose number of bytes is in the field of `block`. Any other number, another value
+/// or no value is Syntax.
 fn block_size_in(block: &Option<Field>) -> Result<BlockSize, LineFault>
     ensures { IsRead (λ block. block) (block_size_in (option_map field_value block.now)) result }
 {
-    BlockSize::of_bytes(whole_in(block)?).ok_or(LineFault::Syntax)
+    BlockSize::of_bytes(whole_number_in(block)?).ok_or(LineFault::Syntax)
 }
 
 /// The version that a header declares: 1, 2 with a profile, or 3 with a profile and a block size.
-/// Another number, or a field that is missing or has another value, is Syntax.
+/// Another number, or a field that is missing or has another value, is Syntax. `header_key_count`
+/// counts the fields that are read here.
 fn version_in(fields: &Fields) -> Result<Version, LineFault>
     ensures { IsRead (λ version. version) (version_in (field_values fields.now)) result }
 {
-    match whole_in(&fields.trace)? {
+    match whole_number_in(&fields.trace)? {
         1 => Ok(Version::First),
         2 => Ok(Version::Second(profile_in(&fields.profile)?)),
         3 => Ok(Version::Third(profile_in(&fields.profile)?, block_size_in(&fields.block)?)),
@@ -53,7 +55,9 @@ fn version_in(fields: &Fields) -> Result<Version, LineFault>
     }
 }
 
-/// How many keys a header of this version has, `note` not counted.
+/// How many keys a header of this version has, `note` not counted: `trace`, `owner`, `group` and
+/// `mode`; from the second version on `profile`, too; and in the third `block`. `version_in` and
+/// `take_claims` read them.
 fn header_key_count(version: Version) -> usize
     ensures { result ≡ header_key_count version }
 {
@@ -65,7 +69,7 @@ fn header_key_count(version: Version) -> usize
 }
 
 /// The header that these fields make; its texts are moved out of them. A key too many or too few,
-/// or another value, is Syntax.
+/// or a value that its key can't have, is Syntax.
 pub(crate) fn header_in(fields: &mut Fields) -> Result<Line, LineFault>
     ensures { IsRead line_value (header_in (field_values fields.old)) result }
 {

@@ -26,6 +26,7 @@ pub enum Line {
     Start(StartLine),
     /// One more path, `path`, of the file at the start that `from` names.
     StartLink { path: String, from: String },
+    /// An operation of a known name.
     Operation(OperationLine),
     /// A start line of no known kind.
     UnknownStart,
@@ -46,19 +47,20 @@ pub struct Claims {
 pub struct StartLine {
     pub path: String,
     pub claims: Claims,
-    /// The bytes of a file; a directory has none.
+    /// The bytes of a file; None for a directory.
     pub content: Option<Vec<u8>>,
 }
 
 /// What a chmod or a chown sets.
 #[derive(Drop)]
 pub enum Change {
-    /// The permissions.
+    /// The permissions, of a chmod.
     Mode(u16),
+    /// The owner and the group, of a chown.
     Owner { owner: String, group: String },
 }
 
-/// An operation.
+/// What the line of an operation says.
 #[derive(Drop)]
 pub enum OperationLine {
     Creat {
@@ -89,6 +91,7 @@ pub enum OperationLine {
         offset: u64,
         bytes: Vec<u8>,
     },
+    /// The file gets `size` bytes; the line's key for them is `length`.
     Truncate {
         path: String,
         size: u64,
@@ -122,8 +125,8 @@ pub fn is_blank(line: &str) -> bool
         .all(|byte| *byte == b' ' || *byte == b'\t' || *byte == b'\r')
 }
 
-/// The fields of the JSON object that a line spells. A text that isn't JSON, or that spells another
-/// value, is Syntax.
+/// The fields of the JSON object that a line spells. A text that isn't JSON, or that spells a value
+/// of another kind, is Syntax; and Memory means that an allocation failed.
 fn fields_in(alloc: Global, text: &str) -> Result<Fields, LineFault>
     ensures { IsRead field_values (option_and_then fields_in (read text.now)) result }
 {
@@ -139,7 +142,8 @@ fn fields_in(alloc: Global, text: &str) -> Result<Fields, LineFault>
 }
 
 /// The line that these fields make: a header if they have `trace`, a start line if `start`, an
-/// operation if `op`. None of the three keys, or more than one, is Syntax.
+/// operation if `op`. None of these three keys, or more than one, is Syntax; the other faults are
+/// those of the reader of its kind. Texts are moved out of the fields, some perhaps before a fault.
 fn line_of(alloc: Global, version: Version, fields: &mut Fields) -> Result<Line, LineFault>
     ensures { IsRead line_value (line_of version (field_values fields.old)) result }
 {
@@ -151,8 +155,9 @@ fn line_of(alloc: Global, version: Version, fields: &mut Fields) -> Result<Line,
     }
 }
 
-/// The line that a text spells in a trace of this version, or Syntax if it spells none. Its names
-/// and paths aren't checked. A header is read in the same way in each version.
+/// The line that a text spells in a trace of this version; Syntax if it spells none, and Memory if
+/// an allocation fails. Its names and paths aren't checked. A header is read in the same way in
+/// each version.
 #[tactic(auto, unfolding(crate::specs::Lines::line_in))]
 pub fn read_line(alloc: Global, version: Version, text: &str) -> Result<Line, LineFault>
     ensures read { IfOk result (λ line. line_in version text.now ≡ Some (line_value line)) }

@@ -1,6 +1,7 @@
 //! Reads the operations from the fields of their lines. Each function moves the texts that it needs
-//! out of the fields. A field that is missing or has another value is Syntax. Only a write depends
-//! on the version once the verb is known, so the other contracts name the first version.
+//! out of the fields. A field that is missing or has another value is Syntax; the line is given up
+//! then, with some texts moved out. Only a write depends on the version once the verb is known, so
+//! the other contracts name the first version.
 ghost use Rattle.std.specs.Prelude.{◌≡◌};
 ghost use Rattle.cs_trace_lines.specs.Faults.{IsRead};
 ghost use Rattle.cs_trace_lines.specs.Lines.{operation_in, operation_of};
@@ -12,7 +13,9 @@ ghost use Rattle.cs_trace_lines.specs.declared.version.Version.TheVariants.{Firs
 use crate::fault::LineFault;
 use crate::fields::Fields;
 use crate::line::{Change, Line, OperationLine};
-use crate::values::{has_only, mode_in, take_claims, take_content, take_text, text_of, whole_in};
+use crate::values::{
+    has_only, mode_in, take_claims, take_content, take_text, text_of, whole_number_in,
+};
 use crate::verb::Verb;
 use crate::version::Version;
 use std::alloc::Global;
@@ -81,8 +84,8 @@ fn read_link(fields: &mut Fields) -> Result<OperationLine, LineFault>
     })
 }
 
-/// Reads a write: the path, the offset and the bytes, which `bytes` has or, in the third version,
-/// `text`.
+/// Reads a write: the path, the offset, and the bytes under the key `bytes` or, in the third
+/// version, `text`.
 fn read_write(
     alloc: Global,
     version: Version,
@@ -93,7 +96,7 @@ fn read_write(
 {
     Ok(OperationLine::Write {
         path: take_text(&mut fields.path)?,
-        offset: whole_in(&fields.offset)?,
+        offset: whole_number_in(&fields.offset)?,
         bytes: take_content(alloc, version, &fields.bytes, &mut fields.text)?,
     })
 }
@@ -105,7 +108,7 @@ fn read_truncate(fields: &mut Fields) -> Result<OperationLine, LineFault>
 {
     Ok(OperationLine::Truncate {
         path: take_text(&mut fields.path)?,
-        size: whole_in(&fields.length)?,
+        size: whole_number_in(&fields.length)?,
     })
 }
 
@@ -151,8 +154,8 @@ fn read_fsync_range(fields: &mut Fields) -> Result<OperationLine, LineFault>
 {
     Ok(OperationLine::FsyncRange {
         path: take_text(&mut fields.path)?,
-        offset: whole_in(&fields.offset)?,
-        length: whole_in(&fields.length)?,
+        offset: whole_number_in(&fields.offset)?,
+        length: whole_number_in(&fields.length)?,
     })
 }
 
@@ -166,8 +169,9 @@ fn read_say(fields: &mut Fields) -> Result<OperationLine, LineFault>
     })
 }
 
-/// The operation of this verb. A field that is missing or has another value is Syntax. The caller
-/// has checked that there are no other keys.
+/// Reads the operation of this verb. A field that is missing or has another value is Syntax. The
+/// caller has checked that there are no other keys. `Verb::key_count` counts the keys that are read
+/// here, and `op`.
 fn operation_of(
     alloc: Global,
     version: Version,
@@ -194,9 +198,9 @@ fn operation_of(
     }
 }
 
-/// The operation that these fields make. If the version has none of that name, it is
-/// UnknownOperation, whatever the other keys are. A key too many or too few, or another value, is
-/// Syntax.
+/// The operation that these fields make. If the version has no operation of the name under `op`, it
+/// is UnknownOperation, whatever the other keys are. A key too many or too few, or a value that its
+/// key can't have, is Syntax.
 pub(crate) fn operation_in(
     alloc: Global,
     version: Version,

@@ -1,10 +1,10 @@
 //! What a file system keeps in order by itself.
 
-/// Which directory operations a file system keeps in order.
+/// Which changes of directory entries a file system keeps in order.
 #[derive(Clone, Copy, Debug, PartialEq, Eq)]
 pub enum Profile {
-    /// Each block and each entry by itself.
+    /// Only those of the same path.
     Blocks,
-    /// Entry operations (create, delete, move) one after another.
+    /// All of them (create, delete, move, link), one after another.
     Ordered,
 }

@@ -1,5 +1,6 @@
 //! Reads the start lines from their fields: what is there before the first operation. Each function
-//! moves the texts that it needs out of the fields.
+//! moves the texts that it needs out of the fields. After a fault, the line is given up, with some
+//! texts moved out.
 ghost use Rattle.std.specs.Prelude.{◌≡◌, option_map};
 ghost use Rattle.cs_trace_lines.specs.Faults.{IsRead};
 ghost use Rattle.cs_trace_lines.specs.Lines.{kind_in, start_key_count, start_line_in, start_under};
@@ -25,7 +26,7 @@ pub(crate) enum StartKind {
 }
 
 impl StartKind {
-    /// The kind of this name: `dir`, `file` or, in the third version, `link`. None of any other
+    /// The kind of this name: `dir`, `file` or, in the third version, `link`. None for any other
     /// name.
     fn of(version: Version, name: &str) -> Option<StartKind>
         ensures { result ≡ kind_in version name.now }
@@ -38,7 +39,8 @@ impl StartKind {
         }
     }
 
-    /// How many keys a start line of this kind has, with `start`, `note` not counted.
+    /// How many keys a start line of this kind has: `start` and those that `read_start` reads. A
+    /// `note` isn't counted.
     fn key_count(self) -> usize
         ensures { result ≡ start_key_count self }
     {
@@ -50,9 +52,9 @@ impl StartKind {
     }
 }
 
-/// The start line of a file with this content, or of a directory if it is None. A path, an owner, a
-/// group or a mode that is missing or has another value is Syntax.
-fn start_with(fields: &mut Fields, content: Option<Vec<u8>>) -> Result<Line, LineFault>
+/// Reads the start line of a file with this content, or of a directory if the content is None. A
+/// path, an owner, a group or a mode that is missing or has another value is Syntax.
+fn read_start_entry(fields: &mut Fields, content: Option<Vec<u8>>) -> Result<Line, LineFault>
     ensures { IsRead line_value
         (start_with (field_values fields.old) (option_map (λ bytes. bytes.items) content)) result }
 {
@@ -63,18 +65,18 @@ fn start_with(fields: &mut Fields, content: Option<Vec<u8>>) -> Result<Line, Lin
     }))
 }
 
-/// The start line of a file, whose content is in `bytes` or, in the third version, in `text`. A
-/// field that is missing or has another value is Syntax.
+/// Reads the start line of a file, whose content is under the key `bytes` or, in the third version,
+/// `text`. A field that is missing or has another value is Syntax.
 fn read_start_file(alloc: Global, version: Version, fields: &mut Fields) -> Result<Line, LineFault>
     ensures { IsRead line_value (start_under version (field_values fields.old) File) result }
 {
     let bytes = take_content(alloc, version, &fields.bytes, &mut fields.text)?;
-    start_with(fields, Some(bytes))
+    read_start_entry(fields, Some(bytes))
 }
 
-/// The start line of a link, which is one more path of the file at `from`. A field that is missing
-/// or isn't a text is Syntax. The contract names the first version, since a link's fields are read
-/// in the same way in all.
+/// Reads the start line of a link, which is one more path of the file at `from`. A field that is
+/// missing or isn't a text is Syntax. The contract names the first version, since a link's fields
+/// are read in the same way in all.
 fn read_start_link(fields: &mut Fields) -> Result<Line, LineFault>
     ensures { IsRead line_value (start_under First (field_values fields.old) Link) result }
 {
@@ -84,9 +86,10 @@ fn read_start_link(fields: &mut Fields) -> Result<Line, LineFault>
     })
 }
 
-/// The start line of this kind. A field that is missing or has another value is Syntax. The caller
-/// has checked that there are no other keys.
-fn start_of(
+/// Reads the start line of this kind. A field that is missing or has another value is Syntax. The
+/// caller has checked that there are no other keys. `StartKind::key_count` counts the keys that are
+/// read here, and `start`.
+fn read_start(
     alloc: Global,
     version: Version,
     kind: StartKind,
@@ -95,15 +98,15 @@ fn start_of(
     ensures { IsRead line_value (start_under version (field_values fields.old) kind) result }
 {
     match kind {
-        StartKind::Directory => start_with(fields, None),
+        StartKind::Directory => read_start_entry(fields, None),
         StartKind::File => read_start_file(alloc, version, fields),
         StartKind::Link => read_start_link(fields),
     }
 }
 
-/// The start line that these fields make. If the version has no kind of that name, it is
-/// UnknownStart, whatever the other keys are. A key too many or too few, or another value, is
-/// Syntax.
+/// The start line that these fields make. If the version has no kind of the name under `start`, it
+/// is UnknownStart, whatever the other keys are. A key too many or too few, or a value that its key
+/// can't have, is Syntax.
 pub(crate) fn start_line_in(
     alloc: Global,
     version: Version,
@@ -117,5 +120,5 @@ pub(crate) fn start_line_in(
     if !has_only(version, kind.key_count(), fields) {
         return Err(LineFault::Syntax);
     }
-    start_of(alloc, version, kind, fields)
+    read_start(alloc, version, kind, fields)
 }

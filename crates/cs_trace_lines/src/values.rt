@@ -3,7 +3,8 @@ ghost use Rattle.std.specs.Prelude.{◌≡◌, None, option_map};
 ghost use Rattle.std.specs.String.{string_bytes};
 ghost use Rattle.cs_trace_lines.specs.Faults.{IsRead};
 ghost use Rattle.cs_trace_lines.specs.Lines.{bytes_in, claims_in, content_by, has_only, is_octal};
-ghost use Rattle.cs_trace_lines.specs.Lines.{may_note, mode_in, permissions_in, text_in, whole_in};
+ghost use Rattle.cs_trace_lines.specs.Lines.{may_note, mode_in, permissions_in, text_in};
+ghost use Rattle.cs_trace_lines.specs.Lines.{whole_number_in};
 ghost use Rattle.cs_trace_lines.specs.Reading.{field_value, field_values};
 ghost use Rattle.cs_trace_lines.specs.Said.{claims_of};
 
@@ -14,7 +15,7 @@ use crate::version::Version;
 use hex::FromHexError;
 use std::alloc::Global;
 
-/// The text in a field, borrowed. Another value or no value is Syntax.
+/// The text in a field, borrowed. A value that isn't a text, or no value, is Syntax.
 pub(crate) fn text_of(field: &Option<Field>) -> Result<&str, LineFault>
     ensures { IsRead (λ text. text.now) (text_in (option_map field_value field.now)) result }
 {
@@ -24,7 +25,8 @@ pub(crate) fn text_of(field: &Option<Field>) -> Result<&str, LineFault>
     }
 }
 
-/// Moves the text out of a field, which is None afterwards. Another value or no value is Syntax.
+/// Moves the text out of a field. A value that isn't a text, or no value, is Syntax. The field is
+/// None afterwards in any case.
 pub(crate) fn take_text(field: &mut Option<Field>) -> Result<String, LineFault>
     ensures { IsRead string_bytes (text_in (option_map field_value field.old)) result }
 {
@@ -36,8 +38,8 @@ pub(crate) fn take_text(field: &mut Option<Field>) -> Result<String, LineFault>
 
 /// The number of a field, if it is a whole number from 0 to 2^64 - 1. Another number, another value
 /// or no value is Syntax.
-pub(crate) fn whole_in(field: &Option<Field>) -> Result<u64, LineFault>
-    ensures { IsRead (λ n. n) (whole_in (option_map field_value field.now)) result }
+pub(crate) fn whole_number_in(field: &Option<Field>) -> Result<u64, LineFault>
+    ensures { IsRead (λ n. n) (whole_number_in (option_map field_value field.now)) result }
 {
     match field {
         Some(Field::Number(number)) => number.as_u64().ok_or(LineFault::Syntax),
@@ -52,7 +54,7 @@ fn is_octal(digit: u8) -> bool
     digit >= b'0' && digit <= b'7'
 }
 
-/// The permissions that three octal digits spell; None of any other text.
+/// The permissions that three octal digits spell, from 0 to 0o777; None for any other text.
 fn permissions_in(text: &str) -> Option<u16>
     ensures { result ≡ permissions_in text.now }
 {
@@ -73,7 +75,7 @@ pub(crate) fn mode_in(mode: &Option<Field>) -> Result<u16, LineFault>
 }
 
 /// The owner, the group and the permissions in the fields; the two names are moved out. A field
-/// that is missing or has another value is Syntax.
+/// that is missing or has another value is Syntax; the names may be moved out then, too.
 pub(crate) fn take_claims(fields: &mut Fields) -> Result<Claims, LineFault>
     ensures { IsRead claims_of (claims_in (field_values fields.old)) result }
 {
@@ -84,8 +86,8 @@ pub(crate) fn take_claims(fields: &mut Fields) -> Result<Claims, LineFault>
     })
 }
 
-/// The bytes that the hexadecimal digits of a field spell, in either case. Another text, another
-/// value or no value is Syntax.
+/// The bytes that the hexadecimal digits of a field spell, in upper or lower case; an empty text
+/// spells none. Another text, such as an odd number of digits, another value or no value is Syntax.
 fn bytes_in(alloc: Global, field: &Option<Field>) -> Result<Vec<u8>, LineFault>
     ensures { IsRead (λ bytes. bytes.items) (bytes_in (option_map field_value field.now)) result }
 {
@@ -97,9 +99,9 @@ fn bytes_in(alloc: Global, field: &Option<Field>) -> Result<Vec<u8>, LineFault>
     }
 }
 
-/// The bytes of a file or a write. They are spelled in hexadecimal by `digits`, if that key is
-/// there. If not, they are those of `text`, which only the third version has, and which is moved
-/// out. If neither gives bytes, it is Syntax.
+/// The bytes of a file or a write. If the field `digits` is there, it spells them in hexadecimal,
+/// and `text` stays as it is. If not, they are those of `text`, which is moved out, and which only
+/// the third version has. A field that is missing or has another value is Syntax.
 pub(crate) fn take_content(
     alloc: Global,
     version: Version,
@@ -119,8 +121,8 @@ pub(crate) fn take_content(
     Ok(take_text(text)?.into_bytes())
 }
 
-/// Whether a line of this version may have this note. It may always have none, and a text in the
-/// third version only.
+/// Whether a line of this version may have this note: no note (None) in each version, a text only
+/// in the third, and another value in none.
 fn may_note(version: Version, note: &Option<Field>) -> bool
     ensures { result ≡ may_note version (option_map field_value note.now) }
 {

@@ -24,7 +24,7 @@ pub(crate) enum Verb {
 }
 
 impl Verb {
-    /// The verb of this name, in whichever version it is. None if no version has the name.
+    /// The verb of this name, from whichever version. None if no version has a verb of this name.
     fn of_name(name: &str) -> Option<Verb>
         ensures { result ≡ verb_named name.now }
     {
@@ -59,7 +59,7 @@ impl Verb {
         }
     }
 
-    /// The verb of this name in a trace of this version. None if the version doesn't have the name.
+    /// The verb of this name in a trace of this version. None if the version has no such verb.
     pub(crate) fn of(version: Version, name: &str) -> Option<Verb>
         ensures { result ≡ verb_in version name.now }
     {
@@ -71,7 +71,8 @@ impl Verb {
         }
     }
 
-    /// How many keys a line with this verb has, with `op`, `note` not counted.
+    /// How many keys a line with this verb has: `op` and those that `operation_of` reads. A `note`
+    /// isn't counted.
     pub(crate) fn key_count(self) -> usize
         ensures { result ≡ key_count self }
     {

@@ -15,7 +15,7 @@ pub enum BlockSize {
 }
 
 impl BlockSize {
-    /// How many bytes a block of this size has.
+    /// How many bytes a block of this size has. `of_bytes` has the same list.
     pub fn bytes(self) -> u64
         ensures { result ≡ block_bytes self }
     {
@@ -27,7 +27,8 @@ impl BlockSize {
         }
     }
 
-    /// The block size of this many bytes. None if it isn't 512, 1,024, 2,048 or 4,096.
+    /// The block size of this many bytes. None if it isn't 512, 1,024, 2,048 or 4,096, as in
+    /// `bytes`.
     pub(crate) fn of_bytes(bytes: u64) -> Option<BlockSize>
         ensures { result ≡ block_size_of_bytes bytes }
     {

@@ -8,11 +8,11 @@ use std::marker::Model;
 
 /// The bytes of a file, in one piece of memory.
 #[derive(Drop)]
-pub struct Bytes {
+pub struct FileBytes {
     bytes: Vec<u8>,
 }
 
-impl Model for Bytes {
+impl Model for FileBytes {
     ghost use Rattle.std.specs.Prelude.{List, ℕ};
 
     ghost Value = { List ℕ };
@@ -20,12 +20,12 @@ impl Model for Bytes {
     ghost view = { λ file. file.bytes.items };
 }
 
-impl Bytes {
-    /// Wraps a file's bytes.
-    pub fn of(bytes: Vec<u8>) -> Bytes
+impl FileBytes {
+    /// A file's bytes, made of these.
+    pub fn of(bytes: Vec<u8>) -> FileBytes
         ensures { result ≡ bytes.items }
     {
-        Bytes { bytes }
+        FileBytes { bytes }
     }
 
     /// The number of bytes.
@@ -35,36 +35,39 @@ impl Bytes {
         self.bytes.len() as u64
     }
 
-    /// At most `count` bytes from `offset` on: fewer if the file ends before, none past its end.
+    /// At most `count` bytes from `offset` on: fewer if the file ends before, none at its end or
+    /// past it.
     pub fn part(&self, offset: u64, count: usize) -> &[u8]
         ensures { result.now ≡ take count (drop offset self.now) }
     {
         part_of(&self.bytes, offset as usize, count)
     }
 
-    /// Writes bytes at an offset. If that is past the end, the bytes between are zeros. It
-    /// allocates only if the file grows; after an error the file is unchanged.
+    /// Writes at least one byte at an offset; the write must end before 2^63. If the offset is past
+    /// the end, the bytes between are zeros. It allocates only if the file grows; after an error
+    /// the file is unchanged.
     pub fn write(&mut self, offset: u64, bytes: &[u8]) -> Result<(), AllocError>
         requires some { 0 < length bytes.now }
         requires room { offset + length bytes.now < 2 ^ 63 }
         ensures ok { OnOk result (self.new ≡ bytes_after_write offset bytes.now self.old) }
         ensures err { OnErr result (self.new ≡ self.old) }
     {
-        write_over(&mut self.bytes, offset as usize, bytes)?;
+        write_growing(&mut self.bytes, offset as usize, bytes)?;
         Ok(())
     }
 
-    /// A copy that has `length` bytes: the first ones, and zeros after them if there are fewer.
-    pub fn with_length(&self, alloc: Global, length: u64) -> Result<Bytes, AllocError>
+    /// A copy that has `length` bytes, which must be fewer than 2^63: the file's first ones, and
+    /// zeros after them if the file has fewer.
+    pub fn with_length(&self, alloc: Global, length: u64) -> Result<FileBytes, AllocError>
         requires { length < 2 ^ 63 }
         ensures { IfOk result (λ file. file ≡ take length (self.now ++ replicate length 0)) }
     {
         let bytes = copy_with_length(alloc, &self.bytes, length as usize)?;
-        Ok(Bytes { bytes })
+        Ok(FileBytes { bytes })
     }
 }
 
-/// Does what `Bytes::part` does, on a slice.
+/// Does what `FileBytes::part` does, on a slice.
 fn part_of(bytes: &[u8], offset: usize, count: usize) -> &[u8]
     ensures { result.now ≡ take count (drop offset bytes.now) }
 {
@@ -74,8 +77,8 @@ fn part_of(bytes: &[u8], offset: usize, count: usize) -> &[u8]
     &rest[..end]
 }
 
-/// Does what `Bytes::write` does, on a vector.
-fn write_over(content: &mut Vec<u8>, offset: usize, bytes: &[u8]) -> Result<(), AllocError>
+/// Does what `FileBytes::write` does, on a vector, which is unchanged after an error.
+fn write_growing(content: &mut Vec<u8>, offset: usize, bytes: &[u8]) -> Result<(), AllocError>
     requires some { 0 < length bytes.now }
     requires room { offset + length bytes.now < 2 ^ 63 }
     ensures ok { OnOk result
@@ -89,7 +92,7 @@ fn write_over(content: &mut Vec<u8>, offset: usize, bytes: &[u8]) -> Result<(), 
     Ok(())
 }
 
-/// Replaces the bytes from `offset` on by the new ones, which don't reach past the end.
+/// Replaces bytes from `offset` on by as many new ones, which must not reach past the end.
 fn overwrite(content: &mut [u8], offset: usize, bytes: &[u8])
     requires { offset + length bytes.now ≤ length content.old }
     ensures bytes { content.new ≡ take offset content.old ++ bytes.now
@@ -99,7 +102,7 @@ fn overwrite(content: &mut [u8], offset: usize, bytes: &[u8])
     content[offset..offset + bytes.len()].copy_from_slice(bytes);
 }
 
-/// Does what `Bytes::with_length` does, on a slice.
+/// Does what `FileBytes::with_length` does, on a slice.
 fn copy_with_length(alloc: Global, bytes: &[u8], length: usize) -> Result<Vec<u8>, AllocError>
     ensures { IfOk result (λ v. v.items ≡ take length (bytes.now ++ replicate length 0)) }
 {

@@ -1,4 +1,5 @@
-//! Copies and new records, which a store makes before it changes anything.
+//! Copies and new records, which a store makes before it changes anything, and the test of a
+//! record's mode.
 ghost use Rattle.std.specs.Prelude.{◌≡◌, ◌≢◌, [], IfOk, IsErr};
 ghost use Rattle.cs_tree_model.specs.Effects.{new_content, new_record};
 ghost use Rattle.cs_tree_model.specs.Record.{is_marked};
@@ -18,7 +19,8 @@ pub fn try_clone_bytes(alloc: Global, bytes: &[u8]) -> Result<Vec<u8>, AllocErro
     Vec::from_slice(alloc, bytes)
 }
 
-/// Copies the name of a user or group; None if there is none.
+/// Copies the name of a user or group; None if there is none. cs_overlay has the same function, for
+/// its own store.
 pub fn try_clone_user(name: &Option<UserName>) -> Result<Option<UserName>, AllocError>
     ensures { IfOk result (λ again. again ≡ name.now) }
 {
@@ -54,7 +56,7 @@ pub fn new_record(
     })
 }
 
-/// The content of a new file: no bytes, or a directory's if the mode says so.
+/// The content of a new file: a directory's if the mode has DMDIR, and else a file's without bytes.
 fn new_content(alloc: Global, mode: u32) -> Content
     ensures { result ≡ new_content mode }
 {
@@ -65,9 +67,9 @@ fn new_content(alloc: Global, mode: u32) -> Content
     }
 }
 
-/// Whether the record's mode is right about its kind: it has a directory's bit exactly if the
-/// record is a directory's.
-pub fn is_marked(file: &Record) -> bool
+/// Whether the record's mode fits its kind: it has a directory's bit exactly if the record is a
+/// directory's.
+pub fn mode_fits_kind(file: &Record) -> bool
     ensures { result ≡ is_marked file.now }
 {
     match file.content.kind() {

@@ -9,7 +9,7 @@ ghost use Rattle.cs_tree.specs.Node.{resized_bytes, step_at, with_at, with_attri
 ghost use Rattle.cs_tree.specs.Node.{with_child, with_name, with_stamp, with_write, without_child};
 ghost use Rattle.cs_tree.specs.Node.{without_node};
 
-use crate::bytes::Bytes;
+use crate::bytes::FileBytes;
 use crate::node::{Body, Node};
 use cs_names::{Name, UserName};
 use cs_tree_model::{Change, Record, Stamp};
@@ -26,8 +26,9 @@ pub fn root_table(alloc: Global, root: Record) -> Result<HashMap<u64, Node>, All
     Ok(nodes)
 }
 
-/// Adds an entry to a directory that is in the table. After an error the table is unchanged.
-fn link(
+/// Adds an entry to a directory, which the caller has in the table, without a stamp. After an error
+/// the table is unchanged.
+fn link_child(
     nodes: &mut HashMap<u64, Node>,
     directory: u64,
     name: String,
@@ -42,23 +43,25 @@ fn link(
 {
     match nodes.get_mut(&directory) {
         Some(node) => node.link(name, number),
+        // the directory is in the table
         None => unreachable!(),
     }
 }
 
-/// Puts a node into the table, which has room for it.
+/// Puts a node into the table, in which the caller has reserved room for it.
 fn insert_node(nodes: &mut HashMap<u64, Node>, number: u64, node: Node)
     requires { 0 < spare nodes.old }
     ensures { Alike (with_at (get nat_eq nodes.old) number (Some node)) (get nat_eq nodes.new) }
 {
     match nodes.insert(number, node) {
         Ok(_) => {}
+        // there is room
         Err(_) => unreachable!(),
     }
 }
 
-/// Adds a new node to the table, and an entry to its directory. After an error the table is
-/// unchanged.
+/// Adds a new node to the table, and an entry to its directory, which the caller has in the table
+/// and stamps. After an error the table is unchanged.
 pub fn add_node(
     nodes: &mut HashMap<u64, Node>,
     directory: u64,
@@ -74,12 +77,12 @@ pub fn add_node(
     ensures err { OnErr result (Alike (get nat_eq nodes.old) (get nat_eq nodes.new)) }
 {
     nodes.reserve(1)?;
-    link(nodes, directory, name, number)?;
+    link_child(nodes, directory, name, number)?;
     insert_node(nodes, number, node);
     Ok(())
 }
 
-/// Stamps a directory after a change of its entries; does nothing if no node has the number.
+/// Stamps a directory, one of whose entries was changed; does nothing if no node has the number.
 pub fn stamp_node(nodes: &mut HashMap<u64, Node>, number: u64, stamp: Stamp)
     requires { CanStampNode (get nat_eq nodes.old) number }
     ensures { Alike (step_at (get nat_eq nodes.old) number (λ d. with_stamp d stamp))
@@ -91,8 +94,8 @@ pub fn stamp_node(nodes: &mut HashMap<u64, Node>, number: u64, stamp: Stamp)
 }
 
 /// Removes an entry of a directory, and stamps the directory; does nothing if no node has the
-/// number.
-fn unlink(nodes: &mut HashMap<u64, Node>, directory: u64, name: &str, stamp: Stamp)
+/// directory's number.
+fn unlink_and_stamp(nodes: &mut HashMap<u64, Node>, directory: u64, name: &str, stamp: Stamp)
     requires { CanStampNode (get nat_eq nodes.old) directory }
     ensures { Alike
         (step_at (get nat_eq nodes.old) directory
@@ -104,7 +107,8 @@ fn unlink(nodes: &mut HashMap<u64, Node>, directory: u64, name: &str, stamp: Sta
     }
 }
 
-/// Removes a file from the table and from its directory, which is stamped.
+/// Removes a file from the table and from its directory, which is stamped. The caller's number is
+/// that of a node, and not of the root.
 pub fn remove_node(nodes: &mut HashMap<u64, Node>, number: u64, stamp: Stamp)
     requires there { IsSome (get nat_eq nodes.old number) }
     requires named { IfSome (get nat_eq nodes.old number) (λ d. IsSome d.name) }
@@ -114,15 +118,19 @@ pub fn remove_node(nodes: &mut HashMap<u64, Node>, number: u64, stamp: Stamp)
         (λ d. Alike (without_node (get nat_eq nodes.old) number d stamp) (get nat_eq nodes.new)) }
 {
     let Some(node) = nodes.remove(&number) else {
+        // the file is in the table
         unreachable!();
     };
-    if let Some(name) = &node.name {
-        unlink(nodes, node.parent, name.as_str(), stamp);
-    }
+    let Some(name) = &node.name else {
+        // only the root has no name
+        unreachable!();
+    };
+    unlink_and_stamp(nodes, node.parent, name.as_str(), stamp);
 }
 
-/// Writes bytes into a file at an offset, and stamps it. After an error the table is unchanged.
-pub fn write(
+/// Writes bytes, at least one, into a file at an offset, and stamps the file, which the caller has
+/// in the table. After an error the table is unchanged.
+pub fn write_node(
     nodes: &mut HashMap<u64, Node>,
     number: u64,
     offset: u64,
@@ -140,6 +148,7 @@ pub fn write(
 {
     match nodes.get_mut(&number) {
         Some(node) => node.write(offset, bytes, stamp),
+        // the file is in the table
         None => unreachable!(),
     }
 }
@@ -157,7 +166,8 @@ fn set_name(nodes: &mut HashMap<u64, Node>, number: u64, name: Name) -> Option<N
     }
 }
 
-/// Renames a file in its directory, which is stamped. After an error the table is unchanged.
+/// Gives a file a new name in its directory, which is stamped. The caller's number is that of a
+/// node, and not of the root, and the name is free there. After an error the table is unchanged.
 pub fn rename(
     nodes: &mut HashMap<u64, Node>,
     number: u64,
@@ -178,25 +188,28 @@ pub fn rename(
 {
     let directory = match nodes.get(&number) {
         Some(node) => node.parent,
+        // the file is in the table
         None => unreachable!(),
     };
     let key = name.as_string().clone()?;
     let name = name.try_clone()?;
-    link(nodes, directory, key, number)?;
-    if let Some(old) = set_name(nodes, number, name) {
-        unlink(nodes, directory, old.as_str(), stamp);
-    }
+    link_child(nodes, directory, key, number)?;
+    let Some(old) = set_name(nodes, number, name) else {
+        // only the root has no name
+        unreachable!();
+    };
+    unlink_and_stamp(nodes, directory, old.as_str(), stamp);
     Ok(())
 }
 
-/// A copy of a file's bytes with that length, and zeros past the old end. None if no length is
-/// given, or the number isn't a file's.
+/// A copy of a file's bytes with that length, and zeros past the old end. None if `length` is None,
+/// or the number is a directory's or no node's.
 pub fn bytes_with_length(
     alloc: Global,
     nodes: &HashMap<u64, Node>,
     number: u64,
     length: Option<u64>,
-) -> Result<Option<Bytes>, AllocError>
+) -> Result<Option<FileBytes>, AllocError>
     requires { IfSome length (λ n. n < 2 ^ 63) }
     ensures { IfOk result (λ bytes. bytes ≡ resized_bytes (get nat_eq nodes.now) number length) }
 {
@@ -212,15 +225,15 @@ pub fn bytes_with_length(
     }
 }
 
-/// Sets the fields that a change names, except the name; does nothing if no node has the number.
+/// Sets the fields that a change has, except the name; does nothing if no node has the number.
 /// `group` is a copy of the change's group, and `bytes` are the file's bytes with the change's
 /// length: the caller makes both before it changes anything, so nothing here can fail.
-pub fn change(
+pub fn set_fields(
     nodes: &mut HashMap<u64, Node>,
     number: u64,
     change: &Change,
     group: Option<UserName>,
-    bytes: Option<Bytes>,
+    bytes: Option<FileBytes>,
     stamp: Stamp,
 )
     requires { CanStampNode (get nat_eq nodes.old) number }

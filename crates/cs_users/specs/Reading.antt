@@ -44,8 +44,7 @@ rows_in lines = filter_map row_in lines
 abbrev pub names : List ℕ → List ℕ → Bool
 names name line = option_map_or (λ row. same_name row.name name) (row_in line) false
 
--- what is wrong with the name on the line of this number; is_taken says whether an earlier line has
--- it
+-- what is wrong with the name on the line of this number; is_taken: an earlier line has it
 abbrev pub fault_of_name : Bool → ℕ → List ℕ → Option UsersFault
 fault_of_name is_taken number name =
     if length name == 0 then Some (EmptyName number)

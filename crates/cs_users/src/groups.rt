@@ -36,19 +36,19 @@ fn listed_members(alloc: Global, rows: &Rows, row: &Row) -> Result<Vec<usize>, A
         (λ places. places.items ≡ filter_map (somebody_at rows.now) row.now.members) }
 {
     row.members()
-        .filter_map(|name| rows.somebody_at(name))
+        .filter_map(|name| rows.place_unless_none(name))
         .collect(alloc)
 }
 
 /// The places of the members that the line lists, and after them that of the line's own user, who
-/// is a member of the group of the same name. A place may come twice.
+/// is a member of the group of the same name, unless that is `none`. A place may come twice.
 fn all_members(alloc: Global, rows: &Rows, row: &Row) -> Result<Vec<usize>, AllocError>
     ensures { IfOk result
         (λ places. places.items
         ≡ filter_map (somebody_at rows.now) (row.now.members ++ row.now.name ∷ [])) }
 {
     let mut places = listed_members(alloc, rows, row)?;
-    if let Some(own) = rows.somebody_at(row.name()) {
+    if let Some(own) = rows.place_unless_none(row.name()) {
         places.push(own)?;
     }
     Ok(places)
@@ -70,7 +70,8 @@ fn marks_if_many(
 }
 
 impl Group {
-    /// The group of the line at that place: the leader and the members that it names, each once.
+    /// The group of the row at that place, which must exist: its leader, and each of its members
+    /// once. The row's own user is a member, unless that is `none`.
     fn of(alloc: Global, rows: &Rows, place: usize) -> Result<Group, AllocError>
         requires { place < length rows.now }
         ensures { IfOk result (IsGroup rows.now place) }
@@ -81,7 +82,7 @@ impl Group {
         members.dedup();
         let marks = marks_if_many(alloc, rows.len(), members.as_slice())?;
         Ok(Group {
-            leader: rows.somebody_at(row.leader()),
+            leader: rows.place_unless_none(row.leader()),
             members,
             marks,
         })
@@ -94,7 +95,8 @@ impl Group {
         self.members.as_slice()
     }
 
-    /// Whether the user at that place is a member.
+    /// Whether the user at that place is a member. The members must ascend, and the marks, if there
+    /// are any, must be theirs, as in each group that `groups_of` makes.
     pub(crate) fn contains(&self, user: usize) -> bool
         requires ascending { IsStrictlyIncreasing self.now.members.items }
         requires marked { IfSome self.now.marks
@@ -108,8 +110,8 @@ impl Group {
         }
     }
 
-    /// Whether the line names the user at that place as the leader; false if no row has the leader
-    /// that it names.
+    /// Whether the line names the user at that place as the leader; false if it names no leader, or
+    /// one that no row has, or `none`.
     pub(crate) fn is_led_by(&self, user: usize) -> bool
         ensures { result ≡ option_map_or (λ place. place == user) self.now.leader false }
     {
@@ -120,7 +122,7 @@ impl Group {
     }
 }
 
-/// The group of each line, in the order of the lines.
+/// The group of each row, in the order of the rows.
 pub(crate) fn groups_of(alloc: Global, rows: &Rows) -> Result<Vec<Group>, AllocError>
     ensures named { AreNamed rows.now }
     ensures groups { IfOk result (λ groups. AreGroups rows.now (length rows.now) groups.items) }

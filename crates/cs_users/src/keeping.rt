@@ -12,8 +12,9 @@ use crate::rows::Rows;
 use cs_names::Pieces;
 use std::alloc::Global;
 
-/// Adds the row of the line with this number, or returns the line's fault, or Memory. A skipped
-/// line adds no row.
+/// Adds the row of the line with this number; a skipped line adds none. The error is the line's
+/// fault, as `check_line` of `reading` finds it, or Memory, and drops the rows. The caller has
+/// tested that the file is text.
 fn add_line(alloc: Global, rows: Rows, number: usize, line: &[u8]) -> Result<Rows, UsersFault>
     requires { IfSome (row_in line.now) (λ row. IsText row.name) }
     ensures good { OnOk result (fault_of_line rows number line.now ≡ None) }
@@ -25,6 +26,7 @@ fn add_line(alloc: Global, rows: Rows, number: usize, line: &[u8]) -> Result<Row
         return Ok(rows);
     }
     let Some(fields) = fields_of(line) else {
+        // it isn't skipped, so it hasn't exactly four fields
         return Err(UsersFault::FieldCount(number));
     };
     check_name(number, fields.name, rows.knows(fields.name))?;
@@ -32,8 +34,8 @@ fn add_line(alloc: Global, rows: Rows, number: usize, line: &[u8]) -> Result<Row
     Ok(rows.with_row(alloc, row)?)
 }
 
-/// The rows of the text's lines, or the fault of the first bad line. The fault is Memory as soon as
-/// an allocation fails, even if a later line is bad.
+/// The rows of the lines of a file that is text, or the fault of the first bad line. The fault is
+/// Memory as soon as an allocation fails, even if a later line is bad. An empty text has no rows.
 pub(crate) fn rows_of_lines(alloc: Global, text: &[u8]) -> Result<Rows, UsersFault>
     requires { IsTrue (is_text text.now) }
     ensures kept { IfOk result (λ rows. rows_or_fault (pieces 10 text.now) ≡ Ok rows) }

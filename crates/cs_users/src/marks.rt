@@ -10,7 +10,7 @@ pub(crate) struct Marks {
     words: Vec<u64>,
 }
 
-/// Sets the bit of the row at that place.
+/// Sets the bit of the row at that place, which must be in one of the words.
 fn mark(words: &mut Vec<u64>, place: usize)
     requires { place / 64 < length words.old.items }
     ensures long { length words.new.items ≡ length words.old.items }
@@ -21,7 +21,8 @@ fn mark(words: &mut Vec<u64>, place: usize)
 }
 
 impl Marks {
-    /// The bits of `count` rows, set at these places. A place past the last row is ignored.
+    /// The bits of `count` rows, set at these places, which count from 0. A place past the last row
+    /// would be ignored, but a group's members are all places of rows.
     pub(crate) fn of(alloc: Global, count: usize, places: &[usize]) -> Result<Marks, AllocError>
         ensures { IfOk result (λ marks. AreMarks count places.now marks.words.items) }
     {
@@ -34,7 +35,7 @@ impl Marks {
         Ok(Marks { words })
     }
 
-    /// Whether the bit of the row at that place is set; false past the last row.
+    /// Whether the bit of the row at that place is set; false past the last word.
     pub(crate) fn is_marked(&self, place: usize) -> bool
         ensures { result ≡ is_marked self.now.words.items place }
     {

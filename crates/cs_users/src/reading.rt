@@ -1,4 +1,5 @@
-//! Finds the first fault of a users file, line by line, without allocating memory.
+//! Finds the first fault of a users file, line by line, without allocating memory. `keeping` finds
+//! the same fault while it makes rows, unless memory runs out first.
 ghost use Rattle.std.specs.Prelude.{◌≡◌, ◌+◌, ◌≤◌, [], length, take};
 ghost use Rattle.std.specs.Result.{result_err};
 ghost use Rattle.cs_names.specs.Pieces.{pieces};
@@ -10,8 +11,8 @@ use crate::row::{fields_of, is_skipped};
 use cs_names::Pieces;
 use cs_names::limits::USER_NAME_BYTES;
 
-/// Finds the fault of the name on the line with this number; Ok if it has none. The caller finds
-/// out whether an earlier line has the same name.
+/// Finds the fault of the name on the line with this number; Ok if it has none. `is_taken` is
+/// whether an earlier line has the same name.
 pub(crate) fn check_name(number: usize, name: &[u8], is_taken: bool) -> Result<(), UsersFault>
     ensures { result_err result ≡ fault_of_name is_taken number name.now }
 {
@@ -47,8 +48,9 @@ fn is_named_before(text: &[u8], before: usize, name: &[u8]) -> bool
         .any(|line| has_name(name, line))
 }
 
-/// Finds the fault of a line of the text that `before` lines precede; Ok if it has none or is
-/// skipped.
+/// Finds the fault of the line after the first `before` lines of the text, as `add_line` of
+/// `keeping` does; Ok if it has none or is skipped. Each of those lines has a newline, so the text
+/// has `before` bytes or more.
 fn check_line(text: &[u8], before: usize, line: &[u8]) -> Result<(), UsersFault>
     requires { before ≤ length text.now }
     ensures { result_err result
@@ -63,6 +65,7 @@ fn check_line(text: &[u8], before: usize, line: &[u8]) -> Result<(), UsersFault>
             let is_taken = is_named_before(text, before, fields.name);
             check_name(number, fields.name, is_taken)
         }
+        // it isn't skipped, so it hasn't exactly four fields
         None => Err(UsersFault::FieldCount(number)),
     }
 }

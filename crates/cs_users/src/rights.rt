@@ -2,7 +2,7 @@
 ghost use Rattle.std.specs.Prelude.{◌≡◌, ◌≤◌, ◌↔◌, IsTrue};
 ghost use Rattle.cs_users.specs.Rights.{HasRight, Owns, bit_of, has_bit, has_right, owns};
 
-use crate::rows::is_none;
+use crate::rows::is_user_none;
 use crate::users::Users;
 
 /// A right on a file; on a directory Execute is the right to search it (intro(5)).
@@ -31,7 +31,7 @@ impl Right {
     }
 }
 
-/// Whether the mode has at least one bit of the mask.
+/// Whether the mode has at least one bit of the mask; false if the mask is 0.
 pub fn has_bit(mode: u32, mask: u32) -> bool
     ensures { result ≡ has_bit mode mask }
 {
@@ -44,7 +44,7 @@ pub fn owns(user: &[u8], owner: &[u8]) -> bool
     ensures test { result ≡ owns user.now owner.now }
     ensures owner { IsTrue result ↔ Owns user.now owner.now }
 {
-    user == owner && !is_none(user)
+    user == owner && !is_user_none(user)
 }
 
 /// Whether the user has the right on a file of this owner, group and mode: by the bits of others,

@@ -51,7 +51,7 @@ pub(crate) fn is_skipped(line: &[u8]) -> bool
     line.is_empty() || line[0] == b'#'
 }
 
-/// The line's fields; None unless there are exactly four.
+/// The fields of a line, even of one that is skipped; None unless there are exactly four.
 fn split_fields(line: &[u8]) -> Option<Fields<'_>>
     ensures { option_map row_of result ≡ row_of_fields (pieces 58 line.now) }
 {
@@ -86,6 +86,7 @@ fn copy_name(alloc: Global, name: &[u8]) -> Result<UserName, AllocError>
     match UserName::read(alloc, name) {
         Ok(name) => Ok(name),
         Err(NameFault::Memory) => Err(AllocError),
+        // the name is legal
         Err(_) => unreachable!(),
     }
 }

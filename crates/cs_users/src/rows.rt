@@ -30,8 +30,8 @@ impl Model for Rows {
     ghost invariant = { λ rows. IsIndexed rows.rows.items rows.places };
 }
 
-/// Whether it is the user `none`, which is a member of no group, leads none and owns nothing.
-pub(crate) fn is_none(user: &[u8]) -> bool
+/// Whether the name is `none`. That user is a member of no group, leads none and owns nothing.
+pub(crate) fn is_user_none(user: &[u8]) -> bool
     ensures { result ≡ same_name user.now none_name }
 {
     user == b"none".as_slice()
@@ -48,7 +48,7 @@ impl Rows {
         }
     }
 
-    /// Adds a row, whose name no row has yet, at the end. An error drops all rows.
+    /// Adds a row, whose name no row has yet, at the end. An error drops all rows, the new one too.
     pub(crate) fn with_row(self, alloc: Global, row: Row) -> Result<Rows, AllocError>
         requires { is_known self row.name ≡ false }
         ensures { IfOk result (λ more. more ≡ self ++ row ∷ []) }
@@ -82,7 +82,7 @@ impl Rows {
         self.rows.len()
     }
 
-    /// The row at that place, from 0.
+    /// The row at that place, counted from 0. There must be one.
     pub(crate) fn at(&self, place: usize) -> &Row
         requires { place < length self.now }
         ensures row { result.now ≡ slice_index_or self.now place result.now }
@@ -92,7 +92,7 @@ impl Rows {
     }
 
     /// The place of the row of that name, from 0; None if no row has it.
-    pub(crate) fn place_of(&self, name: &[u8]) -> Option<usize>
+    pub(crate) fn place_of_name(&self, name: &[u8]) -> Option<usize>
         ensures { result ≡ place_of self.now name.now }
     {
         self.places.get(name).copied()
@@ -102,16 +102,16 @@ impl Rows {
     pub(crate) fn knows(&self, name: &[u8]) -> bool
         ensures { result ≡ is_known self.now name.now }
     {
-        self.place_of(name).is_some()
+        self.place_of_name(name).is_some()
     }
 
-    /// The place of the row of that name; None if no row has it or the name is `none`.
-    pub(crate) fn somebody_at(&self, name: &[u8]) -> Option<usize>
+    /// The place of the row of that name, from 0; None if no row has it or the name is `none`.
+    pub(crate) fn place_unless_none(&self, name: &[u8]) -> Option<usize>
         ensures { result ≡ somebody_at self.now name.now }
     {
-        if is_none(name) {
+        if is_user_none(name) {
             return None;
         }
-        self.place_of(name)
+        self.place_of_name(name)
     }
 }

@@ -46,7 +46,7 @@ impl Users {
     /// The users file that the bytes spell: lines `id:name:leader:members`, the members with commas
     /// between them; empty lines and those that begin with `#` are skipped. An error is NotText, or
     /// the first of FieldCount, EmptyName, LongName and Twice on the first bad line. It is Memory
-    /// only if the file has no fault.
+    /// only if the file has no fault. An empty file has no users.
     pub fn read(alloc: Global, bytes: &[u8]) -> Result<Users, UsersFault>
         ensures exact { ReadsAs UsersFault.Memory result (users_in bytes.now) }
         ensures named { IfOk result AreNamed }
@@ -88,7 +88,8 @@ impl Users {
         Ok(Users { rows, groups })
     }
 
-    /// Whether a line has that name, which is then a legal user name.
+    /// Whether a line has that name, which is then a legal user name. `none` too is known only if a
+    /// line has it.
     pub fn knows(&self, name: &[u8]) -> bool
         ensures test { result ≡ is_known self.now name.now }
         ensures known { IsTrue result ↔ IsKnown self.now name.now }
@@ -103,10 +104,10 @@ impl Users {
         ensures test { result ≡ is_member self.now user.now group.now }
         ensures member { IsTrue result ↔ IsMember self.now user.now group.now }
     {
-        let Some(place) = self.rows.place_of(user) else {
+        let Some(place) = self.rows.place_of_name(user) else {
             return false;
         };
-        match self.rows.place_of(group) {
+        match self.rows.place_of_name(group) {
             Some(line) => self.has_member(line, place),
             None => false,
         }
@@ -118,10 +119,10 @@ impl Users {
         ensures test { result ≡ is_leader self.now user.now group.now }
         ensures leader { IsTrue result ↔ IsLeader self.now user.now group.now }
     {
-        let Some(place) = self.rows.place_of(user) else {
+        let Some(place) = self.rows.place_of_name(user) else {
             return false;
         };
-        match self.rows.place_of(group) {
+        match self.rows.place_of_name(group) {
             Some(line) => self.has_leader(line, place),
             None => false,
         }
@@ -139,7 +140,8 @@ impl Users {
         Some(self.groups[group].members())
     }
 
-    /// Whether the user at that place is a member of the group at that place.
+    /// Whether the user at that place is a member of the group at that place. Both places must be
+    /// those of rows.
     fn has_member(&self, group: usize, user: usize) -> bool
         requires group { group < length self.now }
         requires user { user < length self.now }
@@ -148,7 +150,8 @@ impl Users {
         self.groups[group].contains(user)
     }
 
-    /// Whether the user at that place leads the group at that place.
+    /// Whether the user at that place leads the group at that place, also as a member of a group
+    /// without a leader. Both places must be those of rows.
     fn has_leader(&self, group: usize, user: usize) -> bool
         requires group { group < length self.now }
         requires user { user < length self.now }

@@ -1,5 +1,4 @@
-//! Copies of the texts and lists that a message holds. If there is nothing to copy nothing is
-//! allocated.
+//! Copies of the texts and lists that a message holds. An empty one needs no allocation.
 
 ghost use Rattle.std.specs.Prelude.{◌≡◌, IfOk, OnErr, true};
 ghost use Rattle.std.specs.String.{string_bytes};
@@ -8,7 +7,7 @@ ghost use Rattle.cs_wire.specs.Messages.{names_of, texts_in};
 
 use std::alloc::{AllocError, Global};
 
-/// Copies a text. If it is empty nothing is allocated.
+/// Copies a text. Nothing is allocated for an empty one.
 pub(crate) fn copy_text(alloc: Global, text: &str) -> Result<String, AllocError>
     ensures same { IfOk result (λ copy. string_bytes copy ≡ text.now) }
     ensures grows { OnErr result (has_some text.now ≡ true) }
@@ -19,7 +18,7 @@ pub(crate) fn copy_text(alloc: Global, text: &str) -> Result<String, AllocError>
     String::from_str(alloc, text)
 }
 
-/// Copies the items, in their order. If there are none nothing is allocated.
+/// Copies the items, in their order. Nothing is allocated for an empty list.
 pub(crate) fn copy_items<T: Copy>(alloc: Global, items: &[T]) -> Result<Vec<T>, AllocError>
     ensures same { IfOk result (λ copy. copy.items ≡ items.now) }
     ensures grows { OnErr result (has_some items.now ≡ true) }
@@ -30,7 +29,7 @@ pub(crate) fn copy_items<T: Copy>(alloc: Global, items: &[T]) -> Result<Vec<T>, 
     Vec::from_slice(alloc, items)
 }
 
-/// Copies each of the names, in their order. If there are none nothing is allocated.
+/// Copies each of the names, in their order. Nothing is allocated for an empty list.
 pub(crate) fn copy_names(alloc: Global, names: &[&str]) -> Result<Vec<String>, AllocError>
     ensures same { IfOk result (λ copy. names_of copy.items ≡ texts_in names.now) }
     ensures grows { OnErr result (has_some names.now ≡ true) }

@@ -17,22 +17,23 @@ use crate::message::Qid;
 use crate::stat::StatRef;
 use cs_names::limits::WALK_NAMES;
 
-/// The bytes that no field has taken so far. A field with a fault may leave a part of it taken: the
-/// message is refused then, and nothing more is read.
+/// The bytes that no field has taken so far. If a field is at fault, a part of it may be taken
+/// already: then the whole message is refused, and nothing more is read.
 #[derive(Drop)]
 pub(crate) struct Cursor<'a> {
     pub(crate) rest: &'a [u8],
 }
 
-/// Whether at least one of the bytes is NUL.
+/// Whether at least one of the bytes is NUL; false if there are none.
 pub(crate) fn has_nul(bytes: &[u8]) -> bool
     ensures { result ≡ list_any (λ b. b == 0) bytes.now }
 {
     bytes.iter().any(|b| *b == 0)
 }
 
-/// The bytes as a text; None if they aren't UTF-8 or one of them is NUL.
-fn as_text(bytes: &[u8]) -> Option<&str>
+/// The bytes as a text; None if they aren't UTF-8 or one of them is NUL. The same as `as_text` of
+/// cs_names, but its contract has the `is_text` of this crate.
+fn text_in(bytes: &[u8]) -> Option<&str>
     ensures some { IfSome result (λ s. (s.now ≡ bytes.now) × (is_text bytes.now ≡ true)) }
     ensures none { IfNone result (is_text bytes.now ≡ false) }
 {
@@ -43,7 +44,8 @@ fn as_text(bytes: &[u8]) -> Option<&str>
 }
 
 /// Reads an entry that fills the bytes: a size, and the fields of a stat. The fault is SizeLies if
-/// the size isn't the number of bytes after it, and Trailing if bytes are left after the fields.
+/// the size isn't the number of bytes after it, else that of the first faulty field, else Trailing
+/// if bytes are left after the fields.
 #[tactic(auto, unfolding(crate::specs::Reading::sized_in))]
 fn read_sized_stat(bytes: &[u8]) -> Result<StatRef, WireFault>
     ensures { IsSeenAs stat_in result (sized_in (field_at stat_shape) bytes.now) }
@@ -60,8 +62,8 @@ fn read_sized_stat(bytes: &[u8]) -> Result<StatRef, WireFault>
     Ok(stat)
 }
 
-/// Reads an entry that fills the bytes. Here Short and Trailing become SizeLies, since the message
-/// gave the length of these bytes as that of the entry.
+/// Reads an entry that fills the bytes, as `read_sized_stat` does. But Short and Trailing become
+/// SizeLies, since the message gave the length of these bytes as that of the entry.
 fn read_entry(bytes: &[u8]) -> Result<StatRef, WireFault>
     ensures { IsSeenAs stat_in result (entry_in (field_at stat_shape) bytes.now) }
 {
@@ -85,7 +87,7 @@ impl<'a> Cursor<'a> {
         Ok(front)
     }
 
-    /// Checks that no byte is left. If one is, the fault is Trailing.
+    /// Checks that no byte is left, else the fault is Trailing.
     pub(crate) fn expect_end(&self) -> Result<(), WireFault>
         ensures { IsSeenAs (λ _. tt) result (end_at self.now.rest.now) }
     {
@@ -95,7 +97,8 @@ impl<'a> Cursor<'a> {
         Ok(())
     }
 
-    /// Takes the next N bytes. If there are fewer the fault is Short, and nothing is taken.
+    /// Takes the next N bytes as an array. If there are fewer the fault is Short, and nothing is
+    /// taken.
     fn read_array<const N: usize>(&mut self) -> Result<[u8; N], WireFault>
         ensures { IsFrontSeenAs (λ x. x) result self.new.rest.now (front_at N self.old.rest.now) }
     {
@@ -137,8 +140,9 @@ impl<'a> Cursor<'a> {
         Ok(u64::from_le_bytes(self.read_array()?))
     }
 
-    /// Reads a text: its length in two bytes, and that many bytes. The fault is BadText if these
-    /// aren't UTF-8 or have a NUL. An error may leave a part of it taken.
+    /// Reads a text: its length in two bytes, and that many bytes. The fault is Short if there are
+    /// fewer, and BadText if they aren't UTF-8 or have a NUL. An error may leave a part of the text
+    /// taken.
     #[tactic(auto, unfolding(crate::specs::Reading::field_at, crate::specs::Reading::text_at))]
     pub(crate) fn read_text(&mut self) -> Result<&'a str, WireFault>
         ensures { IsFrontSeenAs (λ x. x.now) result self.new.rest.now
@@ -146,13 +150,14 @@ impl<'a> Cursor<'a> {
     {
         let count = self.read_u16()?;
         let front = self.read_bytes(count as usize)?;
-        match as_text(front) {
+        match text_in(front) {
             None => Err(WireFault::BadText),
             Some(text) => Ok(text),
         }
     }
 
-    /// Reads the 13 bytes of a qid: kind, version and path. An error may leave a part of it taken.
+    /// Reads the 13 bytes of a qid: kind, version and path. An error (Short) may leave a part of it
+    /// taken.
     #[tactic(auto, unfolding(crate::specs::Reading::field_at))]
     pub(crate) fn read_qid(&mut self) -> Result<Qid, WireFault>
         ensures { IsFrontSeenAs qid_of result self.new.rest.now
@@ -165,7 +170,8 @@ impl<'a> Cursor<'a> {
         })
     }
 
-    /// Reads a count in four bytes, and takes that many bytes. An error may leave the count taken.
+    /// Reads a count in four bytes, and takes that many bytes. An error (Short) may leave the count
+    /// taken.
     #[tactic(auto, unfolding(crate::specs::Reading::raw_at))]
     pub(crate) fn read_data(&mut self) -> Result<&'a [u8], WireFault>
         ensures { IsFrontSeenAs (λ x. x.now) result self.new.rest.now (raw_at self.old.rest.now) }
@@ -174,8 +180,8 @@ impl<'a> Cursor<'a> {
         self.read_bytes(count as usize)
     }
 
-    /// Reads `count` texts, without a count before them. An error leaves the texts before the
-    /// faulty one taken.
+    /// Reads `count` texts, at most 16 (the caller has checked), without a count before them. An
+    /// error leaves the texts before the faulty one taken, and maybe a part of it.
     fn read_each_name(&mut self, count: u16) -> Result<Few<&'a str>, WireFault>
         requires { count ≤ WALK_NAMES }
         ensures { IsFrontSeenAs (λ names. texts_in (items_of names)) result self.new.rest.now
@@ -189,8 +195,8 @@ impl<'a> Cursor<'a> {
         Ok(names)
     }
 
-    /// Reads `count` qids, without a count before them. An error leaves the qids before the faulty
-    /// one taken.
+    /// Reads `count` qids, at most 16 (the caller has checked), without a count before them. An
+    /// error (Short) leaves the qids before the faulty one taken, and maybe a part of it.
     fn read_each_qid(&mut self, count: u16) -> Result<Few<Qid>, WireFault>
         requires { count ≤ WALK_NAMES }
         ensures { IsFrontSeenAs (λ qids. map qid_of (items_of qids)) result self.new.rest.now
@@ -209,8 +215,8 @@ impl<'a> Cursor<'a> {
         Ok(qids)
     }
 
-    /// Reads the names of a walk, after their count in two bytes; more than 16 are TooManyNames. An
-    /// error may leave a part of them taken.
+    /// Reads the names of a walk, after their count in two bytes. The fault is TooManyNames if the
+    /// count is above 16, else the first one of a text. An error may leave a part of them taken.
     #[tactic(auto, unfolding(crate::specs::Reading::several_at))]
     pub(crate) fn read_names(&mut self) -> Result<Few<&'a str>, WireFault>
         ensures { IsFrontSeenAs (λ names. texts_in (items_of names)) result self.new.rest.now
@@ -223,8 +229,8 @@ impl<'a> Cursor<'a> {
         self.read_each_name(count)
     }
 
-    /// Reads the qids of a walk, after their count in two bytes; more than 16 are TooManyNames. An
-    /// error may leave a part of them taken.
+    /// Reads the qids of a walk, after their count in two bytes. The fault is TooManyNames if the
+    /// count is above 16, else Short. An error may leave a part of them taken.
     #[tactic(auto, unfolding(crate::specs::Reading::several_at))]
     pub(crate) fn read_qids(&mut self) -> Result<Few<Qid>, WireFault>
         ensures { IsFrontSeenAs (λ qids. map qid_of (items_of qids)) result self.new.rest.now
@@ -238,7 +244,7 @@ impl<'a> Cursor<'a> {
     }
 
     /// Reads the fields of a stat, without a size before them. An error leaves the fields before
-    /// the faulty one taken.
+    /// the faulty one taken, and maybe a part of it.
     #[tactic(auto, unfolding(crate::specs::Reading::field_at))]
     fn read_stat_fields(&mut self) -> Result<StatRef<'a>, WireFault>
         ensures { IsFrontSeenAs stat_in result self.new.rest.now
@@ -259,8 +265,8 @@ impl<'a> Cursor<'a> {
         })
     }
 
-    /// Reads a stat: its length in two bytes, and an entry of that length. An error may leave a
-    /// part of it taken.
+    /// Reads a stat: its length in two bytes, and an entry of that length. The fault is Short if
+    /// there are fewer bytes, else that of `read_entry`. An error may leave a part of it taken.
     #[tactic(auto, unfolding(crate::specs::Reading::boxed_at))]
     pub(crate) fn read_stat(&mut self) -> Result<StatRef<'a>, WireFault>
         ensures { IsFrontSeenAs stat_in result self.new.rest.now

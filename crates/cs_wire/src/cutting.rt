@@ -8,8 +8,8 @@ ghost use Rattle.cs_wire.specs.Framing.{IsUndersized, IsOversized};
 ghost use Rattle.cs_names.specs.declared.limits.TheConstants.{MESSAGE_BYTES};
 ghost use Rattle.cs_wire.specs.Cutting.{Call, Leaves, bytes_fed, messages_given};
 
-/// However a stream is cut into pieces, and whenever its messages are taken, a framer gives the
-/// same messages, in the same order, and what is left is the rest of the bytes.
+/// However a stream is cut into pieces, and whenever `next` is called, a framer gives the same
+/// messages, in the same order, and the rest of the bytes is left in it.
 pub fn any_cutting()
     // The bytes that came are the messages given, in their order, and what is left.
     ensures joined { (calls : List Call) (left : List ℕ) → Leaves [] calls left

@@ -1,5 +1,6 @@
-//! Messages for people, as one line: the type, the tag, and the fields in the manual's order. Each
-//! `print_` function prints the fields of one type, or one kind of field. An error is the writer's.
+//! Messages for people, as one line: the type, the tag, and the fields with their names, in the
+//! order of `table`. Each `print_` function prints the fields of one type, or one kind of field.
+//! The only error is the writer's.
 
 use crate::message::{Qid, RBody, RMessage, Stat, TBody, TMessage};
 use crate::table::{each_reply, each_request};
@@ -42,7 +43,7 @@ fn print_file_of_stat<W: fmt::Write>(
     write!(f, "type {kind} dev {dev} qid {qid} mode {mode:o}")
 }
 
-/// Prints the next fields of a stat: its two times, and its length.
+/// Prints the next fields of a stat: atime, mtime and length.
 fn print_times_of_stat<W: fmt::Write>(
     f: &mut fmt::Formatter<W>,
     atime: u32,
@@ -83,7 +84,7 @@ fn print_number<W: fmt::Write>(f: &mut fmt::Formatter<W>, name: &str, number: u3
     write!(f, " {name} {number}")
 }
 
-/// Prints how many bytes of data there are, and not the bytes.
+/// Prints a field of data: only the number of its bytes, as `count`.
 fn print_count<W: fmt::Write>(f: &mut fmt::Formatter<W>, bytes: &[u8]) -> fmt::Result {
     write!(f, " count {}", bytes.len())
 }
@@ -93,7 +94,7 @@ fn print_qid<W: fmt::Write>(f: &mut fmt::Formatter<W>, name: &str, qid: Qid) -> 
     write!(f, " {name} {qid}")
 }
 
-/// Prints the fields of a Tversion or an Rversion.
+/// Prints the fields of a Tversion or an Rversion: msize and version.
 fn print_version<W: fmt::Write>(
     f: &mut fmt::Formatter<W>,
     msize: u32,
@@ -102,7 +103,7 @@ fn print_version<W: fmt::Write>(
     write!(f, " msize {msize} version {version:?}")
 }
 
-/// Prints the fields of a Tauth, which are also the last ones of a Tattach.
+/// Prints the fields of a Tauth, which are also the last three of a Tattach: afid, uname, aname.
 fn print_tauth<W: fmt::Write>(
     f: &mut fmt::Formatter<W>,
     afid: u32,
@@ -122,12 +123,12 @@ fn print_twalk<W: fmt::Write>(
     write!(f, " fid {fid} newfid {newfid} wname {wname:?}")
 }
 
-/// Prints the fields of a Topen, the mode in hexadecimal.
+/// Prints the fields of a Topen: the fid, and the mode in hexadecimal.
 fn print_topen<W: fmt::Write>(f: &mut fmt::Formatter<W>, fid: u32, mode: u8) -> fmt::Result {
     write!(f, " fid {fid} mode {mode:#04x}")
 }
 
-/// Prints the fields of a Tcreate, the permissions in octal and the mode in hexadecimal.
+/// Prints the fields of a Tcreate: fid, name, permissions in octal, and mode in hexadecimal.
 fn print_tcreate<W: fmt::Write>(
     f: &mut fmt::Formatter<W>,
     fid: u32,
@@ -138,7 +139,7 @@ fn print_tcreate<W: fmt::Write>(
     write!(f, " fid {fid} name {name:?} perm {perm:o} mode {mode:#04x}")
 }
 
-/// Prints the first two fields of a Tread or a Twrite.
+/// Prints the first two fields of a Tread or a Twrite: fid and offset.
 fn print_fid_and_offset<W: fmt::Write>(
     f: &mut fmt::Formatter<W>,
     fid: u32,
@@ -174,7 +175,7 @@ fn print_twstat<W: fmt::Write>(f: &mut fmt::Formatter<W>, fid: u32, stat: &Stat)
     write!(f, " fid {fid} {stat}")
 }
 
-/// Prints the fields of an Ropen or an Rcreate, which are the same.
+/// Prints the fields of an Ropen or an Rcreate: qid and iounit.
 fn print_ropen<W: fmt::Write>(f: &mut fmt::Formatter<W>, qid: Qid, iounit: u32) -> fmt::Result {
     write!(f, " qid {qid} iounit {iounit}")
 }

@@ -26,7 +26,7 @@ pub enum WireFault {
 }
 
 impl fmt::Display for WireFault {
-    /// Prints the fault in words.
+    /// Prints in words why the bytes aren't a message.
     fn fmt<W: fmt::Write>(&self, f: &mut fmt::Formatter<W>) -> fmt::Result {
         match self {
             WireFault::Short => write!(f, "a field runs past the end"),
@@ -44,7 +44,7 @@ impl From<AllocError> for WireFault {
     ghost from_gives = { λ _ e. e ≡ Memory };
 
     /// An allocation that fails is Memory.
-    fn from(_e: AllocError) -> WireFault {
+    fn from(_refused: AllocError) -> WireFault {
         WireFault::Memory
     }
 }
@@ -52,8 +52,8 @@ impl From<AllocError> for WireFault {
 impl<T: Drop> From<AllocFailed<T>> for WireFault {
     ghost from_gives = { λ _ e. e ≡ Memory };
 
-    /// An allocation that fails is Memory; the value that it was for is dropped.
-    fn from(_e: AllocFailed<T>) -> WireFault {
+    /// An allocation that fails is Memory; the value that was to be stored is dropped.
+    fn from(_refused: AllocFailed<T>) -> WireFault {
         WireFault::Memory
     }
 }

@@ -5,7 +5,7 @@ ghost use Rattle.cs_names.specs.declared.limits.TheConstants.{WALK_NAMES};
 
 use cs_names::limits::WALK_NAMES;
 
-/// The most names that a walk can have, and qids that its reply can have.
+/// The most names that a walk can have, and the most qids that its reply can have: 16.
 const PLACES: usize = WALK_NAMES as usize;
 
 /// At most 16 items, in the order that they came.
@@ -20,7 +20,7 @@ impl<T: Copy> Few<T> {
     ghost use Rattle.std.specs.Prelude.{◌≡◌, ◌<◌, ◌++◌, ◌+◌, [], ◌∷◌};
     ghost use Rattle.cs_wire.specs.Few.{items_of};
 
-    /// An empty list. `blank` fills the unused places, and is never seen.
+    /// An empty list. `blank` fills the unused places, which `as_slice` leaves out.
     pub(crate) fn new(blank: T) -> Few<T>
         ensures items { items_of result ≡ [] }
         ensures count { result.count ≡ 0 }
@@ -31,7 +31,7 @@ impl<T: Copy> Few<T> {
         }
     }
 
-    /// Adds an item at the end. The list must have fewer than 16.
+    /// Adds an item at the end. The list must have fewer than 16 items.
     pub(crate) fn push(&mut self, item: T)
         requires { self.old.count < WALK_NAMES }
         ensures items { items_of self.new ≡ items_of self.old ++ item ∷ [] }

@@ -1,6 +1,6 @@
-//! Which messages have a spelling, and its length. Each `size_of_` function gives the bytes that a
-//! field takes, or None if the field can't hold the value. The bytes themselves are made in
-//! `writing`.
+//! Which messages have a spelling, and its length. Each `size_of_` function gives the number of
+//! bytes that a field takes, or None if the field can't hold the value. Its clause `small` bounds
+//! the number, from above in round figures, so that no sum overflows. `writing` makes the bytes.
 
 ghost use Rattle.std.specs.Prelude.{◌≡◌, ◌≤◌, ◌<◌, length, true, IfSome, Some, Option, map, ◌↔◌};
 ghost use Rattle.cs_wire.specs.Fields.{One, Two, Four, Eight, Text, Several, Raw, ◌▸◌, is_text};
@@ -22,7 +22,7 @@ fn size_of_u8(number: &u8) -> usize
     ensures size { size_of One number.now ≡ Some result }
     ensures small { result ≡ 1 }
 {
-    // the contract speaks of the number, the result doesn't need it
+    // the number is in the contract, and the result doesn't depend on it
     know(*number);
     1
 }
@@ -69,15 +69,15 @@ fn size_of_qid(qid: &Qid) -> usize
     size_of_u8(&qid.kind) + size_of_u32(&qid.vers) + size_of_u64(&qid.path)
 }
 
-/// Whether no byte of the text is NUL, which a text of a message may not have.
+/// Whether a message may have the text, which is UTF-8: no byte of it is NUL.
 fn has_no_nul(text: &str) -> bool
     ensures { result ≡ is_text text.now }
 {
     !has_nul(text.as_bytes())
 }
 
-/// The size of a text, with the two bytes of its length; None if it has a NUL or is longer than
-/// 65,535 bytes.
+/// The size of a text, with the two bytes of its length; None if it has a NUL, or is longer than
+/// the 65,535 bytes that two bytes can count.
 #[tactic(auto, unfolding(crate::specs::Fields::size_of))]
 fn size_of_text(text: &str) -> Option<usize>
     ensures size { result ≡ size_of Text text.now }
@@ -89,8 +89,8 @@ fn size_of_text(text: &str) -> Option<usize>
     Some(text.len() + 2)
 }
 
-/// The size of data, with the four bytes of its count; None if it is longer than 4,294,967,295
-/// bytes.
+/// The size of data, with the four bytes of its count; None if it is longer than the 4,294,967,295
+/// bytes that four bytes can count.
 #[tactic(auto, unfolding(crate::specs::Fields::size_of))]
 fn size_of_data(bytes: &[u8]) -> Option<usize>
     ensures size { result ≡ size_of Raw bytes.now }
@@ -102,7 +102,8 @@ fn size_of_data(bytes: &[u8]) -> Option<usize>
     Some(bytes.len() + 4)
 }
 
-/// The sum of the sizes of the names, without a count before them; None if one can't be held.
+/// The sum of the sizes of at most 16 names, without a count before them; None if one of them can't
+/// be held.
 fn size_of_each_name(names: &[String]) -> Option<usize>
     requires { length names.now ≤ WALK_NAMES }
     ensures size { result ≡ sizes_of (size_of Text) (names_of names.now) }
@@ -115,7 +116,7 @@ fn size_of_each_name(names: &[String]) -> Option<usize>
     Some(total)
 }
 
-/// The sum of the sizes of the qids, without a count before them.
+/// The sum of the sizes of at most 16 qids, without a count before them.
 fn size_of_each_qid(qids: &[Qid]) -> usize
     requires { length qids.now ≤ WALK_NAMES }
     ensures size { sizes_of (size_of qid_shape) (map qid_of qids.now) ≡ Some result }
@@ -129,7 +130,7 @@ fn size_of_each_qid(qids: &[Qid]) -> usize
 }
 
 /// The size of a walk's names, with the two bytes of their count; None if there are more than 16,
-/// or if one can't be held.
+/// or if one of them can't be held.
 #[tactic(auto, unfolding(crate::specs::Fields::size_of))]
 fn size_of_names(wname: &[String]) -> Option<usize>
     ensures size { result ≡ size_of (Several Text) (names_of wname.now) }
@@ -169,8 +170,8 @@ fn size_of_stat_fields(stat: &StatRef) -> Option<usize>
     Some(numbers + times + name + users)
 }
 
-/// The size of a stat's entry, with the two bytes of its size; None if that is above 65,535, or if
-/// one of its texts can't be held.
+/// The size of a stat's entry, with the two bytes of its size; None if the whole is above 65,535,
+/// which a message's length of the entry can't count, or if one of its texts can't be held.
 fn size_of_entry(stat: &StatRef) -> Option<usize>
     ensures size { result ≡ entry_size (size_of stat_shape (stat_in stat.now)) }
     ensures small { IfSome result (λ size. size < 65536) }
@@ -182,7 +183,8 @@ fn size_of_entry(stat: &StatRef) -> Option<usize>
     Some(size)
 }
 
-/// The number of bytes of a field; if it can't hold the value, the function returns None.
+/// The number of bytes of a field, by what it holds according to the table; if it can't hold the
+/// value, the function around it returns None.
 macro_rules! field_size {
     (u8 $number:ident) => { size_of_u8($number) };
     (u16 $number:ident) => { size_of_u16($number) };
@@ -196,7 +198,7 @@ macro_rules! field_size {
     (stat $stat:ident) => { 2 + size_of_entry(&$stat.as_stat_ref())? };
 }
 
-/// The number of bytes of a body's fields, one match arm for each row of the table.
+/// The number of bytes of a body's fields, with one match arm for each row of the table.
 macro_rules! size_of_body {
     (($body:ident $bodies:ident)
     $($name:ident $title:literal $code:literal { $($field:ident: $holds:ident),* })*) => {
@@ -231,12 +233,14 @@ fn size_with_header(tag: &u16, fields: Option<usize>) -> Option<usize>
     requires { IfSome fields (λ size. size ≤ 4295000000) }
     ensures size { result ≡ sum_if_both (size_of (Four ▸ One ▸ Two) (0, (0, tag.now))) fields }
 {
+    // four bytes of size, one of type
     Some(5 + size_of_u16(tag) + fields?)
 }
 
 impl TMessage<'_> {
-    /// Whether it has a spelling of at most 65,536 bytes: each text is shorter than 65,536 bytes
-    /// and has no NUL, and a walk has at most 16 names.
+    /// Whether the request has a spelling of at most 65,536 bytes: each text is shorter than 65,536
+    /// bytes and has no NUL, a walk has at most 16 names, and a stat's entry is shorter than 65,536
+    /// bytes.
     pub fn fits(&self) -> bool
         ensures { result ≡ true ↔ Fits (t_view self.now) }
     {
@@ -246,18 +250,20 @@ impl TMessage<'_> {
         }
     }
 
-    /// The length of its spelling in bytes. The message must fit.
+    /// The length of the request's spelling in bytes. The request must fit.
     pub fn spelled_length(&self) -> usize
         requires { Fits (t_view self.now) }
         ensures { result ≡ length (spelling (t_view self.now)) }
     {
+        // a message that fits has a size
         size_with_header(&self.tag, size_of_request_fields(&self.body)).unwrap()
     }
 }
 
 impl RMessage {
-    /// Whether it has a spelling of at most 65,536 bytes: each text is shorter than 65,536 bytes
-    /// and has no NUL, a walk has at most 16 qids, and a stat's entry is shorter than 65,536 bytes.
+    /// Whether the reply has a spelling of at most 65,536 bytes: each text is shorter than 65,536
+    /// bytes and has no NUL, a walk has at most 16 qids, and a stat's entry is shorter than 65,536
+    /// bytes.
     pub fn fits(&self) -> bool
         ensures { result ≡ true ↔ Fits (r_view self.now) }
     {
@@ -267,29 +273,31 @@ impl RMessage {
         }
     }
 
-    /// The length of its spelling in bytes. The message must fit.
+    /// The length of the reply's spelling in bytes. The reply must fit.
     pub fn spelled_length(&self) -> usize
         requires { Fits (r_view self.now) }
         ensures { result ≡ length (spelling (r_view self.now)) }
     {
+        // a message that fits has a size
         size_with_header(&self.tag, size_of_reply_fields(&self.body)).unwrap()
     }
 }
 
 impl StatRef<'_> {
-    /// Whether it has an entry: the entry and each text are shorter than 65,536 bytes, and no text
-    /// has a NUL.
+    /// Whether the stat has an entry: the entry and each text are shorter than 65,536 bytes, and no
+    /// text has a NUL.
     pub fn fits(&self) -> bool
         ensures { result ≡ true ↔ IsEntry (stat_in self.now) }
     {
         size_of_entry(self).is_some()
     }
 
-    /// The length of its entry in bytes, with the two of its size. It must have an entry.
+    /// The length of the stat's entry in bytes, with the two of its size. The stat must fit.
     pub fn entry_length(&self) -> usize
         requires { IsEntry (stat_in self.now) }
         ensures { result ≡ length (stat_entry (stat_in self.now)) }
     {
+        // a stat that fits has a size
         size_of_entry(self).unwrap()
     }
 }

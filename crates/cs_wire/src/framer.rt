@@ -20,14 +20,14 @@ use std::marker::Model;
 pub enum FrameFault {
     /// The next size is below 7, the bytes of size, type and tag.
     Undersize,
-    /// The next size is above 65,536.
+    /// The next size is above MESSAGE_BYTES, 65,536.
     Oversize,
-    /// The stream ended inside a message.
+    /// The stream ended inside a message, or before `next` gave all of its messages.
     Cut,
 }
 
 impl fmt::Display for FrameFault {
-    /// Prints the fault in words.
+    /// Prints in words why the stream has no further message.
     fn fmt<W: fmt::Write>(&self, f: &mut fmt::Formatter<W>) -> fmt::Result {
         match self {
             FrameFault::Undersize => write!(f, "a message's size is below 7"),
@@ -37,8 +37,8 @@ impl fmt::Display for FrameFault {
     }
 }
 
-/// Bytes of size, type and tag, which each message has.
-const LEAST_MESSAGE: usize = 7;
+/// The number of bytes of size, type and tag together, with which each message begins.
+pub(crate) const HEADER_BYTES: usize = 7;
 
 /// The size that the bytes begin with; None if its four bytes aren't all there.
 #[tactic(auto, unfolding(crate::specs::Framing::size_in))]
@@ -52,14 +52,14 @@ fn size_in_front(bytes: &[u8]) -> Option<usize>
 }
 
 /// The size of the message that the bytes begin with; None if not all of its bytes are there yet. A
-/// size below 7 or above 65,536 is a fault as soon as its four bytes are there.
+/// size below 7 is Undersize and one above 65,536 Oversize, as soon as its four bytes are there.
 fn whole_in_front(bytes: &[u8]) -> Result<Option<usize>, FrameFault>
     ensures { FrontIs result bytes.now }
 {
     match size_in_front(bytes) {
         None => Ok(None),
         Some(size) => {
-            if size < LEAST_MESSAGE {
+            if size < HEADER_BYTES {
                 return Err(FrameFault::Undersize);
             }
             if size > MESSAGE_BYTES as usize {
@@ -73,7 +73,7 @@ fn whole_in_front(bytes: &[u8]) -> Result<Option<usize>, FrameFault>
     }
 }
 
-/// The bytes of a stream that came, in one buffer, and the place up to which they were given.
+/// The bytes of a stream that came, in one buffer, and how many of them were given as messages.
 ///
 /// Bytes move only if there isn't enough room after them: then those that weren't given yet move to
 /// the front, and the buffer grows if that isn't enough. If the caller takes every whole message
@@ -81,8 +81,11 @@ fn whole_in_front(bytes: &[u8]) -> Result<Option<usize>, FrameFault>
 /// them.
 #[derive(Drop)]
 pub struct Framer {
+    // the bytes that came, and after them room for more
     buffer: Vec<u8>,
+    // how many of the bytes that came, from the front, were given as messages
     place: usize,
+    // how many bytes came: the room begins there
     filled: usize,
 }
 
@@ -106,7 +109,7 @@ impl Framer {
     ghost use Rattle.cs_wire.specs.contracts.framer.Framer.{the_row};
     ghost use Rattle.cs_wire.specs.Lending.{LendsRoom};
 
-    /// A framer without bytes, which has allocated nothing.
+    /// An empty framer. It takes no memory.
     pub fn new(alloc: Global) -> Framer
         ensures { result ≡ record { bytes = []; place = 0; room = [] } }
     {
@@ -117,7 +120,7 @@ impl Framer {
         }
     }
 
-    /// The bytes in the buffer, and the number of them that were given already.
+    /// The bytes in the buffer, and how many of them, from the front, were given already.
     pub fn buffered(&self) -> (&[u8], usize)
         ensures bytes { result.0.now ≡ self.now.bytes }
         ensures place { result.1 ≡ self.now.place }
@@ -128,7 +131,7 @@ impl Framer {
 
     /// Makes room for `count` bytes after those that came. If there is room already nothing moves;
     /// else the bytes that weren't given yet move to the front, and the buffer grows if that isn't
-    /// enough. After an `Err` the framer is as it was.
+    /// enough. The only error is that memory runs out; then the framer is unchanged.
     pub fn reserve(&mut self, count: usize) -> Result<(), AllocError>
         ensures ok { OnOk result (count ≤ length self.new.room) }
         ensures left { pending_bytes self.new ≡ pending_bytes self.old }
@@ -142,6 +145,7 @@ impl Framer {
             return Ok(());
         }
         let kept = self.filled - self.place;
+        // more bytes than a usize counts are out of memory too
         let needed = kept.checked_add(count).ok_or(AllocError)?;
         if needed > self.buffer.len() {
             self.buffer.resize(needed, 0)?;
@@ -150,8 +154,9 @@ impl Framer {
         Ok(())
     }
 
-    /// Moves the bytes that weren't given yet to the front, so that all after them is room. It
-    /// allocates nothing.
+    /// Moves the bytes that weren't given yet to the front, over those that were, so that all after
+    /// them is room. It allocates nothing. If no byte was given yet nothing changes, and the room
+    /// may be empty.
     pub fn make_room(&mut self)
         ensures left { pending_bytes self.new ≡ pending_bytes self.old }
         ensures size { size_of self.new ≡ size_of self.old }
@@ -184,7 +189,7 @@ impl Framer {
     }
 
     /// Takes the next piece of the stream. If there is room for it, nothing moves and nothing is
-    /// allocated. After an `Err` the framer is as it was.
+    /// allocated. The only error is that memory runs out; then the framer is unchanged.
     pub fn feed(&mut self, piece: &[u8]) -> Result<(), AllocError>
         ensures ok { OnOk result (pending_bytes self.new ≡ pending_bytes self.old ++ piece.now) }
         ensures enough { length (pending_bytes self.old) + length piece.now ≤ size_of self.old
@@ -200,8 +205,8 @@ impl Framer {
         Ok(())
     }
 
-    /// Cut if the stream can't end here: bytes are left that weren't given, either a part of a
-    /// message or whole messages that weren't taken by `next`.
+    /// Checks that the stream may end here: all bytes that came were given. Else the fault is Cut,
+    /// whether a part of a message is left or whole ones that `next` hasn't given yet.
     pub fn end(&self) -> Result<(), FrameFault>
         ensures { MatchResult result (λ _. pending_bytes self.now ≡ [])
             (λ fault. (fault ≡ FrameFault.Cut) × (pending_bytes self.now ≢ [])) }
@@ -215,7 +220,8 @@ impl Framer {
     /// The next whole message, lent from the buffer; None if it hasn't come yet (intro(5)).
     ///
     /// A size below 7 is Undersize and one above 65,536 Oversize, as soon as its four bytes are
-    /// there. After these, and after None, the framer is as it was, and answers the same again.
+    /// there. After these faults, and after None, the framer is unchanged, and answers the same
+    /// again.
     pub fn next(&mut self) -> Result<Option<&[u8]>, FrameFault>
         ensures* { sem 𝓛 (Rests the_row self.entry (λ new. NextGives result self.old new)) }
     {

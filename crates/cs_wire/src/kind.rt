@@ -1,4 +1,4 @@
-//! The types of messages, without their fields.
+//! The types of messages, without their fields: one variant for each row of `table`.
 
 ghost use Rattle.std.specs.Prelude.{◌≡◌};
 ghost use Rattle.cs_wire.specs.Messages.{t_kind_of, r_kind_of};
@@ -42,7 +42,7 @@ pub enum RKind {
     Wstat,
 }
 
-/// The type of that number, from the table.
+/// The type of that number, from the table; None if no row has it.
 macro_rules! kind_of_number {
     (($number:ident $kinds:ident)
     $($name:ident $title:literal $code:literal { $($field:ident: $holds:ident),* })*) => {

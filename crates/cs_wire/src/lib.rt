@@ -1,5 +1,5 @@
 //! The messages of 9P2000 as bytes: one grammar for decoding and encoding, and a buffer that finds
-//! the messages in a stream. Whether the server grants a request is no question of this crate.
+//! the messages in a stream. Whether the server grants a request is decided elsewhere.
 #![tactic(auto)]
 
 mod copying;

@@ -1,4 +1,5 @@
-//! The messages of 9P2000, as intro(5) lists them: a tag, and a body with the fields of its type.
+//! The messages of 9P2000, as intro(5) lists them: a tag, and a body with the fields of its type,
+//! which are also in `table`.
 
 use std::borrow::CowStr;
 

@@ -9,6 +9,7 @@ ghost use Rattle.cs_wire.specs.Answers.{IsSeenAsOrMemory, IsSeenAs, Gives, IsRea
 
 use crate::cursor::Cursor;
 use crate::fault::WireFault;
+use crate::framer::HEADER_BYTES;
 use crate::kind::{RKind, TKind};
 use crate::message::{RMessage, TMessage};
 use crate::replies::read_reply_fields;
@@ -16,13 +17,13 @@ use crate::requests::read_request_fields;
 use std::alloc::Global;
 
 /// Reads the first seven bytes of a message, and returns the type's number, the tag and the bytes
-/// of the fields. It is Short if there are fewer than 7 bytes, and SizeLies if the size isn't the
-/// number of all bytes.
+/// of the fields. The fault is Short if there are fewer than 7 bytes, and SizeLies if the size
+/// isn't the number of all bytes.
 #[tactic(auto, unfolding(crate::specs::Reading::header_at))]
 fn read_header(bytes: &[u8]) -> Result<(u8, u16, Cursor), WireFault>
     ensures { IsSeenAs (λ x. (x.0, x.1, x.2.rest.now)) result (header_at bytes.now) }
 {
-    if bytes.len() < 7 {
+    if bytes.len() < HEADER_BYTES {
         return Err(WireFault::Short);
     }
     let mut cursor = Cursor { rest: bytes };
@@ -35,8 +36,8 @@ fn read_header(bytes: &[u8]) -> Result<(u8, u16, Cursor), WireFault>
     Ok((number, tag, cursor))
 }
 
-/// The client's message that the bytes spell, or the first fault. `decode_request` says in its
-/// clauses what that means.
+/// The client's message that the bytes spell, or the first fault, in the order of `decode_request`,
+/// whose clauses say what that means.
 #[tactic(auto, unfolding(crate::specs::Reading::message_of))]
 fn read_request(alloc: Global, bytes: &[u8]) -> Result<TMessage<'_>, WireFault>
     ensures { IsSeenAsOrMemory t_view result (message_of requests bytes.now) }
@@ -46,8 +47,8 @@ fn read_request(alloc: Global, bytes: &[u8]) -> Result<TMessage<'_>, WireFault>
     read_request_fields(alloc, kind, tag, fields)
 }
 
-/// The reply that the bytes spell, or the first fault. `decode_reply` says in its clauses what that
-/// means.
+/// The reply that the bytes spell, or the first fault, in the order of `decode_request`. What that
+/// means is in the clauses of `decode_reply`.
 #[tactic(auto, unfolding(crate::specs::Reading::message_of))]
 fn read_reply(alloc: Global, bytes: &[u8]) -> Result<RMessage, WireFault>
     ensures { IsSeenAsOrMemory r_view result (message_of replies bytes.now) }
@@ -59,10 +60,10 @@ fn read_reply(alloc: Global, bytes: &[u8]) -> Result<RMessage, WireFault>
 
 /// The client's message that the bytes spell, all of the bytes (intro(5)).
 ///
-/// Else the first fault, from the left: fewer than 7 bytes, a size that isn't their number, a type
-/// that isn't known, then the fields one after the other, then bytes that are left. It is
-/// `Memory` only if the bytes are a message that has a text or a list that isn't empty: an empty
-/// one needs no allocation, and the data of a write is lent, not copied.
+/// Else the first fault, in this order: fewer than 7 bytes, a size that isn't their number, a type
+/// that isn't in the table, then the fields one after the other, then bytes that are left. The
+/// fault is `Memory` only if the bytes are a message with a text or a list that isn't empty: an
+/// empty one needs no allocation, and the data of a write is lent, not copied.
 pub fn decode_request(alloc: Global, bytes: &[u8]) -> Result<TMessage<'_>, WireFault>
     // What is read is spelled so.
     ensures found { IfOk result (λ m. IsMessage (t_view m) × (bytes.now ≡ spelling (t_view m))) }
@@ -97,8 +98,8 @@ pub fn decode_reply(alloc: Global, bytes: &[u8]) -> Result<RMessage, WireFault>
     read_reply(alloc, bytes)
 }
 
-/// Different messages have different spellings, and none of them is the beginning of another: so a
-/// message that was written is read again, whatever follows it.
+/// Different messages have different spellings, and no spelling is the beginning of another: so the
+/// bytes that begin with a message's spelling begin with that of no other.
 pub fn one_spelling()
     ensures requests { (a b : Message requests) (x y : List ℕ) → IsMessage a → IsMessage b
         → spelling a ++ x ≡ spelling b ++ y → (a ≡ b) × (x ≡ y) }

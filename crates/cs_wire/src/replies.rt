@@ -1,5 +1,5 @@
-//! The fields of each reply, read and copied in the order of `requests`. The data of a read is
-//! copied too.
+//! The fields of each reply. As in `requests`, they are read first, then no byte may be left, and
+//! only then are texts and lists copied. The data of a read is copied too.
 
 ghost use Rattle.cs_wire.specs.declared.kind.RKind.TheVariants as rk;
 ghost use Rattle.cs_wire.specs.Messages.{replies, r_view};
@@ -200,7 +200,8 @@ fn read_rwstat(tag: u16, fields: Cursor) -> Result<RMessage, WireFault>
     })
 }
 
-/// The reply of that type and tag whose fields are all of the bytes, or the first fault.
+/// The reply of that type and tag whose fields are all of the bytes, or the first fault; Memory is
+/// the last.
 pub(crate) fn read_reply_fields(
     alloc: Global,
     kind: RKind,

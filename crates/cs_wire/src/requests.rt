@@ -213,7 +213,8 @@ fn read_twstat(alloc: Global, tag: u16, mut fields: Cursor<'_>) -> Result<TMessa
     Ok(TMessage { tag, body })
 }
 
-/// The request of that type and tag whose fields are all of the bytes, or the first fault.
+/// The request of that type and tag whose fields are all of the bytes, or the first fault; Memory
+/// is the last.
 pub(crate) fn read_request_fields(
     alloc: Global,
     kind: TKind,

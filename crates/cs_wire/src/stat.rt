@@ -8,7 +8,7 @@ use crate::copying::copy_text;
 use crate::message::{Qid, Stat};
 use std::alloc::{AllocError, Global};
 
-/// What a stat says of a file (stat(5)), with borrowed texts.
+/// A stat as `Stat` is, field by field, but with borrowed texts (stat(5)).
 #[derive(Clone, Copy)]
 pub struct StatRef<'a> {
     pub kind: u16,
@@ -25,7 +25,7 @@ pub struct StatRef<'a> {
 }
 
 impl StatRef<'_> {
-    /// Copies the texts into a stat that owns them. It allocates only if a text isn't empty.
+    /// The same stat, with its texts copied. It allocates only for a text that isn't empty.
     pub fn to_stat(&self, alloc: Global) -> Result<Stat, AllocError>
         ensures same { IfOk result (λ copy. stat_of copy ≡ stat_in self.now) }
         ensures grows { OnErr result (holds_bytes stat_shape (stat_in self.now) ≡ true) }

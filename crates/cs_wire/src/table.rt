@@ -1,6 +1,7 @@
 //! Each type of message: its name, its number, and its fields in the manual's order by what they
-//! hold. A field of `u8` to `u64` is a number, `names` and `qids` are those of a walk, and `data`
-//! is bytes after their count. A macro that gets the table writes one match arm for each row.
+//! hold. A field of `u8` to `u64` is a number, `names` and `qids` are those of a walk, `data` is
+//! bytes after their count, and `text`, `qid` and `stat` are one each. A macro that gets the table
+//! writes one match arm for each row.
 
 /// The messages that clients send.
 macro_rules! each_request {

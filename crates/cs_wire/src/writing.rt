@@ -1,6 +1,6 @@
-//! Messages as bytes. Each `put_` function appends to a `Vec` that has room for it, so it allocates
-//! nothing and can't fail. Only the public ones make room first. How long a message is, and whether
-//! it can be written at all, is found in `fitting`.
+//! Messages as bytes. Each `put_` function appends what its field can hold to a `Vec` that has room
+//! for it, so it allocates nothing and can't fail. Only the public functions make room first. How
+//! long a message is, and whether it can be written at all, is found in `fitting`.
 
 ghost use Rattle.std.specs.Prelude.{◌≡◌, ◌≤◌, ◌+◌, ◌++◌, length, map, vec_len, vec_capacity, OnOk};
 ghost use Rattle.std.specs.Prelude.{OnErr, IsOk};
@@ -25,6 +25,7 @@ fn put_bytes(out: &mut Vec<u8>, bytes: &[u8])
     ensures len { vec_len out.new ≡ vec_len out.old + length bytes.now }
     ensures capacity { vec_capacity out.old ≤ vec_capacity out.new }
 {
+    // the caller has reserved the memory
     out.extend_from_slice(bytes).unwrap();
 }
 
@@ -72,7 +73,7 @@ fn put_u64(out: &mut Vec<u8>, number: u64)
     put_bytes(out, &number.to_le_bytes());
 }
 
-/// Appends a text: its length in two bytes, and its bytes.
+/// Appends a text: its length in two bytes, which `fits` bounds, and its bytes.
 #[tactic(auto, unfolding(crate::specs::Fields::bytes_of_field))]
 fn put_text(out: &mut Vec<u8>, text: &str)
     requires fits { IsIn Text text.now }
@@ -129,7 +130,7 @@ fn put_each_qid(out: &mut Vec<u8>, qids: &[Qid])
     }
 }
 
-/// Appends the names of a walk, after their count in two bytes.
+/// Appends the names of a walk, at most 16, after their count in two bytes.
 #[tactic(auto, unfolding(crate::specs::Fields::bytes_of_field))]
 fn put_names(out: &mut Vec<u8>, names: &[String])
     requires fits { IsIn (Several Text) (names_of names.now) }
@@ -145,7 +146,7 @@ fn put_names(out: &mut Vec<u8>, names: &[String])
     put_each_name(out, names);
 }
 
-/// Appends the qids of a walk, after their count in two bytes.
+/// Appends the qids of a walk, at most 16, after their count in two bytes.
 #[tactic(auto, unfolding(crate::specs::Fields::bytes_of_field))]
 fn put_qids(out: &mut Vec<u8>, wqid: &[Qid])
     requires fits { IsIn (Several qid_shape) (map qid_of wqid.now) }
@@ -161,7 +162,7 @@ fn put_qids(out: &mut Vec<u8>, wqid: &[Qid])
     put_each_qid(out, wqid);
 }
 
-/// Appends bytes, after their count in four.
+/// Appends bytes, after their count in four bytes, which `fits` bounds.
 #[tactic(auto, unfolding(crate::specs::Fields::bytes_of_field))]
 fn put_data(out: &mut Vec<u8>, bytes: &[u8])
     requires fits { IsIn Raw bytes.now }
@@ -190,7 +191,7 @@ fn put_stat_texts(out: &mut Vec<u8>, stat: &StatRef)
     put_text(out, stat.muid);
 }
 
-/// Appends the fields of a stat, without a size before them.
+/// Appends the fields of a stat, without a size before them: 39 bytes of numbers, and the texts.
 fn put_stat_fields(out: &mut Vec<u8>, stat: &StatRef)
     requires fits { IsIn (Text ▸ Text ▸ Text ▸ Text) (users_in stat.now) }
     requires room { vec_len
@@ -209,7 +210,8 @@ fn put_stat_fields(out: &mut Vec<u8>, stat: &StatRef)
     put_stat_texts(out, stat);
 }
 
-/// Appends a stat as a directory's entry: the size of its fields in two bytes, and the fields.
+/// Appends a stat as a directory's entry: the size of its fields in two bytes, and the fields. The
+/// size leaves out its own two bytes.
 fn put_entry(out: &mut Vec<u8>, stat: &StatRef)
     requires fits { IsEntry (stat_in stat.now) }
     requires room { vec_len out.old + length (stat_entry (stat_in stat.now))
@@ -234,7 +236,7 @@ fn put_stat(out: &mut Vec<u8>, stat: &StatRef)
     put_entry(out, stat);
 }
 
-/// Appends a field, by what the table says that it holds.
+/// Appends a field, by what it holds according to the table.
 macro_rules! put_field {
     ($out:ident u8 $number:ident) => { put_u8($out, *$number) };
     ($out:ident u16 $number:ident) => { put_u16($out, *$number) };
@@ -304,7 +306,8 @@ fn reply_type(body: &RBody) -> u8
     each_reply!(number_of_body (body RBody))
 }
 
-/// Appends the first seven bytes of a message: its size, the number of its type, and its tag.
+/// Appends the first seven bytes of a message: its size, these seven included, the number of its
+/// type, and its tag.
 fn put_header(out: &mut Vec<u8>, size: u32, number: u8, tag: u16)
     requires { vec_len out.old + 7 ≤ vec_capacity out.old }
     ensures items { out.new.items ≡ out.old.items
@@ -317,8 +320,8 @@ fn put_header(out: &mut Vec<u8>, size: u32, number: u8, tag: u16)
     put_u16(out, tag);
 }
 
-/// Appends the only spelling of a reply that fits (intro(5)). If `out` has room for it nothing is
-/// allocated, and it succeeds. After an `Err` the bytes are as before.
+/// Appends the only spelling of the reply (intro(5)). The reply must fit. If `out` has room, the
+/// call allocates nothing and succeeds. If memory runs out, the bytes in `out` are unchanged.
 pub fn encode_reply(message: &RMessage, out: &mut Vec<u8>) -> Result<(), AllocError>
     requires { Fits (r_view message.now) }
     ensures ok { OnOk result (out.new.items ≡ out.old.items ++ spelling (r_view message.now)) }
@@ -334,8 +337,8 @@ pub fn encode_reply(message: &RMessage, out: &mut Vec<u8>) -> Result<(), AllocEr
     Ok(())
 }
 
-/// Appends the only spelling of a client's message that fits (intro(5)). If `out` has room for it
-/// nothing is allocated, and it succeeds. After an `Err` the bytes are as before.
+/// Appends the only spelling of the request (intro(5)). The request must fit. If `out` has room,
+/// the call allocates nothing and succeeds. If memory runs out, the bytes in `out` are unchanged.
 pub fn encode_request(message: &TMessage<'_>, out: &mut Vec<u8>) -> Result<(), AllocError>
     requires { Fits (t_view message.now) }
     ensures ok { OnOk result (out.new.items ≡ out.old.items ++ spelling (t_view message.now)) }
@@ -352,8 +355,8 @@ pub fn encode_request(message: &TMessage<'_>, out: &mut Vec<u8>) -> Result<(), A
 }
 
 impl StatRef<'_> {
-    /// Appends the bytes of its entry (stat(5)). If `out` has room for them nothing is allocated,
-    /// and it succeeds. After an `Err` the bytes are as before.
+    /// Appends the bytes of the stat's entry (stat(5)). The stat must fit. If `out` has room, the
+    /// call allocates nothing and succeeds. If memory runs out, the bytes in `out` are unchanged.
     pub fn encode_entry(&self, out: &mut Vec<u8>) -> Result<(), AllocError>
         requires { IsEntry (stat_in self.now) }
         ensures ok { OnOk result (out.new.items ≡ out.old.items ++ stat_entry (stat_in self.now)) }

@@ -60,8 +60,8 @@ pub fn new_runs_are_states()
 /// such a world a connection attaches to a run that is there and can give a pass, and calls on a
 /// run that is there, under a pass that the run gave: so no attach to a run that was found is A5 or
 /// S5, and no call is S5 because there is no run or no pass. Each fid's user is one that a granted
-/// attach of its pass named. Each run began as the crash state of its number's set, which is
-/// allowed if the scene's plan is one; `World::scene` says that it is.
+/// attach of its pass named. Each run began as the crash state of its number's set: one that a
+/// crash may leave, if the scene's plan is a plan of its order, as `World::scene` says.
 pub fn worlds_are_consistent()
     ensures new { (scene : Scene) (users : List Row) → IsConsistent (new_world scene users) }
     ensures step { (world : World) → IsConsistent world → (step : Step) (mark : WorldMark) →
@@ -76,8 +76,8 @@ pub fn worlds_are_consistent()
 
 /// A step of a connection, in a consistent world, results in one of these: S5 if no connection has
 /// the number; the connection answers by itself, and no run changes; the registry finds a run; or
-/// the call, which an attach is too, is judged on its run under its pass, no other run changes, and
-/// the connection goes on from the answer.
+/// the call, which may be an attach, is judged on its run under its pass, no other run changes, and
+/// the connection continues from the answer.
 pub fn steps_are_judged()
     ensures { (world : World) → IsConsistent world →
         (conn now : ℕ) (step : SessionStep) (mark : WorldMark) →
@@ -107,9 +107,11 @@ pub fn only_out_of_memory_differs()
 {}
 
 /// No run reaches another: three laws of every list of steps from a new world, whichever growths
-/// memory refuses in them; so they also hold for what `step`, `message` and `hang_up` result in,
-/// one after the other. Each run that was found has the users of the time of its first granted
-/// find, whatever was loaded later.
+/// memory refuses in them. Each run is a fresh one with the users of the time of its first granted
+/// find, after the calls that reached it. The same calls to a run with the same users leave the
+/// same run. Of two groups of connections that find no run in common, the first doesn't notice the
+/// second, if no find meets the limit of runs. The laws also hold for what `step`, `message` and
+/// `hang_up` result in, one after the other.
 pub fn no_run_reaches_another()
     ensures { (scene : Scene) (users : List Row) (marked : List (Step × WorldMark)) →
         NoneReachesAnother (new_world scene users) marked }

@@ -24,8 +24,9 @@ use std::alloc::Global;
 use std::borrow::CowStr;
 
 /// The reply to a message that comes while a run awaits its attach: an Rerror of S5 with the
-/// message's tag.
-fn out_of_turn(bytes: &[u8]) -> RMessage
+/// message's tag, which is the bytes 5 and 6, counted from 0, the low one first, as cs_session's
+/// `tag_in` reads it.
+fn out_of_turn_reply(bytes: &[u8]) -> RMessage
     requires { 7 ≤ length bytes.now }
     ensures value { r_view result ≡ wire_of (tag_in bytes.now) (reply.Error S5) }
     ensures fits { (msize : Option ℕ) → ForSome msize IsAgreed →
@@ -61,7 +62,7 @@ impl World {
         if session.awaits() {
             // the session's size is one that S5 fits
             know(session.msize());
-            return out_of_turn(bytes);
+            return out_of_turn_reply(bytes);
         }
         session.reply(alloc, &mut self.runs, now, bytes)
     }

@@ -31,7 +31,8 @@ pub(crate) struct WatchedWorld {
 }
 
 impl WatchedWorld {
-    /// A new world of this scene and these users, in which no call has reached the run of the key.
+    /// A new world of this scene and these users, which notes the calls that reach the run of the
+    /// key: none has yet.
     fn new(
         alloc: Global,
         scene: Arc<Scene>,
@@ -52,7 +53,8 @@ impl WatchedWorld {
         })
     }
 
-    /// Takes a step, and notes the call that reaches the run, if one does.
+    /// Takes a step as `World::take_step` does, and notes the call that reaches the run of the key,
+    /// if one does.
     fn step(&mut self, alloc: Global, step: Step) -> Reply
         requires all { length self.old.sessions.items ≡ CONNECTIONS }
         ensures all { length self.new.sessions.items ≡ CONNECTIONS }
@@ -65,8 +67,9 @@ impl WatchedWorld {
         }
     }
 
-    /// Takes a step of a connection, and notes the call that reaches the run, if one does. S5, and
-    /// nothing changes, if no connection has the number.
+    /// Takes a step of a connection as `World::take_connection_step` does, and notes the call that
+    /// reaches the run of the key, if one does. S5, and nothing changes, if no connection has the
+    /// number.
     fn take_connection_step(
         &mut self,
         alloc: Global,
@@ -100,8 +103,8 @@ impl World {
 
     /// The calls of a list of steps that reach one run, of that name and of the state of that
     /// number, each with its pass and its moment. The steps are taken in a new world of this one's
-    /// scene and users, and reloads count too. Memory refuses nothing there: if an allocation
-    /// fails, that is the error. This world is unchanged.
+    /// scene and users, and reloads count too. Memory refuses nothing there: an error means that an
+    /// allocation failed. This world is unchanged.
     pub fn project(
         &self,
         alloc: Global,
@@ -120,6 +123,7 @@ impl World {
                 return Err(AllocError);
             }
         }
+        // only of memory: a run that was found can give a pass for the attach
         if world.watched.is_short {
             return Err(AllocError);
         }

@@ -17,9 +17,9 @@ use std::alloc::{AllocError, Global};
 impl World {
     /// Takes steps, one after the other, and returns their replies. Memory for the replies is taken
     /// first: if there is none, no step is taken, and the steps come back. From a consistent world,
-    /// each call is refused, out of memory or of room, or denied by the first rule that fails, or
-    /// granted with its effect; no other run changes; and each run that is there then began as the
-    /// state of its number, which a crash may leave. From a new world, no run reaches another.
+    /// each call is judged: out of memory or of room, denied by the first rule that fails, or
+    /// granted with its effect. No other run changes. Each run that is there afterwards began as
+    /// the state of its number, which a crash may leave. From a new world, no run reaches another.
     pub fn run(
         &mut self,
         alloc: Global,

@@ -1,7 +1,7 @@
 //! The runs of a world, as the port of its connections.
 
-use crate::attended::RunWithPasses;
 use crate::reply::{Reply, StateFault};
+use crate::run_with_passes::RunWithPasses;
 use cs_names::{RuleId, Text};
 use cs_permit::{Call, TreeName};
 use cs_plan::{MakeFault, Scene};
@@ -36,7 +36,8 @@ impl Runs {
     ghost use Rattle.cs_world.specs.Publishing.{publish_step};
     ghost use Rattle.cs_world.specs.Reloading.{reload_step};
 
-    /// Makes the state of that number, and publishes it. If that is refused, nothing changes.
+    /// Makes the state of that number, and publishes it. If either is refused, the reply is
+    /// NotPublished, and nothing changes.
     pub(crate) fn publish(&mut self, alloc: Global, number: u32) -> Reply
         ensures { (mark : WorldMark) × ((result, self.new) ≡ publish_step self.old number mark) }
     {
@@ -55,7 +56,7 @@ impl Runs {
     }
 
     /// Loads another list of users, for runs that are made later: a run keeps the list with which
-    /// it was made. If memory runs out, the old list stays.
+    /// it was made. If memory runs out, the reply is NotReloaded, and the old list stays.
     pub(crate) fn reload(&mut self, alloc: Global, users: Users) -> Reply
         ensures { (mark : WorldMark) × ((result, self.new) ≡ reload_step self.old users mark) }
     {
@@ -72,7 +73,8 @@ impl Port for Runs {
     ghost gives = { λ old question answer new. IsGiven old question answer new };
 
     /// Finds the run of that name in the registry, which makes it at the first find, and returns
-    /// its place. Unpublished if the name can't be a run's. After an error nothing has changed.
+    /// its place. The error is Unpublished if the name can't be a run's, else the registry's. After
+    /// an error nothing has changed.
     fn find(&mut self, alloc: Global, name: &TreeName) -> Result<u32, FindFault> {
         let Some(key) = RunKey::of_tree_name(name) else {
             return Err(FindFault::Unpublished);
@@ -80,8 +82,9 @@ impl Port for Runs {
         self.states.find_key(alloc, key)
     }
 
-    /// Attaches a user to the run at the place `run`. The place of the new pass is its number in
-    /// the run. Foreign if there is no run at that place. After an error nothing has changed.
+    /// Attaches a user to the run at the place `run`. Returns the new pass's number in the run,
+    /// which is its place too, and the answer: if that denies the attach, the pass stays. Foreign
+    /// if there is no run at that place. After an error nothing has changed.
     fn attach(
         &mut self,
         alloc: Global,
@@ -96,7 +99,7 @@ impl Port for Runs {
     }
 
     /// Makes a call on the run at the place `run`. S5, and nothing changes, if there is no run at
-    /// that place, or it gave no pass of the number `pass`.
+    /// that place, or that run gave no pass of the number `pass`.
     fn call(&mut self, alloc: Global, now: u32, run: u32, pass: u32, call: Call<'_>) -> Answer {
         if run >= self.states.run_count() {
             return Answer::Denied(RuleId::S5);

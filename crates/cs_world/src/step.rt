@@ -21,7 +21,7 @@ pub enum ConnectionStep {
 }
 
 impl ConnectionStep {
-    /// A copy of the step.
+    /// A copy of the connection's step.
     fn try_clone(&self, alloc: Global) -> Result<ConnectionStep, AllocError>
         ensures { IfOk result (λ copy. copy ≡ self.now) }
     {
@@ -52,7 +52,7 @@ pub enum Step {
 }
 
 impl Step {
-    /// A copy of the step.
+    /// A copy of the world's step: a reload's list of users is copied too.
     pub(crate) fn try_clone(&self, alloc: Global) -> Result<Step, AllocError>
         ensures { IfOk result (λ copy. copy ≡ self.now) }
     {

@@ -6,7 +6,7 @@ use crate::step::ConnectionStep;
 use cs_session::{Port, Reply, Session};
 use std::alloc::Global;
 
-/// Takes a step of a connection at the moment `now`, over its port `runs`.
+/// Takes a step of a connection at the moment `now`, over its port `runs`, and returns the reply.
 pub(crate) fn take_session_step<P: Port>(
     alloc: Global,
     session: &mut Session,

@@ -14,7 +14,8 @@ use cs_session::{FindFault, PassFault, Port};
 use std::alloc::{AllocError, Global};
 
 /// The runs of a world, which are the port of its connections, and the calls that reached the run
-/// of a key, in order. If memory ran out for a note, `is_short` is true, and calls may be missing.
+/// of a key, in order. If memory ran out for a note, or an attach to the run got no pass,
+/// `is_short` is true, and calls may be missing.
 #[derive(Drop)]
 pub(crate) struct WatchedRuns {
     pub(crate) runs: Runs,
@@ -34,8 +35,8 @@ impl WatchedRuns {
         }
     }
 
-    /// Notes a call under that pass, at that moment. If `call` is an error, or there is no memory
-    /// to keep the note, it sets `is_short`.
+    /// Notes a call under that pass, at the moment `now`. If `call` is an error, or there is no
+    /// memory to keep the note, `is_short` is true afterwards.
     fn note(&mut self, pass: u32, now: u32, call: Result<Call<'static>, AllocError>)
         ensures runs { self.new.runs ≡ self.old.runs }
         ensures key { self.new.key ≡ self.old.key }
@@ -58,8 +59,8 @@ impl WatchedRuns {
         }
     }
 
-    /// Notes a copy of a call if `reaches`, that is, if it goes to the run of the key. If memory
-    /// runs out, it sets `is_short`.
+    /// Notes a copy of a call if `reaches`, that is, if the call goes to the run of the key. If
+    /// memory runs out, `is_short` is true afterwards.
     fn note_call(&mut self, alloc: Global, reaches: bool, pass: u32, now: u32, call: &Call<'_>)
         ensures runs { self.new.runs ≡ self.old.runs }
         ensures key { self.new.key ≡ self.old.key }
@@ -72,8 +73,8 @@ impl WatchedRuns {
         }
     }
 
-    /// Notes an attach if `reaches`, that is, if it goes to the run of the key, under the pass that
-    /// was given. If it got no pass, or memory runs out, it sets `is_short`.
+    /// Notes an attach if `reaches`, that is, if the attach goes to the run of the key, under the
+    /// pass that was given. If it got no pass, or memory runs out, `is_short` is true afterwards.
     fn note_attach(
         &mut self,
         reaches: bool,
@@ -116,13 +117,14 @@ impl Port for WatchedRuns {
         user: Text,
     ) -> Result<(u32, Answer), PassFault> {
         let reaches = self.is_at(run);
-        let call = attach_of(&user);
+        let call = attach_call(&user);
         let given = self.runs.attach(alloc, now, run, user);
         self.note_attach(reaches, now, call, &given);
         given
     }
 
-    /// Calls as the runs do, and notes the call if the run is that of the key.
+    /// Notes the call if the run is that of the key, and makes it as the runs do, even if there is
+    /// no memory for the note.
     fn call(&mut self, alloc: Global, now: u32, run: u32, pass: u32, call: Call<'_>) -> Answer {
         let reaches = self.is_at(run);
         self.note_call(alloc, reaches, pass, now, &call);
@@ -131,7 +133,7 @@ impl Port for WatchedRuns {
 }
 
 /// The call that attaches the user, whose name is copied.
-fn attach_of(user: &Text) -> Result<Call<'static>, AllocError>
+fn attach_call(user: &Text) -> Result<Call<'static>, AllocError>
     ensures { IfOk result (λ call. call ≡ Attach (record { user = user.now })) }
 {
     Ok(Call::Attach(AttachCall {

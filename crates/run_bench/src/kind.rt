@@ -75,7 +75,7 @@ impl Kind {
                 number: FILE,
                 user: user(alloc)?,
                 offset: OFFSET,
-                bytes: SentBytes::lent(written(blocks, place)?),
+                bytes: SentBytes::borrow_from(written(blocks, place)?),
             })),
             Kind::Walks(count) => walk(alloc, count),
         }

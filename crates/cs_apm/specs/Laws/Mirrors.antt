@@ -28,7 +28,7 @@ use Rattle.cs_apm.specs.Laws.Paths.{same_cases, same_path}
 use Rattle.cs_apm.specs.declared.slot.Slot.{Slot}
 use Rattle.cs_apm.specs.declared.slot.Slot.TheVariants.{Nothing, Directory, File}
 use Rattle.cs_apm.specs.declared.slot.Step.{Step}
-use Rattle.cs_apm.specs.declared.slot.Step.TheVariants.{Set, Move, Own, Other}
+use Rattle.cs_apm.specs.declared.slot.Step.TheVariants.{Set, Move, SetRights, Other}
 use Rattle.cs_apm.specs.Slots.{slot_at, step_at, moved_slot, owned_slot, slots_after, AreAbove}
 use Rattle.cs_apm.specs.Slots.{AreAscending, path_at, rights_at, entry_of, slot_entry, Mirror}
 use Rattle.cs_apm.specs.Slots.{entries_in_slots, entries_of_slots, IsPlace, IsStep, AreSteps}
@@ -188,7 +188,7 @@ module _ (rights : List Rights) where
         (λ w. cond (path_eq p q) (Some (states.File w)) (get m q)) (sym h.1))
     step_mirror (ChangeFileSize n size) Other h = mirror
     step_mirror (WriteBlock n block start at bytes) Other h = mirror
-    step_mirror (SetAttr (targets.Directory p) r) (Own i k) h =
+    step_mirror (SetAttr (targets.Directory p) r) (SetRights i k) h =
         own_mirror i k p r h.0 h.1 (slot_at slots i) refl
     step_mirror (SetAttr (targets.File n) r) Other h = mirror
     step_mirror Say Other h = mirror
@@ -204,7 +204,7 @@ module _ (rights : List Rights) where
           length-set (slice_set slots i Nothing) j (Directory k) ∙ length-set slots i Nothing
       of_move (File k) =
           length-set (slice_set slots i Nothing) j (File k) ∙ length-set slots i Nothing
-  length_after slots (Own i k) = of_own (slot_at slots i)
+  length_after slots (SetRights i k) = of_own (slot_at slots i)
     where
       of_own : (s : Slot) → length (owned_slot i k slots s) ≡ length slots
       of_own Nothing = refl

@@ -18,7 +18,7 @@ use Rattle.cs_micro.specs.declared.micro_op.MicroOp.TheVariants.{MoveDirEntry, L
 use Rattle.cs_micro.specs.declared.micro_op.MicroOp.TheVariants.{ChangeFileSize, WriteBlock}
 use Rattle.cs_micro.specs.declared.micro_op.MicroOp.TheVariants.{SetAttr, Say}
 use Rattle.cs_apm.specs.Rules.{both_say, creates, creates_linked, touches_deleted_directory}
-use Rattle.cs_apm.specs.Rules.{is_entry_operation, keeps_order, paths_named, names, says_before}
+use Rattle.cs_apm.specs.Rules.{is_entry_operation, keeps_order, paths_named, names_path, says_before}
 use Rattle.cs_apm.specs.Rules.{sets_same_file, same_block_or_size, paths_touched, touches}
 use Rattle.cs_apm.specs.Rules.{touches_entry_of}
 use Rattle.cs_apm.specs.Reasons.{ChangesSize, Creates, CreatesFile, IsEntryOperation, LinksFile}
@@ -70,12 +70,12 @@ listed_names (SetAttr (targets.Directory q) rights) p h =
     inr (rights, ap (λ w. SetAttr (targets.Directory w) rights) (only_one q p h.0 h.1 h.2))
 listed_names Say p h = inl h
 
-pub names_says : (o : MicroOp) (p : Path) → names o p ≡ true → Names o p
+pub names_says : (o : MicroOp) (p : Path) → names_path o p ≡ true → Names o p
 names_says o p h =
     (let w = any_found (λ q. path_eq q p) (paths_named o) h in
     listed_names o p (subst (Contains (paths_named o)) (path_from_eq w.0 p w.2) w.1))
 
-pub says_names : (o : MicroOp) (p : Path) → Names o p → names o p ≡ true
+pub says_names : (o : MicroOp) (p : Path) → Names o p → names_path o p ≡ true
 says_names o p n = any_from (λ q. path_eq q p) (paths_named o) p (listed o p n) (same_path p)
 
 pub entry_says : (o : MicroOp) (d : Path) → touches_entry_of o d ≡ true → TouchesEntryOf o d

@@ -10,7 +10,7 @@ use Rattle.cs_micro.specs.declared.micro_op.MicroOp.{MicroOp}
 use Rattle.cs_micro.specs.declared.sync_point.SyncPoint.{SyncPoint}
 use Rattle.cs_apm.specs.Rules.{both_say, common_pair_needs, creates_linked}
 use Rattle.cs_apm.specs.Rules.{touches_deleted_directory, is_latest, is_synced, keeps_order}
-use Rattle.cs_apm.specs.Rules.{makes_parent, paths_named, names, needs, op_at, pair_needs}
+use Rattle.cs_apm.specs.Rules.{makes_parent, paths_named, names_path, needs, op_at, pair_needs}
 use Rattle.cs_apm.specs.Rules.{says_before, sets_same_file, same_block_or_size, shares_path}
 use Rattle.cs_apm.specs.Reasons.{Needs, Reason, writes_one_block, resizes_one_file, names_one_path}
 use Rattle.cs_apm.specs.Reasons.{makes_directory, empties_directory, is_waited_for, tells_after}
@@ -47,7 +47,7 @@ module _ (ops : List MicroOp) (syncs : List SyncPoint) (version : Version) (i j 
       (λ (w : OneFile a b). resizes_one_file w.0 w.1 w.2)
       (place_says a b place))
       (λ (path : shares_path a b ≡ true).
-      (let w = any_found (names a) (paths_named b) path in
+      (let w = any_found (names_path a) (paths_named b) path in
       names_one_path w.0 (names_says a w.0 w.2) (listed_names b w.0 w.1)))
       (or_cases (same_block_or_size a b) (shares_path a b) two))
       (λ (gone : touches_deleted_directory a b ≡ true).
@@ -138,7 +138,7 @@ module _ (ops : List MicroOp) (syncs : List SyncPoint) (version : Version) (i j 
       (both_say a b)
       (or_left (same_block_or_size a b || shares_path a b) (touches_deleted_directory a b)
       (or_right (same_block_or_size a b) (shares_path a b)
-      (any_from (names a) (paths_named b) p (listed b p y) (says_names a p x)))))
+      (any_from (names_path a) (paths_named b) p (listed b p y) (says_names a p x)))))
   says_reason (makes_directory p naming latest) =
       or_left (pair_needs version a b || makes_parent ops i j) (is_synced syncs i j a)
       (or_right (pair_needs version a b) (makes_parent ops i j)

@@ -97,7 +97,7 @@ fn write(user: UserName) -> Call<'static> {
         number: 4,
         user,
         offset: 3,
-        bytes: SentBytes::lent(b"HI"),
+        bytes: SentBytes::borrow_from(b"HI"),
     })
 }
 

@@ -95,7 +95,7 @@ impl Subject for Kept {
     fn tell(&mut self, _alloc: Global, told: &mut String) -> Option<()> {
         write!(told, "{} fids", self.table.len()).ok()?;
         for number in 0..16u32 {
-            let entry = self.table.look(number);
+            let entry = self.table.entry_of(number);
             write!(told, " {entry:?}").ok()?;
         }
         write!(told, " {:?} {:?}", self.fid, self.place).ok()

@@ -94,6 +94,6 @@ pub fn write() -> CallMessage<'static> {
     CallMessage::Write(WriteMessage {
         fid: 1,
         offset: 0,
-        bytes: SentBytes::lent(b"abc"),
+        bytes: SentBytes::borrow_from(b"abc"),
     })
 }

@@ -57,7 +57,7 @@ struct Answers {
 impl Look<Option<String>> for Answers {
     ghost use Rattle.std.specs.Prelude.{⊤};
 
-    ghost tells = { λ look run told. ⊤ };
+    ghost may_return = { λ look run found. ⊤ };
 
     fn look(self, run: &Run<Built>) -> Option<String> {
         let mut text = String::new(self.alloc);

@@ -24,7 +24,7 @@ struct UntilReplied<'f> {
 impl<'f> Look<bool> for UntilReplied<'f> {
     ghost use Rattle.std.specs.Prelude.{⊤};
 
-    ghost tells = { λ look run told. ⊤ };
+    ghost may_return = { λ look run found. ⊤ };
 
     fn look(self, run: &Run<Built>) -> bool {
         self.looking.store(1, Ordering::SeqCst);

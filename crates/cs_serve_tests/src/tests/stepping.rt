@@ -84,7 +84,7 @@ fn write() -> CallMessage<'static> {
     CallMessage::Write(WriteMessage {
         fid: 1,
         offset: 0,
-        bytes: SentBytes::lent(b"HI"),
+        bytes: SentBytes::borrow_from(b"HI"),
     })
 }
 

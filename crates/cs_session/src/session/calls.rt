@@ -52,7 +52,7 @@ impl Session {
         settle_walk(&mut self.fids, fid, newfid, from, answer)
     }
 
-    /// Opens a fid. If it is refused, no fid changes.
+    /// Opens a fid. If the open is refused, no fid changes.
     fn open_step<P: Port>(
         &mut self,
         alloc: Global,
@@ -75,8 +75,8 @@ impl Session {
         settle_open(&mut self.fids, message.fid, message.mode, answer)
     }
 
-    /// Makes a file in the fid's directory. The fid is then that of the new file, and open. If it
-    /// is refused, no fid changes.
+    /// Makes a file in the fid's directory. The fid is then that of the new file, and open. If the
+    /// create is refused, no fid changes.
     fn create_step<P: Port>(
         &mut self,
         alloc: Global,
@@ -99,8 +99,8 @@ impl Session {
         settle_create(&mut self.fids, fid, mode, answer)
     }
 
-    /// Reads from an open fid, at most as many bytes as a reply holds. After a read of a directory
-    /// the fid keeps the place at which the next one goes on; else no fid changes.
+    /// Reads from an open fid, at most as many bytes as a reply holds. After a read of entries of a
+    /// directory the fid keeps the place at which the next read continues; else no fid changes.
     fn read_step<P: Port>(
         &mut self,
         alloc: Global,
@@ -146,8 +146,8 @@ impl Session {
         write_reply(answer)
     }
 
-    /// Removes the fid's file. The fid is free once the run is asked, also if the run refuses. If
-    /// the connection itself refuses, no fid changes.
+    /// Removes the fid's file. The fid is free once the connection asks the run, even if the run
+    /// refuses. If the connection itself refuses, no fid changes.
     fn remove_step<P: Port>(&mut self, alloc: Global, port: &mut P, now: u32, fid: u32) -> Reply
         ensures takes { IsStepTaken P.gives now self.old port.old (CallStep (call.Remove fid))
             result
@@ -204,9 +204,9 @@ impl Session {
     }
 
     /// Makes the call of a message on the run of its fid. The reply is the first of the
-    /// connection's rules that fails, or out of memory, or else what the run answers. If it is
-    /// refused, no fid changes, except that the fid of a remove is free once the run is asked
-    /// (remove(5)).
+    /// connection's rules that fails, or out of memory, or else what the run answers. If the call
+    /// is refused, no fid changes, except that the fid of a remove is free once the connection asks
+    /// the run (remove(5)).
     pub fn call_step<P: Port>(
         &mut self,
         alloc: Global,

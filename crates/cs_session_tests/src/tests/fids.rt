@@ -28,7 +28,7 @@ fn table_of_two(rt: &(impl Abort + AllocGlobal)) -> FidTable {
 
 /// The number of the fid's file.
 fn number_at(table: &FidTable, fid: u32) -> Option<u64> {
-    Some(table.look(fid)?.number())
+    Some(table.entry_of(fid)?.number())
 }
 
 /// ann's fid of file 1 moves to file 7 and is opened in mode 0x41 by the open 12: run 2, pass 5 and

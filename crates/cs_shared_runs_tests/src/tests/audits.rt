@@ -28,7 +28,7 @@ struct AnswerAt {
 impl Look<Result<Option<Answer>, AllocError>> for AnswerAt {
     ghost use Rattle.std.specs.Prelude.{⊤};
 
-    ghost tells = { λ look run told. ⊤ };
+    ghost may_return = { λ look run found. ⊤ };
 
     fn look(self, run: &Run<Built>) -> Result<Option<Answer>, AllocError> {
         run.answer_at(self.alloc, self.place)

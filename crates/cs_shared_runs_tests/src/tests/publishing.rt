@@ -55,7 +55,7 @@ struct UntilOne {
 }
 
 impl Gate for UntilOne {
-    fn before(&self, number: u32) {
+    fn before_make(&self, number: u32) {
         if number == 1 {
             self.asked.store(true, Ordering::SeqCst);
         }
@@ -93,7 +93,7 @@ impl Asked {
 }
 
 impl Gate for Asked {
-    fn before(&self, number: u32) {
+    fn before_make(&self, number: u32) {
         let bit = 1u32.checked_shl(number).unwrap_or(0);
         self.states.fetch_or(bit, Ordering::SeqCst);
         self.times.fetch_add(1, Ordering::SeqCst);

@@ -149,7 +149,7 @@ struct UntilAnswered<'f> {
 impl<'f> Look<bool> for UntilAnswered<'f> {
     ghost use Rattle.std.specs.Prelude.{⊤};
 
-    ghost tells = { λ look run told. ⊤ };
+    ghost may_return = { λ look run found. ⊤ };
 
     fn look(self, run: &Run<Built>) -> bool {
         self.looking.store(true, Ordering::SeqCst);

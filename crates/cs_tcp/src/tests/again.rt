@@ -1,7 +1,7 @@
 //! Connections that are accepted after others have ended.
 
 use super::client::looks_for_g;
-use super::fixture::{TRACE, Told, comes, inputs_of, told_of};
+use super::fixture::{Printed, TRACE, comes, inputs_of, printed_by};
 use super::loopback::{LOOPBACK, expect_ended};
 use crate::Serving;
 use std::io::{self, Read};
@@ -34,9 +34,9 @@ const AGAIN: Serving = Serving {
 fn three_clients_are_served_one_after_another_until_the_input_ends(rt: HostRuntime) {
     let alloc = rt.alloc();
     let (port, ends) = (AtomicU64::new(0), AtomicBool::new(false));
-    let (told, replies) = thread::join(
+    let (printed, replies) = thread::join(
         &rt,
-        || told_of(
+        || printed_by(
             &rt,
             alloc,
             &inputs_of(TRACE, true),
@@ -53,13 +53,13 @@ fn three_clients_are_served_one_after_another_until_the_input_ends(rt: HostRunti
         },
     );
     assert!(rt; replies == ((true, true), true));
-    expect_ended(&rt, &told, b"\nrun 0/x entries 6 audit ok\n");
-    expect_in_order(&rt, &told);
+    expect_ended(&rt, &printed, b"\nrun 0/x entries 6 audit ok\n");
+    expect_in_order(&rt, &printed);
 }
 
 /// Each connection was accepted once the one before it had ended.
-fn expect_in_order(rt: &impl Abort, told: &Told) {
-    let err = std::str::from_utf8(told.err.as_slice()).expect(rt, "a text");
+fn expect_in_order(rt: &impl Abort, printed: &Printed) {
+    let err = std::str::from_utf8(printed.err.as_slice()).expect(rt, "a text");
     let first_ended = err.find("\n0 ended\n1 accepted from 127.0.0.1:");
     let second_ended = err.find("\n1 ended\n2 accepted from 127.0.0.1:");
     assert!(rt; first_ended.is_some() && first_ended < second_ended);

@@ -61,7 +61,7 @@ impl Write for Output<'_> {
 
 /// The status of the command, and what it printed.
 #[derive(Drop)]
-pub struct Told {
+pub struct Printed {
     pub status: u8,
     pub out: Vec<u8>,
     pub err: Vec<u8>,
@@ -85,11 +85,11 @@ pub fn scene_in(alloc: Global) -> Option<Arc<Scene>> {
 }
 
 /// The command on this trace, with `--verbose`; its port is printed once it listens.
-pub fn served<R>(rt: &R, alloc: Global, trace: &[u8], serving: Serving, port: &AtomicU64) -> Told
+pub fn served<R>(rt: &R, alloc: Global, trace: &[u8], serving: Serving, port: &AtomicU64) -> Printed
 where
     R: Net<Listener = TcpListener, Stream = TcpStream> + Threads + Wait + Clock + ReadsFiles + Sync,
 {
-    told_of(
+    printed_by(
         rt,
         alloc,
         &inputs_of(trace, true),
@@ -100,14 +100,14 @@ where
 }
 
 /// The command on these inputs.
-pub fn told_of<R, I: Read + Drop + Send>(
+pub fn printed_by<R, I: Read + Drop + Send>(
     rt: &R,
     alloc: Global,
     inputs: &Inputs,
     serving: Serving,
     input: I,
     port: &AtomicU64,
-) -> Told
+) -> Printed
 where
     R: Net<Listener = TcpListener, Stream = TcpStream> + Threads + Wait + Clock + ReadsFiles + Sync,
 {
@@ -117,7 +117,7 @@ where
     };
     let err = Mutex::new(Vec::new(alloc));
     let status = serve_of(rt, alloc, inputs, serving, input, &mut out, &err);
-    Told {
+    Printed {
         status,
         out: out.text,
         err: err.into_inner(),

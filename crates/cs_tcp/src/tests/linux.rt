@@ -20,9 +20,9 @@ const MEANT: &[u8] =
 const DENIED: &[u8] = b"\x18\0\0\0\x6b\x07\0\x0f\0K8 no such name\x07\0\0\0\x79\x08\0";
 
 /// The same, as the client gets them.
-const TOLD: &[u8] = b"\x22\0\0\0\x6b\x07\0\x19\0No such file or directory\x07\0\0\0\x79\x08\0";
+const RECEIVED: &[u8] = b"\x22\0\0\0\x6b\x07\0\x19\0No such file or directory\x07\0\0\0\x79\x08\0";
 
-/// What a reader gives to its end, so many bytes at a time.
+/// What a reader gives to its end, as many bytes at a time as `piece` holds.
 fn read_to_end<R: Read>(alloc: Global, reader: &mut R, piece: &mut [u8]) -> io::Result<Vec<u8>> {
     let mut bytes = Vec::new(alloc);
     for _ in 0..1_000u32 {
@@ -40,6 +40,7 @@ const SENT: [&[u8]; 4] = [CLUNK, WSTAT, CLUNK, b"cut"];
 
 const MEANT_ALL: [&[u8]; 4] = [CLUNK, MEANT, CLUNK, b"cut"];
 
+/// Writes the pieces, one after the other.
 fn write_each<W: Write>(writer: &mut W, pieces: &[&[u8]]) -> io::Result<()> {
     for piece in pieces {
         writer.write_all(piece)?;
@@ -47,7 +48,8 @@ fn write_each<W: Write>(writer: &mut W, pieces: &[&[u8]]) -> io::Result<()> {
     Ok(())
 }
 
-/// What the stream gives to its end, so many bytes at a time, is in these pieces.
+/// What the stream gives to its end, as many bytes at a time as `piece` holds, is these pieces, one
+/// after the other.
 fn gives<R: Read>(
     rt: &(impl Abort + AllocGlobal),
     stream: &mut R,
@@ -77,6 +79,6 @@ fn a_denial_is_sent_as_an_error_of_linux(rt: HostRuntime) {
     let mut stream = LinuxStream::new(rt.alloc(), VecDeque::new(rt.alloc()));
     let (front, rest) = DENIED.split_at(9);
     write_each(&mut stream, &[front, rest]).expect(&rt, "memory");
-    // no Rerror is a request, so that its bytes come back as they are
-    gives(&rt, &mut stream, &mut [0u8; 64], &[TOLD]);
+    // the bytes are read back as requests, which they aren't, so they come back as they are
+    gives(&rt, &mut stream, &mut [0u8; 64], &[RECEIVED]);
 }

@@ -1,7 +1,7 @@
 //! Clients that are served.
 
 use super::client::{ann_writes, attached_at_last, bob_reads, hang_up_early, looks_for_g};
-use super::fixture::{TRACE, Told, served};
+use super::fixture::{Printed, TRACE, served};
 use crate::{Client, Serving};
 use std::process::Abort;
 use std::sync::atomic::{AtomicBool, AtomicU64};
@@ -19,15 +19,15 @@ pub const LOOPBACK: Serving = Serving {
 };
 
 /// The command ended well, with this at the end of standard output.
-pub fn expect_ended(rt: &impl Abort, told: &Told, end: &[u8]) {
-    assert!(rt; told.status == 0);
-    assert!(rt; told.out.starts_with(b"listening 127.0.0.1:"));
-    assert!(rt; told.out.ends_with(end));
+pub fn expect_ended(rt: &impl Abort, printed: &Printed, end: &[u8]) {
+    assert!(rt; printed.status == 0);
+    assert!(rt; printed.out.starts_with(b"listening 127.0.0.1:"));
+    assert!(rt; printed.out.ends_with(end));
 }
 
-/// This is on standard error.
-pub fn expect_told(rt: &impl Abort, told: &Told, text: &str) {
-    let err = std::str::from_utf8(told.err.as_slice()).expect(rt, "a text");
+/// This text is somewhere on standard error.
+pub fn expect_printed(rt: &impl Abort, printed: &Printed, text: &str) {
+    let err = std::str::from_utf8(printed.err.as_slice()).expect(rt, "a text");
     assert!(rt; err.contains(text), "{text}");
 }
 
@@ -39,7 +39,7 @@ fn two_clients_are_served_at_once_and_share_a_run(rt: HostRuntime) {
     let alloc = rt.alloc();
     let port = AtomicU64::new(0);
     let (opened, written) = (AtomicBool::new(false), AtomicBool::new(false));
-    let (told, ((), bob)) = thread::join(
+    let (printed, ((), bob)) = thread::join(
         &rt,
         || served(&rt, alloc, TRACE, LOOPBACK, &port),
         || thread::join(
@@ -49,14 +49,14 @@ fn two_clients_are_served_at_once_and_share_a_run(rt: HostRuntime) {
         ),
     );
     assert!(rt; bob.as_slice() == b"u\x01\0\x05\0\0\0HIllo".as_slice());
-    expect_ended(&rt, &told, b"\nrun 0/x entries 10 audit ok\n");
+    expect_ended(&rt, &printed, b"\nrun 0/x entries 10 audit ok\n");
 }
 
 const VERSIONS: &str =
     "1 <- Tversion tag 65535 msize 8192 version \"9P2000\"\n1 -> Rversion tag 65535 msize 8192 version \"9P2000\"\n";
 
 /// What is printed of two clients, the first of which hangs up.
-const TOLD: [&str; 5] = [
+const PRINTED: [&str; 5] = [
     "published 2 states\n",
     "0 accepted from 127.0.0.1:",
     "0 ended: the stream ended inside a message\n",
@@ -75,7 +75,7 @@ fn a_client_that_hangs_up_inside_a_message(rt: HostRuntime) {
         ready: false,
         ..LOOPBACK
     };
-    let (told, ()) = thread::join(
+    let (printed, ()) = thread::join(
         &rt,
         || served(&rt, alloc, TRACE, meanwhile, &port),
         || {
@@ -83,9 +83,9 @@ fn a_client_that_hangs_up_inside_a_message(rt: HostRuntime) {
             attached_at_last(&rt, alloc, &port);
         },
     );
-    expect_ended(&rt, &told, b"\nrun 0/x entries 1 audit ok\n");
-    for text in &TOLD {
-        expect_told(&rt, &told, text);
+    expect_ended(&rt, &printed, b"\nrun 0/x entries 1 audit ok\n");
+    for text in &PRINTED {
+        expect_printed(&rt, &printed, text);
     }
 }
 
@@ -100,11 +100,15 @@ fn a_client_of_linux_gets_an_error_that_it_knows(rt: HostRuntime) {
         client: Client::Linux,
         ..LOOPBACK
     };
-    let (told, reply) = thread::join(
+    let (printed, reply) = thread::join(
         &rt,
         || served(&rt, alloc, TRACE, linux, &port),
         || looks_for_g(&rt, alloc, &port),
     );
     assert!(rt; reply.as_slice() == b"k\x01\0\x19\0No such file or directory".as_slice());
-    expect_told(&rt, &told, "0 -> Rerror tag 1 ename \"K8 no such name\"\n");
+    expect_printed(
+        &rt,
+        &printed,
+        "0 -> Rerror tag 1 ename \"K8 no such name\"\n",
+    );
 }

@@ -1,7 +1,7 @@
-//! What is served to nobody.
+//! Commands that serve nobody, and accepts that fail.
 
 use super::fixture::{TRACE, served};
-use crate::accepting::{Accepted, accept};
+use crate::accepting::{Accepted, accept_next};
 use crate::{Client, ReadsFiles, Serving};
 use std::alloc::Global;
 use std::io::{self, Error, ErrorKind};
@@ -16,8 +16,8 @@ fn is_refused<R>(rt: &R, alloc: Global, trace: &[u8], serving: Serving, text: &[
 where
     R: Net<Listener = TcpListener, Stream = TcpStream> + Threads + Wait + Clock + ReadsFiles + Sync,
 {
-    let told = served(rt, alloc, trace, serving, &AtomicU64::new(0));
-    told.status == 1 && told.out.is_empty() && told.err.as_slice() == text
+    let printed = served(rt, alloc, trace, serving, &AtomicU64::new(0));
+    printed.status == 1 && printed.out.is_empty() && printed.err.as_slice() == text
 }
 
 const NOWHERE: Serving = Serving {
@@ -35,10 +35,10 @@ const NOWHERE: Serving = Serving {
 /// reason; nothing on standard output, status 1.
 #[test]
 fn an_address_that_is_none(rt: HostRuntime) {
-    let told = served(&rt, rt.alloc(), TRACE, NOWHERE, &AtomicU64::new(0));
-    assert!(rt; told.status == 1 && told.out.is_empty());
+    let printed = served(&rt, rt.alloc(), TRACE, NOWHERE, &AtomicU64::new(0));
+    assert!(rt; printed.status == 1 && printed.out.is_empty());
     let first = b"crashfs: cannot listen\ncrashfs: nowhere: ";
-    assert!(rt; told.err.starts_with(first) && told.err.len() > first.len() + 1);
+    assert!(rt; printed.err.starts_with(first) && printed.err.len() > first.len() + 1);
 }
 
 /// The port of another listener is refused, with the reason on the second line.
@@ -51,23 +51,23 @@ fn a_port_that_is_in_use(rt: HostRuntime) {
         listen: address.as_str(),
         ..NOWHERE
     };
-    let told = served(&rt, rt.alloc(), TRACE, taken, &AtomicU64::new(0));
-    let err = std::str::from_utf8(told.err.as_slice()).expect(&rt, "a text");
-    assert!(rt; told.status == 1 && told.out.is_empty());
+    let printed = served(&rt, rt.alloc(), TRACE, taken, &AtomicU64::new(0));
+    let err = std::str::from_utf8(printed.err.as_slice()).expect(&rt, "a text");
+    assert!(rt; printed.status == 1 && printed.out.is_empty());
     assert!(rt; err.starts_with("crashfs: cannot listen\ncrashfs: 127.0.0.1:"));
     assert!(rt; err.contains(": Address already in use"));
 }
 
-/// An address that is none, a trace at fault, no workers: one line on standard error, nothing on
-/// standard output, status 1.
+/// A trace at fault, and an address that is none: one line on standard error, of the trace; nothing
+/// on standard output, status 1.
 #[test]
 fn a_trace_at_fault_comes_before_the_address(rt: HostRuntime) {
     let text = b"crashfs: trace line 1: Syntax\n";
     assert!(rt; is_refused(&rt, rt.alloc(), b"{}", NOWHERE, text));
 }
 
-/// An address that is none, a trace at fault, no workers: one line on standard error, nothing on
-/// standard output, status 1.
+/// No workers, and an address that is none: one line on standard error, `publishing failed`;
+/// nothing on standard output, status 1.
 #[test]
 fn no_workers_publish_nothing(rt: HostRuntime) {
     let idle = Serving {
@@ -97,13 +97,13 @@ impl OpenListener for Failing {
     }
 }
 
-/// Whether a connection is accepted after so many failures, and by how many accepts.
+/// Whether a connection is accepted after that many failures, and how many accepts were made.
 fn accepted_after<R: Wait + Clock>(rt: &R, failures: u64) -> (bool, u64) {
     let listener = Failing {
         failures,
         accepts: AtomicU64::new(0),
     };
-    let accepted = match accept(rt, &listener, &AtomicBool::new(false)) {
+    let accepted = match accept_next(rt, &listener, &AtomicBool::new(false)) {
         Accepted::Connection((), _) => true,
         Accepted::Closing | Accepted::Failed => false,
     };

@@ -2,7 +2,7 @@
 
 use super::again::Input;
 use super::client::{ATTACH_BOB, OPEN_TO_READ, OPEN_TO_WRITE, READ, WALK, add_types, session};
-use super::fixture::{TRACE, Told, USERS, inputs_of, told_of};
+use super::fixture::{Printed, TRACE, USERS, inputs_of, printed_by};
 use super::loopback::LOOPBACK;
 use crate::{ReadsFiles, Serving};
 use std::alloc::Global;
@@ -102,7 +102,7 @@ fn answers<R: Net<Stream = TcpStream> + Files + Abort>(
 }
 
 /// What the command printed, and what the clients were answered, while the file changes.
-fn reloaded<R>(rt: &R, alloc: Global, again: bool) -> (Told, Vec<u8>)
+fn reloaded<R>(rt: &R, alloc: Global, again: bool) -> (Printed, Vec<u8>)
 where
     R: Net<Listener = TcpListener, Stream = TcpStream>
         + Threads
@@ -123,7 +123,7 @@ where
     let input = Input { ends: &ends };
     thread::join(
         rt,
-        || told_of(rt, alloc, &inputs_of(TRACE, true), serving, input, &port),
+        || printed_by(rt, alloc, &inputs_of(TRACE, true), serving, input, &port),
         || {
             let types = answers(rt, alloc, &port);
             ends.store(true, Ordering::SeqCst);
@@ -132,7 +132,7 @@ where
     )
 }
 
-/// What is printed so often.
+/// A line, and how often it is printed.
 struct Often(&'static str, usize);
 
 const OFTEN: [Often; 3] = [
@@ -149,8 +149,8 @@ run 0/z entries 4 audit ok
 run 1/x entries 1 audit ok
 ";
 
-/// What follows the first line.
-fn lines_behind_the_first(text: &[u8]) -> &[u8] {
+/// The text after its first line; empty if it has no line feed.
+fn lines_after_the_first(text: &[u8]) -> &[u8] {
     match text.iter().position(|byte| *byte == b'\n') {
         Some(end) => text.get(end.saturating_add(1)..).unwrap_or(&[]),
         None => &[],
@@ -169,11 +169,11 @@ where
         + Sync
         + Abort,
 {
-    let (told, types) = reloaded(rt, alloc, again);
+    let (printed, types) = reloaded(rt, alloc, again);
     assert!(rt; types.as_slice() == b"ikkiokqiiiikoqu".as_slice());
-    assert!(rt; told.status == 0);
-    assert!(rt; lines_behind_the_first(told.out.as_slice()) == RUNS);
-    let err = std::str::from_utf8(told.err.as_slice()).expect(rt, "a text");
+    assert!(rt; printed.status == 0);
+    assert!(rt; lines_after_the_first(printed.out.as_slice()) == RUNS);
+    let err = std::str::from_utf8(printed.err.as_slice()).expect(rt, "a text");
     for row in &OFTEN {
         assert_eq!(rt; err.matches(row.0).count(), row.1, "{}", row.0);
     }

@@ -1,8 +1,8 @@
 //! Renames as Linux's own client asks for them.
 
 use super::client::asks;
-use super::fixture::{Told, served};
-use super::loopback::{LOOPBACK, expect_told};
+use super::fixture::{Printed, served};
+use super::loopback::{LOOPBACK, expect_printed};
 use crate::{Client, ReadsFiles, Serving};
 use std::alloc::Global;
 use std::net::{Net, TcpListener, TcpStream};
@@ -47,7 +47,7 @@ const TO_D: &[u8] =
 /// What the command printed of a client, the type of each reply, and the last reply.
 #[derive(Drop)]
 struct Answered {
-    told: Told,
+    printed: Printed,
     types: Vec<u8>,
     last: Vec<u8>,
 }
@@ -69,12 +69,16 @@ where
         client: Client::Linux,
         ..LOOPBACK
     };
-    let (told, (types, last)) = thread::join(
+    let (printed, (types, last)) = thread::join(
         rt,
         || served(rt, alloc, trace, linux, &port),
         || asks(rt, alloc, &port, messages),
     );
-    Answered { told, types, last }
+    Answered {
+        printed,
+        types,
+        last,
+    }
 }
 
 const TO_A_FILE: [&[u8]; 7] = [CLONE_ROOT, F, TO_G, F_AGAIN, G, OPEN_G, READ_G];
@@ -87,7 +91,7 @@ fn a_file_gets_the_name_of_another_file(rt: HostRuntime) {
     assert!(rt; answered.types.as_slice() == b"oo\x7fkoqu".as_slice());
     assert!(rt; answered.last.as_slice() == b"u\x01\0\x05\0\0\0hello".as_slice());
     let removed = "0 <- Tremove tag 2 fid 4294967294\n0 -> Rremove tag 2\n";
-    expect_told(&rt, &answered.told, removed);
+    expect_printed(&rt, &answered.printed, removed);
 }
 
 const TO_A_DIRECTORY: [&[u8]; 5] = [CLONE_ROOT, F, D, F_AGAIN, TO_D];
@@ -112,7 +116,7 @@ fn nothing_is_removed_for_a_user_who_may_not_rename(rt: HostRuntime) {
     let answered = ask_all(&rt, rt.alloc(), CLOSED_ROOT, &NOT_ALLOWED);
     assert!(rt; answered.types.as_slice() == b"ookoo".as_slice());
     let denied = "0 -> Rerror tag 2 ename \"Q6 no write right in the parent\"\n";
-    expect_told(&rt, &answered.told, denied);
-    let err = std::str::from_utf8(answered.told.err.as_slice()).expect(&rt, "a text");
+    expect_printed(&rt, &answered.printed, denied);
+    let err = std::str::from_utf8(answered.printed.err.as_slice()).expect(&rt, "a text");
     assert!(rt; !err.contains("Tremove"));
 }

@@ -1,9 +1,9 @@
 //! What is printed of the runs at the end.
 
 use super::fixture::{TRACE, inputs_of, scene_in};
-use super::telling::Standing;
+use super::printing::StoppedClock;
 use crate::serving::server_of;
-use crate::summary::summary_of;
+use crate::summary::summary_of_runs;
 use cs_connection::{GivenPasses, Server, serve_connection};
 use cs_plan::Scene;
 use cs_shared_runs::AnyScene;
@@ -35,6 +35,7 @@ struct Ended {
 }
 
 impl Ended {
+    /// A server that has had no connection.
     fn new<R: Wait + Abort>(rt: &R, alloc: Global) -> Ended {
         let scene = scene_in(alloc).expect(rt, "a scene");
         let server = server_of::<AnyScene>(alloc, scene, &inputs_of(TRACE, false));
@@ -57,14 +58,14 @@ impl Ended {
             sent.extend_from_slice(request).expect(rt, "memory");
         }
         let mut stream = TwoEnded::new(sent.as_slice(), Vec::new(alloc));
-        let ended = serve_connection(rt, alloc, &self.server, &mut stream, &mut Standing);
+        let ended = serve_connection(rt, alloc, &self.server, &mut stream, &mut StoppedClock);
         assert!(rt; ended.result().is_ok());
         assert!(rt; self.passes.keep(alloc, ended).is_ok());
     }
 
     /// What is printed of its runs, audited by these passes, is this.
     fn expect<R: Wait + Abort>(&self, rt: &R, alloc: Global, passes: &GivenPasses, wanted: &[u8]) {
-        let summary = summary_of(rt, alloc, &self.server, passes);
+        let summary = summary_of_runs(rt, alloc, &self.server, passes);
         let summary = summary.ok().expect(rt, "memory");
         assert!(rt; summary.as_bytes() == wanted);
     }

@@ -14,7 +14,7 @@ use std::sync::atomic::{AtomicBool, Ordering};
 use std::sync::{Arc, Wait};
 use std::thread::Threads;
 
-/// Holds the worker of state 0 until another begins state 1.
+/// A gate that blocks the worker of state 0 until another worker begins state 1.
 #[derive(Drop)]
 struct UntilOne {
     begun: AtomicBool,
@@ -22,7 +22,7 @@ struct UntilOne {
 }
 
 impl Gate for UntilOne {
-    fn before(&self, number: u32) {
+    fn before_make(&self, number: u32) {
         if number == 1 {
             self.begun.store(true, Ordering::SeqCst);
         } else {

@@ -12,6 +12,6 @@ loop-op-preserved c =
     let o = c.op-item.result in
     let starts = map (λ place. rights_of (slice_index_or c.args.records.now place no_record).1) c.args.places.now in
     let more = take_more c.args.ops.now i o c.loop-op-test.true ∙ ap (λ x. take i c.args.ops.now ++ x ∷ []) (sym c.op-item.is) in
-    c.in_ok-push_made.ensures ∙ ap (λ owners. owners ++ owners_made (o ∷ [])) c.loop-op.invariant ∙ append_assoc starts
+    c.in_ok-push_made_rights.ensures ∙ ap (λ owners. owners ++ owners_made (o ∷ [])) c.loop-op.invariant ∙ append_assoc starts
     (owners_made (take i c.args.ops.now)) (owners_made (o ∷ []))
     ∙ ap (λ made. starts ++ made) (sym (ap owners_made more ∙ owners_made-append (take i c.args.ops.now) (o ∷ [])))

@@ -1,7 +1,7 @@
 use Rattle.std.proofs.Common.{arith, subst, sym, ◌∙◌, get_or, ◌+◌, []}
 use Rattle.cs_apm.specs.Rows.{bit_in}
 use Rattle.cs_apm.proofs.Reaching.{IsPart, row_at, part_takes, part_passes, part_whole}
-use Rattle.cs_apm.proofs.rows.reach_row.Goals.{then-has, else-has}
+use Rattle.cs_apm.proofs.rows.reach_row.Goals.{then-has_place, else-has_place}
 use Rattle.cs_apm.proofs.rows.reach_row.Goals as goal
 
 pub loop-m-init : goal.loop-m-init
@@ -13,14 +13,14 @@ loop-m-preserved c =
     let k = c.args.k in
     let m = c.loop-m.m in
     let is = row_at c.args.rows.now k m (record { words = [] }) c.requires.inside in
-    elim c.if-has.branch [
-      | then-has w ↦ subst (λ r. IsPart needs r k (m + 1)) (sym w.row-is)
+    elim c.if-has_place.branch [
+      | then-has_place w ↦ subst (λ r. IsPart needs r k (m + 1)) (sym w.row-is)
           (part_takes needs c.loop-m.row w.set.new.self w.join.new.self (get_or c.args.reach.now m (record { words = [] })) k m
-          (is ∙ (sym c.has.ensures ∙ w.if-has.true)) w.set.ensures w.join.ensures
+          (is ∙ (sym c.has_place.ensures ∙ w.if-has_place.true)) w.set.ensures w.join.ensures
           (λ i. sym (row_at c.args.reach.now m i (record { words = [] }) (omega arith)) ∙ c.requires.reached m i c.loop-m-test.true)
           c.loop-m.invariant)
-      | else-has w ↦ subst (λ r. IsPart needs r k (m + 1)) (sym w.row-is)
-          (part_passes needs c.loop-m.row k m (is ∙ (sym c.has.ensures ∙ w.if-has.false)) c.loop-m.invariant)
+      | else-has_place w ↦ subst (λ r. IsPart needs r k (m + 1)) (sym w.row-is)
+          (part_passes needs c.loop-m.row k m (is ∙ (sym c.has_place.ensures ∙ w.if-has_place.false)) c.loop-m.invariant)
     ]
 
 pub returns : goal.returns

@@ -23,8 +23,8 @@ loop-k-init c =
       few = omega arith;
     }
 
-pub place_of-place-requires-clause-there : goal.place_of-place-requires-clause-there
-place_of-place-requires-clause-there c =
+pub place_of_path-place-requires-clause-there : goal.place_of_path-place-requires-clause-there
+place_of_path-place-requires-clause-there c =
     let k = c.loop-k.k - 1 in
     let low : k < length c.args.records.now = omega arith in
     subst (λ (e : Path × Record). Contains c.args.paths.now e.0)
@@ -34,7 +34,7 @@ pub loop-k-preserved : goal.loop-k-preserved
 loop-k-preserved c =
     let old = c.loop-k.table.items in
     let new = c.start_slot.new.table.items in
-    let i = c.place_of-place.result in
+    let i = c.place_of_path-place.result in
     let s = c.in_ok-slots-2.field-0 in
     let some : 0 < c.loop-k.k = omega arith in
     let le : c.loop-k.k ≤ length c.args.records.now = omega arith in
@@ -47,11 +47,11 @@ loop-k-preserved c =
           c.requires.each))
           (start_mirror old new c.in_ok-slots-2.ensures.grows c.args.paths.now c.loop-k.slots.items i s _
           (start_entries (drop c.loop-k.k c.args.records.now) (drop c.loop-k.k c.args.nodes.now)) _
-          c.requires.ascending c.loop-k.invariant.long c.place_of-place.ensures c.loop-k.invariant.there c.loop-k.invariant.mirror
+          c.requires.ascending c.loop-k.invariant.long c.place_of_path-place.ensures c.loop-k.invariant.there c.loop-k.invariant.mirror
           (c.in_ok-slots-2.ensures.entry ∙ ap
           (λ (e : Path × Record). Some (start_entry (get_or c.args.nodes.now (c.loop-k.k - 1) nodes.Directory) e.1)) read));
       there = with_rights old new c.in_ok-slots-2.ensures.grows c.loop-k.slots.items i s
-          (let l = c.place_of-place.ensures in let m = c.loop-k.invariant.long in omega (arith, l.0, m)) c.loop-k.invariant.there
+          (let l = c.place_of_path-place.ensures in let m = c.loop-k.invariant.long in omega (arith, l.0, m)) c.loop-k.invariant.there
           c.in_ok-slots-2.ensures.there;
       few = (let l = c.in_ok-slots-2.ensures.few in let m = c.loop-k.invariant.few in omega (arith, l, m));
     }

@@ -4,8 +4,8 @@ use Rattle.std.specs.Prelude.{slice_get}
 use Rattle.cs_journal.proofs.Audits.{first_fault, found_for, next_rest, rests_more, told_more}
 use Rattle.cs_journal.proofs.auditing.audit_entries.Goals as goal
 
-pub from_place-rest-requires : goal.from_place-rest-requires
-from_place-rest-requires c =
+pub receipts_from-rest-requires : goal.receipts_from-rest-requires
+receipts_from-rest-requires c =
     (c.loop-place.invariant.rests c.pass-number.result _
     (slice_get-get_or c.loop-place.rests c.pass-number.result c.index-rests-number.result
     (omega (arith, c.pass-number.ensures.few, c.loop-place.invariant.many)))).ascending
@@ -17,9 +17,10 @@ returns-in-Err c =
     let n = c.pass-number.result in
     let within : n < length c.loop-place.rests = omega (arith, c.pass-number.ensures.few, c.loop-place.invariant.many) in
     let rest =
-    next_rest (λ r. r.now) c.args.passes.now c.loop-place.rests n k c.index-rests-number.result c.from_place-rest.result.now
-    c.loop-place.invariant.rests within c.from_place-rest.ensures.same c.from_place-rest.ensures.ascending in
-    let found = found_for c.args.passes.now n k e c.from_place-rest.result.now _ rest c.pass-number.ensures.value c.first_at.ensures in
+    next_rest (λ r. r.now) c.args.passes.now c.loop-place.rests n k c.index-rests-number.result c.receipts_from-rest.result.now
+    c.loop-place.invariant.rests within c.receipts_from-rest.ensures.same c.receipts_from-rest.ensures.ascending in
+    let found =
+    found_for c.args.passes.now n k e c.receipts_from-rest.result.now _ rest c.pass-number.ensures.value c.first_if_at.ensures in
     let there : slice_get c.args.journal.now.items k ≡ Some e = c.entry-entry.ensures in
     first_fault c.args.passes.now c.args.journal.now.items k e _ c.in-Err.fault c.loop-place.invariant.told there found c.in-Err.ensures
 
@@ -30,12 +31,14 @@ loop-place-preserved c =
     let n = c.pass-number.result in
     let within : n < length c.loop-place.rests = omega (arith, c.pass-number.ensures.few, c.loop-place.invariant.many) in
     let rest =
-    next_rest (λ r. r.now) c.args.passes.now c.loop-place.rests n k c.index-rests-number.result c.from_place-rest.result.now
-    c.loop-place.invariant.rests within c.from_place-rest.ensures.same c.from_place-rest.ensures.ascending in
-    let found = found_for c.args.passes.now n k e c.from_place-rest.result.now _ rest c.pass-number.ensures.value c.first_at.ensures in
+    next_rest (λ r. r.now) c.args.passes.now c.loop-place.rests n k c.index-rests-number.result c.receipts_from-rest.result.now
+    c.loop-place.invariant.rests within c.receipts_from-rest.ensures.same c.receipts_from-rest.ensures.ascending in
+    let found =
+    found_for c.args.passes.now n k e c.receipts_from-rest.result.now _ rest c.pass-number.ensures.value c.first_if_at.ensures in
     let there : slice_get c.args.journal.now.items k ≡ Some e = c.entry-entry.ensures in
     record {
       told = told_more c.args.passes.now c.args.journal.now.items k e c.loop-place.invariant.told there (sym found ∙ c.in-Ok.ensures);
-      rests = rests_more (λ r. r.now) c.args.passes.now c.loop-place.rests n k c.from_place-rest.result c.loop-place.invariant.rests rest;
-      many = length-set c.loop-place.rests n c.from_place-rest.result ∙ c.loop-place.invariant.many;
+      rests = rests_more (λ r. r.now) c.args.passes.now c.loop-place.rests n k c.receipts_from-rest.result
+          c.loop-place.invariant.rests rest;
+      many = length-set c.loop-place.rests n c.receipts_from-rest.result ∙ c.loop-place.invariant.many;
     }

@@ -8,7 +8,7 @@ use Rattle.cs_micro.proofs.blocks.push_blocks.Goals as goal
 
 pub loop-block-preserved : goal.loop-block-preserved
 loop-block-preserved c =
-    let size = block_bytes c.args.size in
+    let size = block_bytes c.args.block_size in
     let f = block_write size c.args.file c.args.offset c.args.bytes.now in
     let first = block_of size c.args.offset in
     let block = c.loop-block.block in
@@ -26,11 +26,12 @@ loop-block-preserved c =
 pub returns : goal.returns
 unfolding block_writes
 returns c =
-    let size = block_bytes c.args.size in
+    let size = block_bytes c.args.block_size in
     let f = block_write size c.args.file c.args.offset c.args.bytes.now in
     let first = block_of size c.args.offset in
     let last = block_of size (c.args.offset + length c.args.bytes.now - 1) in
-    let ascend = blocks_ascend c.args.size c.args.offset (c.args.offset + length c.args.bytes.now - 1) (omega (arith, c.requires.some)) in
+    let ascend =
+    blocks_ascend c.args.block_size c.args.offset (c.args.offset + length c.args.bytes.now - 1) (omega (arith, c.requires.some)) in
     let whole : c.loop-block.block - first ≡ last + 1 - first =
     omega (arith, c.loop-block-test.false, c.loop-block.auto.block-end, ascend) in
     c.loop-block.invariant ∙ ap (λ n. c.args.ops.now.items ++ map f (range_with_len first n)) whole

@@ -7,5 +7,5 @@ use Rattle.cs_micro.proofs.blocks.push_blocks.Given as goal
 abbrev pub invariant-loop-block : goal.invariant-loop-block
 invariant-loop-block l =
     l.ops.items ≡ l.initial.ops.items
-    ++ map (block_write (block_bytes l.size) l.file l.offset l.bytes)
-    (range_with_len (block_of (block_bytes l.size) l.offset) (l.block - block_of (block_bytes l.size) l.offset))
+    ++ map (block_write (block_bytes l.block_size) l.file l.offset l.bytes)
+    (range_with_len (block_of (block_bytes l.block_size) l.offset) (l.block - block_of (block_bytes l.block_size) l.offset))

@@ -10,7 +10,7 @@ returns c file =
     let bytes = c.args.bytes.now in
     let end = c.args.offset + length bytes in
     let count =
-    count_written (block_bytes c.args.block) file c.args.size c.args.offset bytes
+    count_written (block_bytes c.args.block_size) file c.args.size c.args.offset bytes
     (λ none. false≢true (sym c.if-is_empty.false ∙ c.is_empty.ensures ∙ eq-eqb (length bytes) 0 none)) in
     elim c.if-size-end.branch [
       | then-size-end w ↦ omega (arith, count, w.changes-is, grown_one file c.args.size end w.if-size-end.true)

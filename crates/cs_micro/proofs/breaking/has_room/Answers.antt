@@ -6,12 +6,12 @@ use Rattle.cs_micro.proofs.Counting.{micros_all, micros_more, micros_none, micro
 use Rattle.cs_micro.proofs.breaking.has_room.Goals as goal
 
 pub loop-operation-init : goal.loop-operation-init
-loop-operation-init c = record { so_far = sym (ap length (micros_none (block_bytes c.args.block))); few = omega arith }
+loop-operation-init c = record { so_far = sym (ap length (micros_none (block_bytes c.args.block_size))); few = omega arith }
 
 pub returns-then-count-total : goal.returns-then-count-total
 returns-then-count-total c =
     let within =
-    micros_within (block_bytes c.args.block) c.args.operations.now c.loop-operation.operation-index c.operation-item.result
+    micros_within (block_bytes c.args.block_size) c.args.operations.now c.loop-operation.operation-index c.operation-item.result
     c.loop-operation-test.true c.operation-item.is in (
       (λ t. absurd (false≢true t)),
       (λ few. absurd
@@ -29,11 +29,11 @@ returns-then-count-total c =
 pub loop-operation-preserved : goal.loop-operation-preserved
 loop-operation-preserved c =
     let i = c.loop-operation.operation-index in
-    let so_far = micro_operations_of (block_bytes c.args.block) (take i c.args.operations.now) in
+    let so_far = micro_operations_of (block_bytes c.args.block_size) (take i c.args.operations.now) in
     let more =
     ap length
-    (micros_more (block_bytes c.args.block) c.args.operations.now i c.operation-item.result c.loop-operation-test.true
-    c.operation-item.is) ∙ length-append so_far (micros_of (block_bytes c.args.block) c.operation-item.result) in
+    (micros_more (block_bytes c.args.block_size) c.args.operations.now i c.operation-item.result c.loop-operation-test.true
+    c.operation-item.is) ∙ length-append so_far (micros_of (block_bytes c.args.block_size) c.operation-item.result) in
     record {
       so_far = omega (arith, more, c.loop-operation.invariant.so_far, c.micro_count-count.ensures);
       few = omega arith;
@@ -42,6 +42,7 @@ loop-operation-preserved c =
 pub returns : goal.returns
 returns c =
     let all =
-    ap length (micros_all (block_bytes c.args.block) c.args.operations.now c.loop-operation.operation-index c.loop-operation-test.false)
+    ap length
+    (micros_all (block_bytes c.args.block_size) c.args.operations.now c.loop-operation.operation-index c.loop-operation-test.false)
     in
     ((λ t. omega (arith, all, c.loop-operation.invariant.so_far, c.loop-operation.invariant.few)), (λ few. refl))

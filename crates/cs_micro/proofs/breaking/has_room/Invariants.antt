@@ -6,6 +6,6 @@ use Rattle.cs_micro.proofs.breaking.has_room.Given as goal
 
 abbrev pub invariant-loop-operation : goal.invariant-loop-operation
 invariant-loop-operation l = record {
-  so_far : l.total ≡ length (micro_operations_of (block_bytes l.block) (take l.operation-index l.operations));
+  so_far : l.total ≡ length (micro_operations_of (block_bytes l.block_size) (take l.operation-index l.operations));
   few : l.total ≤ MICRO_OPERATIONS;
 }

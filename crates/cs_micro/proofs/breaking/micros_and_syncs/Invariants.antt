@@ -6,6 +6,6 @@ use Rattle.cs_micro.proofs.breaking.micros_and_syncs.Given as goal
 
 abbrev pub invariant-loop-operation : goal.invariant-loop-operation
 invariant-loop-operation l = record {
-  ops : l.ops.items ≡ micro_operations_of (block_bytes l.block) (take l.operation-index l.operations);
-  syncs : l.syncs.items ≡ points_below (block_bytes l.block) l.operations l.operation-index;
+  ops : l.ops.items ≡ micro_operations_of (block_bytes l.block_size) (take l.operation-index l.operations);
+  syncs : l.syncs.items ≡ points_below (block_bytes l.block_size) l.operations l.operation-index;
 }

@@ -6,5 +6,5 @@ use Rattle.cs_micro.proofs.breaking.push_write.Goals as goal
 pub returns-clause-memory : goal.returns-clause-memory
 returns-clause-memory c refused =
     let bytes = c.args.bytes.now in
-    written_some c.args.block c.args.file c.args.size c.args.offset bytes
+    written_some c.args.block_size c.args.file c.args.size c.args.offset bytes
     (λ none. false≢true (sym c.if-is_empty.false ∙ c.is_empty.ensures ∙ eq-eqb (length bytes) 0 none))

@@ -31,5 +31,5 @@ pub returns-clause-there : goal.returns-clause-there
 returns-clause-there g c =
     longer_there (get nat_cmp c.copy_block_up.new.blocks) (get nat_cmp c.lengthen_block.new.blocks) c.lengthen_block.ensures.longer
     c.args.index
-    c.args.end
+    c.args.needed
     c.in_ok-copy_block_up.ensures.there c.in_ok-lengthen_block.ensures.there

@@ -18,11 +18,11 @@ loop-name-preserved g c =
     let leads =
     sym c.in-Ok.is ∙ c.walk_element.ensures ∙ ap (element t c.args.users.now c.args.user.now c.loop-name.last) c.as_str.ensures.value in
     record {
-      going = rw (c.push_reserved.ensures.items, c.qid_known.ensures.value ∙ ap qid_or_zeros c.record-file.ensures.value)
+      going = rw (c.push_reserved.ensures.items, c.qid_or_zeros.ensures.value ∙ ap qid_or_zeros c.record-file.ensures.value)
           (goes_on t c.args.users.now c.args.user.now c.loop-name.last c.args.names.now c.loop-name.name-index c.name-item.result
           c.loop-name.qids.items _ c.loop-name-test.true c.name-item.is c.in-Ok.next leads c.loop-name.invariant.going);
       known = c.record-file.ensures.value;
-      fit = rw c.push_reserved.ensures.items (all-append c.loop-name.qids.items _ c.loop-name.invariant.fit c.qid_known.ensures.fits);
+      fit = rw c.push_reserved.ensures.items (all-append c.loop-name.qids.items _ c.loop-name.invariant.fit c.qid_or_zeros.ensures.fits);
       len = c.push_reserved.ensures.len ∙ ap (λ n. n + 1) c.loop-name.invariant.len;
       room = omega (arith, c.push_reserved.ensures.capacity, c.loop-name.invariant.room);
     }

@@ -7,7 +7,7 @@ pub loop-place-preserved : goal.loop-place-preserved
 loop-place-preserved c =
     let slots = c.args.slots.now in
     below_more
-    (λ k. IsAlikeBy c.args.pair.now slots.fixed.now slots.first.now slots.second.now
+    (λ k. IsAlikeBy c.args.pair.now slots.in_unchanged_slot.now slots.first.now slots.second.now
     (op_at c.args.pair.now.ops.now (get_or c.args.places.now k 0)))
     c.loop-place.place-index c.loop-place.invariant (c.in_ok-is_alike_at.ensures c.if-not-branch.false)
 

@@ -6,4 +6,4 @@ use Rattle.cs_same_states.proofs.leaving.are_alike_by.Given as goal
 abbrev pub invariant-loop-place : goal.invariant-loop-place
 invariant-loop-place l =
     (k : ℕ) → k < l.place-index
-    → IsAlikeBy l.pair l.slots.fixed.now l.slots.first.now l.slots.second.now (op_at l.pair.ops.now (get_or l.places k 0))
+    → IsAlikeBy l.pair l.slots.in_unchanged_slot.now l.slots.first.now l.slots.second.now (op_at l.pair.ops.now (get_or l.places k 0))

@@ -6,7 +6,7 @@ use Rattle.cs_apm.specs.Slots.{slot_at, slots_after, step_at}
 use Rattle.cs_apm.proofs.Building.{fits, inside_steps}
 use Rattle.cs_apm.proofs.Folding.{if_ok}
 use Rattle.cs_same_states.specs.Parts.{IsAlikeBy}
-use Rattle.cs_same_states.specs.Standing.{AreAlike}
+use Rattle.cs_same_states.specs.Slots.{AreAlike}
 use Rattle.cs_same_states.proofs.Equal.{alike_trees, pair_of}
 use Rattle.cs_same_states.proofs.Listing.{few_long, fit_few}
 use Rattle.cs_same_states.proofs.leaving.is_equal_pair.Goals as goal

@@ -4,24 +4,23 @@ use Rattle.cs_serve.specs.Printed.{Loaded, refused_text, reloaded_text}
 use Rattle.cs_serve.proofs.Loading.{not_kept, taken}
 use Rattle.cs_serve.proofs.Told.{told_ok, told_err}
 use Rattle.cs_serve.proofs.running.load_users.Goals as goal
-use Rattle.cs_serve.proofs.running.load_users.Goals.{in-Reloaded, in_default}
 
-pub returns-clause-ok : goal.returns-clause-ok
-returns-clause-ok c = elim c.match-step.branch [
-  | in-Reloaded w ↦ rw w.result-is
-      (told_ok string_bytes (λ text. Loaded c.args.world.now c.args.file.now text c.step.new.self) reloaded_text w.reloaded_text.result
-      (taken _ _ _ _ _ c.requires c.step.ensures.steps w.in-Reloaded.is) w.reloaded_text.ensures)
-  | in_default w ↦ rw w.result-is
-      (told_ok string_bytes (λ text. Loaded c.args.world.now c.args.file.now text c.step.new.self) (refused_text Memory)
-      w.refused_text.result (not_kept _ _ _ _ _ c.requires c.step.ensures.steps w.in_default.not-Reloaded) w.refused_text.ensures)
-]
+pub returns-in-Reloaded-clause-ok : goal.returns-in-Reloaded-clause-ok
+returns-in-Reloaded-clause-ok c =
+    told_ok string_bytes (λ text. Loaded c.args.world.now c.args.file.now text c.step.new.self) reloaded_text c.reloaded_text.result
+    (taken _ _ _ _ _ c.requires c.step.ensures.steps c.in-Reloaded.is) c.reloaded_text.ensures
 
-pub returns-clause-err : goal.returns-clause-err
-returns-clause-err c = elim c.match-step.branch [
-  | in-Reloaded w ↦ rw w.result-is
-      (told_err (λ text. Loaded c.args.world.now c.args.file.now text c.step.new.self) reloaded_text w.reloaded_text.result
-      (taken _ _ _ _ _ c.requires c.step.ensures.steps w.in-Reloaded.is))
-  | in_default w ↦ rw w.result-is
-      (told_err (λ text. Loaded c.args.world.now c.args.file.now text c.step.new.self) (refused_text Memory) w.refused_text.result
-      (not_kept _ _ _ _ _ c.requires c.step.ensures.steps w.in_default.not-Reloaded))
-]
+pub returns-in-Reloaded-clause-err : goal.returns-in-Reloaded-clause-err
+returns-in-Reloaded-clause-err c =
+    told_err (λ text. Loaded c.args.world.now c.args.file.now text c.step.new.self) reloaded_text c.reloaded_text.result
+    (taken _ _ _ _ _ c.requires c.step.ensures.steps c.in-Reloaded.is)
+
+pub returns-in-NotReloaded-clause-ok : goal.returns-in-NotReloaded-clause-ok
+returns-in-NotReloaded-clause-ok c =
+    told_ok string_bytes (λ text. Loaded c.args.world.now c.args.file.now text c.step.new.self) (refused_text Memory)
+    c.refused_text.result (not_kept _ _ _ _ _ c.requires c.step.ensures.steps c.in-NotReloaded.is) c.refused_text.ensures
+
+pub returns-in-NotReloaded-clause-err : goal.returns-in-NotReloaded-clause-err
+returns-in-NotReloaded-clause-err c =
+    told_err (λ text. Loaded c.args.world.now c.args.file.now text c.step.new.self) (refused_text Memory) c.refused_text.result
+    (not_kept _ _ _ _ _ c.requires c.step.ensures.steps c.in-NotReloaded.is)

@@ -20,11 +20,11 @@ returns-clause-inside c = λ f was k low ge less.
     let least = c.min-end.ensures in
     let last : end ≡ min (length part) (page * PAGE_BYTES + PAGE_BYTES - offset) = omega (arith, past, least, room, ends) in
     let middle = middle_long from end part (omega (arith, last)) in
-    let long : length c.apply_members.new.part ≡ end - from = c.apply_members.ensures.long ∙ middle in
-    let here : k < length part = (let all = c.apply_members.auto.part in omega (arith, low)) in
-    mid_inside from (end - from) part c.apply_members.new.part (omega (arith, first, begins)) long k (omega (arith, first, ge))
+    let long : length c.apply_members_to_part.new.part ≡ end - from = c.apply_members_to_part.ensures.long ∙ middle in
+    let here : k < length part = (let all = c.apply_members_to_part.auto.part in omega (arith, low)) in
+    mid_inside from (end - from) part c.apply_members_to_part.new.part (omega (arith, first, begins)) long k (omega (arith, first, ge))
     (omega (arith, first, last, ge, less, here))
-    ∙ c.apply_members.ensures.part f (λ j l.
+    ∙ c.apply_members_to_part.ensures.part f (λ j l.
     middle_at from end j part (omega (arith, l, middle))
     ∙ was (from + j) (omega (arith, l, middle, last)) (omega (arith, first)) (omega (arith, l, middle, last, first, ends))
     ∙ (let e : offset + (from + j) ≡ offset + from + j = omega arith in ap (byte_of f) e)) (k - from)
@@ -46,11 +46,11 @@ returns-clause-outside c = λ k apart.
     let past = c.saturating_add.ensures in
     let least = c.min-end.ensures in
     let last : end ≡ min (length part) (page * PAGE_BYTES + PAGE_BYTES - offset) = omega (arith, past, least, room, ends) in
-    let new = c.apply_members.new.part in
-    let long : length new ≡ end - from = c.apply_members.ensures.long ∙ middle_long from end part (omega (arith, last)) in
+    let new = c.apply_members_to_part.new.part in
+    let long : length new ≡ end - from = c.apply_members_to_part.ensures.long ∙ middle_long from end part (omega (arith, last)) in
     ⊎_elim
     (λ (before : offset + k < page * PAGE_BYTES). mid_below from (end - from) part new (omega (arith, first, begins)) long k
     (omega (arith, first, before)))
-    (λ (behind : page * PAGE_BYTES + PAGE_BYTES ≤ offset + k). mid_above from (end - from) part c.apply_members.new.part
+    (λ (behind : page * PAGE_BYTES + PAGE_BYTES ≤ offset + k). mid_above from (end - from) part c.apply_members_to_part.new.part
     (omega (arith, first, begins)) long k (omega (arith, first, last, begins, ends, behind)))
     apart

@@ -10,7 +10,7 @@ use Rattle.cs_state.proofs.file_steps.all_steps.Goals as goal
 pub loop-file-preserved : goal.loop-file-preserved
 loop-file-preserved c =
     let all = c.loop-file.all.items in
-    let one = c.in_ok-steps_of.field-0 in
+    let one = c.in_ok-steps_of_file.field-0 in
     let pushed = c.in_ok-push.ensures.items in
     let long = c.loop-file.invariant.long in
     record {
@@ -25,5 +25,5 @@ loop-file-preserved c =
           c.loop-file.invariant.each
           (subst (λ file. slice_get c.args.tables.now.changed.items file ≡ Some true
           → AreFileSteps file (length (content_before c.args.trace.now c.args.ops.now file).bytes) c.args.ops.now one) (sym long)
-          c.in_ok-steps_of.ensures));
+          c.in_ok-steps_of_file.ensures));
     }

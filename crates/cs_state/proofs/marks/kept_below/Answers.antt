@@ -20,8 +20,8 @@ loop-id-preserved c =
     let pushed = c.in_ok-push.ensures.items in
     let long = c.loop-id.invariant.long in
     record {
-      count = c.count_if-count.ensures ∙ (λ i. c.loop-id.invariant.count i + cond (c.is_kept.ensures i) 1 0) ∙ sym (count_more f id);
-      few = (let e = c.count_if-count.ensures in let one = one_at_most c.is_kept.result count in let few = c.loop-id.invariant.few in
+      count = c.count_if-count.ensures ∙ (λ i. c.loop-id.invariant.count i + cond (c.is_kept_path.ensures i) 1 0) ∙ sym (count_more f id);
+      few = (let e = c.count_if-count.ensures in let one = one_at_most c.is_kept_path.result count in let few = c.loop-id.invariant.few in
           omega (arith, e, one, few));
       long = ap length pushed ∙ length-append counts (count ∷ []) ∙ ap (λ n. n + 1) long;
       each = below_more (λ k. kept_at c.push.new.self.items k ≡ length (numbers_that_pass f k)) id

@@ -6,5 +6,5 @@ use Rattle.cs_state.proofs.marks.kept_of.Goals as goal
 pub loop-id-preserved : goal.loop-id-preserved
 loop-id-preserved c =
     let id = c.loop-id.id in
-    c.in_ok-push_if.ensures ∙ (λ i. c.loop-id.invariant i ++ cond (c.is_kept.ensures i) (id ∷ []) []) ∙ sym
+    c.in_ok-push_if.ensures ∙ (λ i. c.loop-id.invariant i ++ cond (c.is_kept_path.ensures i) (id ∷ []) []) ∙ sym
     (one_more (is_in_every_state c.args.marks.now c.args.slots.now) id)

@@ -9,8 +9,8 @@ use Rattle.cs_state.proofs.Lasting.{first_under}
 use Rattle.cs_state.proofs.Striking.{are, size_is}
 use Rattle.cs_state.proofs.reading.changed_size.Goals as goal
 
-pub size_left-requires-clause-sizes : goal.size_left-requires-clause-sizes
-size_left-requires-clause-sizes c =
+pub size_after_members-requires-clause-sizes : goal.size_after_members-requires-clause-sizes
+size_after_members-requires-clause-sizes c =
     let steps : AreFileSteps c.args.file (length (bytes_before c.args.parts.now c.args.file)) c.args.parts.now.micros.ops
     c.index.result.now =
     are c.args.parts.now c.requires.parts c.args.file c.requires.known c.args.members.now c.requires.set c.index.result.now c.index.ensures
@@ -18,8 +18,8 @@ size_left-requires-clause-sizes c =
     c.deref.ensures.value ∙ steps.sizes ∙ ap (λ os. numbers_that_pass (λ k. resizes c.args.file (op_at os k)) (length os))
     (sym c.ops.ensures.value)
 
-pub size_left-requires-clause-first : goal.size_left-requires-clause-first
-size_left-requires-clause-first c =
+pub size_after_members-requires-clause-first : goal.size_after_members-requires-clause-first
+size_after_members-requires-clause-first c =
     let steps : AreFileSteps c.args.file (length (bytes_before c.args.parts.now c.args.file)) c.args.parts.now.micros.ops
     c.index.result.now =
     are c.args.parts.now c.requires.parts c.args.file c.requires.known c.args.members.now c.requires.set c.index.result.now c.index.ensures
@@ -29,6 +29,6 @@ size_left-requires-clause-first c =
 
 pub returns : goal.returns
 returns c =
-    c.size_left.ensures
+    c.size_after_members.ensures
     ∙ (λ i. fold (size_after c.args.file) (c.requires.size i) (map (op_at (c.ops.ensures.value i)) (members_in c.args.members.now)))
     ∙ sym (size_is c.args.parts.now c.requires.parts c.args.file c.requires.known c.args.members.now c.requires.set)

@@ -11,7 +11,7 @@ loop-path-init c =
 
 pub loop-path-preserved : goal.loop-path-preserved
 loop-path-preserved c =
-    ap (λ m. with_all m c.next.new.self.rest.items) c.in_ok-insert_other.ensures.state
+    ap (λ m. with_all m c.next.new.self.rest.items) c.in_ok-insert_in_map.ensures.state
     ∙ ap (with_all (map.from_entries {R = path_cmp} c.loop-path.by_path.entries)) (sym c.in-Some.ensures.steps.0)
     ∙ c.loop-path.invariant
 

@@ -43,8 +43,8 @@ pub returns-then-state-eq0-clause-fault : goal.returns-then-state-eq0-clause-fau
 unfolding trace_in
 returns-then-state-eq0-clause-fault c = λ _. no_header (lines_in c.args.text.now) _ c.in_ok-state.ensures.done c.if-state-eq0.true
 
-pub finish-requires : goal.finish-requires
-finish-requires c = whole_is _ (sound-state_in (lines_in c.args.text.now) _ c.in_ok-state.ensures.done) c.if-state-eq0.false
+pub trace_of_state-requires : goal.trace_of_state-requires
+trace_of_state-requires c = whole_is _ (sound-state_in (lines_in c.args.text.now) _ c.in_ok-state.ensures.done) c.if-state-eq0.false
 
 pub returns-in_default-clause-memory : goal.returns-in_default-clause-memory
 returns-in_default-clause-memory c = λ _.

@@ -21,24 +21,27 @@ name_kept at k n f same = ⊎_elim
     by None = refl
     by (Some d) = same d
 
-pub link-requires : goal.link-requires
-link-requires c = subst (λ o. IfSome o (λ d. IsSome (get nat_eq c.args.nodes.now d.parent))) (sym c.in-Some.ensures.value) c.requires.above
+pub link_child-requires : goal.link_child-requires
+link_child-requires c =
+    subst (λ o. IfSome o (λ d. IsSome (get nat_eq c.args.nodes.now d.parent))) (sym c.in-Some.ensures.value) c.requires.above
 
-pub returns-in-Some-set_name-clause-ok : goal.returns-in-Some-set_name-clause-ok
-returns-in-Some-set_name-clause-ok c =
+pub returns-clause-ok : goal.returns-clause-ok
+returns-clause-ok c =
     let at = get nat_eq c.args.nodes.now in
     let n = c.args.number in
     let d = c.in-Some.node.now in
     let y = c.args.name.now in
     let s = c.args.stamp in
     let key : string_bytes c.in_ok-key.key ≡ y = c.in_ok-key.ensures.cases ∙ c.as_string.ensures in
-    let linked : get nat_eq c.link.new.nodes ≡ step_at at d.parent (λ u. with_child u y n) =
-    sym (one_table _ (get nat_eq c.link.new.nodes) c.in_ok-link.ensures.ok) ∙ ap (λ x. step_at at d.parent (λ u. with_child u x n)) key in
+    let linked : get nat_eq c.link_child.new.nodes ≡ step_at at d.parent (λ u. with_child u y n) =
+    sym (one_table _ (get nat_eq c.link_child.new.nodes) c.in_ok-link_child.ensures.ok) ∙
+    ap (λ x. step_at at d.parent (λ u. with_child u x n)) key in
     let named : get nat_eq c.set_name.new.nodes ≡ step_at (step_at at d.parent (λ u. with_child u y n)) n (λ e. with_name e y) =
     sym (one_table _ (get nat_eq c.set_name.new.nodes) c.in-Some-set_name.ensures.set) ∙
     (λ i. step_at (linked i) n (λ e. with_name e (c.in_ok-name.ensures i))) in
     let old : c.in-Some-set_name.old ≡ unwrap_or d.name [] = ap (λ o. unwrap_or o [])
     (c.in-Some-set_name.ensures.old ∙ ap (λ v. option_and_then (λ e. e.name) (v n)) linked ∙ name_kept at d.parent n (λ u. with_child u y n)
     (λ u. refl) ∙ ap (option_and_then (λ e. e.name)) (sym c.in-Some.ensures.value)) in
-    subst (λ o. IfSome o (λ e. Alike (renamed at n e y s) (get nat_eq c.unlink.new.nodes))) c.in-Some.ensures.value
-    (λ q. c.unlink.ensures q ∙ (λ i. step_at (named i) d.parent (λ u. with_stamp (without_child u ((c.as_str.ensures.value ∙ old) i)) s) q))
+    subst (λ o. IfSome o (λ e. Alike (renamed at n e y s) (get nat_eq c.unlink_and_stamp.new.nodes))) c.in-Some.ensures.value
+    (λ q. c.unlink_and_stamp.ensures q ∙
+    (λ i. step_at (named i) d.parent (λ u. with_stamp (without_child u ((c.as_str.ensures.value ∙ old) i)) s) q))

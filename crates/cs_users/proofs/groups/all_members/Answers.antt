@@ -9,8 +9,8 @@ use Rattle.cs_users.proofs.groups.all_members.Goals.{in-Some+in_ok-push, in_defa
 
 pub returns : goal.returns
 returns c =
-    let name_is = ap (somebody_at c.args.rows.now) (sym c.name.ensures.value) ∙ sym c.somebody_at.ensures in
-    elim c.match-somebody_at.branch [
+    let name_is = ap (somebody_at c.args.rows.now) (sym c.name.ensures.value) ∙ sym c.place_unless_none.ensures in
+    elim c.match-place_unless_none.branch [
       | in-Some+in_ok-push w ↦
           let more =
           filter_map-push (somebody_at c.args.rows.now) c.args.row.now.members c.args.row.now.name (Some w.in-Some.own)

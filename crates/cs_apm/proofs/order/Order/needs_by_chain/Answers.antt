@@ -9,12 +9,12 @@ index-requires c =
     c.requires.second in
     omega (arith, inside, c.self.inside.reach.ok)
 
-pub has-requires : goal.has-requires
-has-requires c =
+pub has_place-requires : goal.has_place-requires
+has_place-requires c =
     few c.self.inside.rows.items c.self.inside.reach.items c.self.invariant c.args.self.now c.self.view_is c.args.i c.requires.first
 
 pub returns : goal.returns
 returns c =
-    c.has.ensures
+    c.has_place.ensures
     ∙ chain_read c.self.inside.rows.items c.self.inside.reach.items c.self.invariant c.args.self.now c.self.view_is c.args.j c.args.i
     c.index.result.now c.requires.second c.index.ensures

@@ -16,4 +16,4 @@ returns-clause-given g c =
     (called g.S.ServerBrand.serves c.self.inside.runs.items c.self.inside.passes.items c.args.run c.args.pass c.in-Some.given.now
     (omega (arith, low, c.self.inside.passes.ok)) c.in-Some.ensures.value c.self.invariant c.index-found.result.now
     c.index-found.result.now.number c.index-found.ensures refl c.if-given-run.false c.args.now c.args.call c.call-2.result
-    c.call-2.new.pass c.call-2.ensures.told)
+    c.call-2.new.pass c.call-2.ensures.answers)

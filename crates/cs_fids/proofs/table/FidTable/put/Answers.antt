@@ -29,7 +29,8 @@ invariant_of-self-else-is_open c =
     c.self.invariant c.args.fid (subst (λ (t : Fids). 0 < t.room) (sym c.self.view_is) c.requires.room) c.requires.named c.args.entry
     c.new.result c.new.ensures c.insert.new.self.entries c.in-Ok.ensures.updates.0 c.in-Ok.ensures.unique
     (sym (lent_alike c.args.entry c.as_opened.result c.as_opened.ensures) ∙ sym c.if-is_open.ensures)
-    (ap (λ (t : Fids). fid_at t c.args.fid) c.self.view_is ∙ sym c.look.ensures.value ∙ not_lent c.look.result (sym c.if-is_some.ensures))
+    (ap (λ (t : Fids). fid_at t c.args.fid) c.self.view_is ∙ sym c.entry_of.ensures.value
+    ∙ not_lent c.entry_of.result (sym c.if-is_some.ensures))
 
 pub returns-clause-fids : goal.returns-clause-fids
 returns-clause-fids c =

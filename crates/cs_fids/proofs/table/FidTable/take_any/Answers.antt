@@ -16,7 +16,8 @@ unreachable-requires c =
     let none =
     found_at c.self.inside.fids.entries (spare c.self.inside.fids) (vec_capacity c.self.inside.opens) c.args.self.now c.args.fid _
     c.self.view_is c.in_default.ensures.value in
-    absurd (true≢false (sym (c.is_none.ensures ∙ ap not c.if-is_none.false) ∙ none_lent c.look.result (c.look.ensures.value ∙ none)))
+    absurd (true≢false (sym (c.is_none.ensures ∙ ap not c.if-is_none.false)
+    ∙ none_lent c.entry_of.result (c.entry_of.ensures.value ∙ none)))
 
 pub remove_open_fid-requires-clause-there : goal.remove_open_fid-requires-clause-there
 remove_open_fid-requires-clause-there c =

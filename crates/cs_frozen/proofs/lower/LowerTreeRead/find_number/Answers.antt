@@ -16,7 +16,7 @@ returns-in_err-found g c =
 
 pub returns : goal.returns
 returns g c =
-    c.nth-2.ensures ∙ ap (λ l. slice_get l c.in_ok-found.found) c.deref-2.ensures.value ∙ ap
+    c.translate-2.ensures ∙ ap (λ l. slice_get l c.in_ok-found.found) c.deref-2.ensures.value ∙ ap
     (option_and_then (slice_get c.self.inside.places.items)) c.in_ok-found.ensures ∙ find_is (g.T.TreeRead.tree c.self.inside.tree)
     c.self.inside.numbers.items c.self.inside.places.items c.self.invariant _ c.self.view_is c.deref.result.now c.deref.ensures.value
     c.args.directory c.args.name.now (Some c.in_ok-own.own) c.in_ok-own.ensures

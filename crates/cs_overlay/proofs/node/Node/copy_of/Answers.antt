@@ -1,7 +1,14 @@
-use Rattle.std.proofs.Common.{refl, ◌∙◌}
+use Rattle.std.proofs.Common.{refl, sym, ◌∙◌}
 use Rattle.cs_overlay.specs.declared.node.Node.{Node}
 use Rattle.cs_overlay.proofs.Copies.{copy_of, not_root}
+use Rattle.cs_overlay.proofs.Views.{has_directory}
 use Rattle.cs_overlay.proofs.node.Node.copy_of.Goals as goal
+
+pub unreachable-requires : goal.unreachable-requires
+unreachable-requires g c =
+    let t = g.L.TreeRead.tree c.args.lower.now in
+    has_directory t c.in-Some.ensures.is_tree c.args.number _ c.in-Some.ensures.value
+    (sym c.parent_of.ensures ∙ c.in_default-parent_of.is)
 
 pub returns-clause-copy : goal.returns-clause-copy
 returns-clause-copy g c =

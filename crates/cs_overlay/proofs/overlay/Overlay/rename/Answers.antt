@@ -84,31 +84,31 @@ returns-in_err-insert_both_answers-clause-err g c =
     let after-2 = unseen g.L.TreeRead.tree c.deref.ensures c.insert_both_answers.ensures.same after.held after.view in
     rw p.1 after-2.view
 
-pub change-requires-clause-vers : goal.change-requires-clause-vers
-change-requires-clause-vers g c =
+pub change_entry-requires-clause-vers : goal.change_entry-requires-clause-vers
+change_entry-requires-clause-vers g c =
     let after = unseen g.L.TreeRead.tree c.deref.ensures c.copy_up.ensures.same c.self.invariant c.self.view_is in
     let two = get nat_eq c.insert_both_answers.new.nodes in
     let after-2 = unseen g.L.TreeRead.tree c.deref.ensures c.insert_both_answers.ensures.same after.held after.view in
     stamps_in (g.L.TreeRead.tree (arc_value c.self.inside.lower)) two _ _ after-2.held _ after-2.view c.args.number c.requires.vers
 
-pub invariant_of-self-in_err-change : goal.invariant_of-self-in_err-change
-invariant_of-self-in_err-change g c =
+pub invariant_of-self-in_err-change_entry : goal.invariant_of-self-in_err-change_entry
+invariant_of-self-in_err-change_entry g c =
     let after = unseen g.L.TreeRead.tree c.deref.ensures c.copy_up.ensures.same c.self.invariant c.self.view_is in
     let two = get nat_eq c.insert_both_answers.new.nodes in
     let after-2 = unseen g.L.TreeRead.tree c.deref.ensures c.insert_both_answers.ensures.same after.held after.view in
-    over_same (g.L.TreeRead.tree (arc_value c.self.inside.lower)) two (get nat_eq c.change.new.nodes)
-    (same_step (g.L.TreeRead.tree (arc_value c.self.inside.lower)) c.args.number two (get nat_eq c.change.new.nodes)
-    (c.in_err-change.ensures.err (g.L.TreeRead.tree (arc_value c.self.inside.lower)) after-2.held.nodes)) _ _ after-2.held
+    over_same (g.L.TreeRead.tree (arc_value c.self.inside.lower)) two (get nat_eq c.change_entry.new.nodes)
+    (same_step (g.L.TreeRead.tree (arc_value c.self.inside.lower)) c.args.number two (get nat_eq c.change_entry.new.nodes)
+    (c.in_err-change_entry.ensures.err (g.L.TreeRead.tree (arc_value c.self.inside.lower)) after-2.held.nodes)) _ _ after-2.held
 
-pub returns-in_err-change-clause-err : goal.returns-in_err-change-clause-err
-returns-in_err-change-clause-err g c =
-    let p = err_from_is_err_and c.from_residual-in_err-change.result c.from_residual-in_err-change.ensures.1 in
+pub returns-in_err-change_entry-clause-err : goal.returns-in_err-change_entry-clause-err
+returns-in_err-change_entry-clause-err g c =
+    let p = err_from_is_err_and c.from_residual-in_err-change_entry.result c.from_residual-in_err-change_entry.ensures.1 in
     let after = unseen g.L.TreeRead.tree c.deref.ensures c.copy_up.ensures.same c.self.invariant c.self.view_is in
     let two = get nat_eq c.insert_both_answers.new.nodes in
     let after-2 = unseen g.L.TreeRead.tree c.deref.ensures c.insert_both_answers.ensures.same after.held after.view in
-    rw p.1 (tree_same (g.L.TreeRead.tree (arc_value c.self.inside.lower)) two (get nat_eq c.change.new.nodes)
-    (same_step (g.L.TreeRead.tree (arc_value c.self.inside.lower)) c.args.number two (get nat_eq c.change.new.nodes)
-    (c.in_err-change.ensures.err (g.L.TreeRead.tree (arc_value c.self.inside.lower)) after-2.held.nodes)) _ _ after-2.view)
+    rw p.1 (tree_same (g.L.TreeRead.tree (arc_value c.self.inside.lower)) two (get nat_eq c.change_entry.new.nodes)
+    (same_step (g.L.TreeRead.tree (arc_value c.self.inside.lower)) c.args.number two (get nat_eq c.change_entry.new.nodes)
+    (c.in_err-change_entry.ensures.err (g.L.TreeRead.tree (arc_value c.self.inside.lower)) after-2.held.nodes)) _ _ after-2.view)
 
 pub move_name-requires-clause-vers : goal.move_name-requires-clause-vers
 move_name-requires-clause-vers g c =
@@ -117,7 +117,7 @@ move_name-requires-clause-vers g c =
     let after-2 = unseen g.L.TreeRead.tree c.deref.ensures c.insert_both_answers.ensures.same after.held after.view in
     λ d here. parent_stamps_in (g.L.TreeRead.tree (arc_value c.self.inside.lower)) two _ _ after-2.held _ after-2.view c.args.number
     c.requires.vers_above c.in-Some.directory c.in-Some.ensures d
-    (sym (c.change.ensures.others c.in-Some.directory
+    (sym (c.change_entry.ensures.others c.in-Some.directory
     (λ e. apart (g.L.TreeRead.tree (arc_value c.self.inside.lower)) two _ _ after-2.held _ after-2.view c.args.number c.requires.not_root
     c.requires.there c.in-Some.directory c.in-Some.ensures c.in_ok-old.old (ap Some c.in_ok-old.ensures ∙ c.in-Some-name_of.ensures)
     (sym e))) ∙ here)
@@ -129,7 +129,7 @@ move_name-requires-clause-said g c =
     let after-2 = unseen g.L.TreeRead.tree c.deref.ensures c.insert_both_answers.ensures.same after.held after.view in
     let s = c.in_ok-insert_both_answers.ensures.there in (
       s.0,
-      c.change.ensures.others c.in-Some.directory
+      c.change_entry.ensures.others c.in-Some.directory
           (λ e. apart (g.L.TreeRead.tree (arc_value c.self.inside.lower)) two _ _ after-2.held _ after-2.view c.args.number
           c.requires.not_root
           c.requires.there c.in-Some.directory c.in-Some.ensures c.in_ok-old.old (ap Some c.in_ok-old.ensures ∙ c.in-Some-name_of.ensures)
@@ -148,10 +148,10 @@ invariant_of-self-2 g c =
     over_renamed (g.L.TreeRead.tree (arc_value c.self.inside.lower)) two _ _ after-2.held _ after-2.view c.args.number c.requires.not_root
     c.requires.there c.in-Some.directory c.in-Some.ensures
     c.as_str.result.now (ap Some (c.as_str.ensures.value ∙ c.in_ok-old.ensures) ∙ c.in-Some-name_of.ensures) c.args.fields.now c.args.stamp
-    c.args.name c.requires.named free-above (get nat_eq c.change.new.nodes) (get nat_eq c.move_name.new.nodes)
+    c.args.name c.requires.named free-above (get nat_eq c.change_entry.new.nodes) (get nat_eq c.move_name.new.nodes)
     (subst (λ m. StepsAt (g.L.TreeRead.tree (arc_value c.self.inside.lower)) c.args.number (changed_record c.args.fields.now m) two
-    (get nat_eq c.change.new.nodes)) c.in_ok-moment.ensures
-    (c.in_ok-change.ensures.ok (g.L.TreeRead.tree (arc_value c.self.inside.lower)) after-2.held.nodes
+    (get nat_eq c.change_entry.new.nodes)) c.in_ok-moment.ensures
+    (c.in_ok-change_entry.ensures.ok (g.L.TreeRead.tree (arc_value c.self.inside.lower)) after-2.held.nodes
     (file_if_in (g.L.TreeRead.tree (arc_value c.self.inside.lower)) two _ _ after-2.held _ after-2.view c.args.fields.now.length
     c.args.number
     c.requires.file))) (
@@ -173,10 +173,10 @@ returns-clause-ok g c =
     tree_renamed (g.L.TreeRead.tree (arc_value c.self.inside.lower)) two _ _ after-2.held _ after-2.view c.args.number c.requires.not_root
     c.requires.there c.in-Some.directory c.in-Some.ensures
     c.as_str.result.now (ap Some (c.as_str.ensures.value ∙ c.in_ok-old.ensures) ∙ c.in-Some-name_of.ensures) c.args.fields.now c.args.stamp
-    c.args.name c.requires.named free-above (get nat_eq c.change.new.nodes) (get nat_eq c.move_name.new.nodes)
+    c.args.name c.requires.named free-above (get nat_eq c.change_entry.new.nodes) (get nat_eq c.move_name.new.nodes)
     (subst (λ m. StepsAt (g.L.TreeRead.tree (arc_value c.self.inside.lower)) c.args.number (changed_record c.args.fields.now m) two
-    (get nat_eq c.change.new.nodes)) c.in_ok-moment.ensures
-    (c.in_ok-change.ensures.ok (g.L.TreeRead.tree (arc_value c.self.inside.lower)) after-2.held.nodes
+    (get nat_eq c.change_entry.new.nodes)) c.in_ok-moment.ensures
+    (c.in_ok-change_entry.ensures.ok (g.L.TreeRead.tree (arc_value c.self.inside.lower)) after-2.held.nodes
     (file_if_in (g.L.TreeRead.tree (arc_value c.self.inside.lower)) two _ _ after-2.held _ after-2.view c.args.fields.now.length
     c.args.number
     c.requires.file))) (

@@ -18,8 +18,8 @@ overflow_add-number g c = let e =
     next_is (g.L.TreeRead.tree (arc_value c.self.inside.lower)) (get nat_eq c.self.inside.nodes) _ _ c.self.invariant _ c.self.view_is in
     let r = c.requires.next in omega (arith, e, r)
 
-pub make_room-requires : goal.make_room-requires
-make_room-requires g c =
+pub copy_directory_up-requires : goal.copy_directory_up-requires
+copy_directory_up-requires g c =
     subst (λ v. IsSome (layers (g.L.TreeRead.tree v) (get nat_eq c.self.inside.nodes) c.args.directory)) (sym c.deref.ensures)
     (some_of _ _
     (directory_in (g.L.TreeRead.tree (arc_value c.self.inside.lower)) (get nat_eq c.self.inside.nodes) _ _ c.self.invariant _ c.self.view_is
@@ -27,21 +27,21 @@ make_room-requires g c =
 
 pub invariant_of-self : goal.invariant_of-self
 invariant_of-self g c =
-    (unseen g.L.TreeRead.tree c.deref.ensures c.make_room.ensures.same c.self.invariant c.self.view_is).held
+    (unseen g.L.TreeRead.tree c.deref.ensures c.copy_directory_up.ensures.same c.self.invariant c.self.view_is).held
 
-pub returns-in_err-make_room-clause-err : goal.returns-in_err-make_room-clause-err
-returns-in_err-make_room-clause-err g c =
-    let p = err_from_is_err_and c.from_residual-in_err-make_room.result c.from_residual-in_err-make_room.ensures.1 in
-    let after = unseen g.L.TreeRead.tree c.deref.ensures c.make_room.ensures.same c.self.invariant c.self.view_is in
+pub returns-in_err-copy_directory_up-clause-err : goal.returns-in_err-copy_directory_up-clause-err
+returns-in_err-copy_directory_up-clause-err g c =
+    let p = err_from_is_err_and c.from_residual-in_err-copy_directory_up.result c.from_residual-in_err-copy_directory_up.ensures.1 in
+    let after = unseen g.L.TreeRead.tree c.deref.ensures c.copy_directory_up.ensures.same c.self.invariant c.self.view_is in
     rw p.1 after.view
 
 pub insert_answer-requires : goal.insert_answer-requires
-insert_answer-requires g c = c.in_ok-make_room.ensures.there
+insert_answer-requires g c = c.in_ok-copy_directory_up.ensures.there
 
 pub invariant_of-self-in_err-insert_answer : goal.invariant_of-self-in_err-insert_answer
 invariant_of-self-in_err-insert_answer g c =
-    let one = get nat_eq c.make_room.new.nodes in
-    let after = unseen g.L.TreeRead.tree c.deref.ensures c.make_room.ensures.same c.self.invariant c.self.view_is in
+    let one = get nat_eq c.copy_directory_up.new.nodes in
+    let after = unseen g.L.TreeRead.tree c.deref.ensures c.copy_directory_up.ensures.same c.self.invariant c.self.view_is in
     over_same (g.L.TreeRead.tree (arc_value c.self.inside.lower)) one (get nat_eq c.insert_answer.new.nodes)
     (same_alike (g.L.TreeRead.tree (arc_value c.self.inside.lower)) one (get nat_eq c.insert_answer.new.nodes)
     c.in_err-insert_answer.ensures.err) _ _ after.held
@@ -49,30 +49,30 @@ invariant_of-self-in_err-insert_answer g c =
 pub returns-in_err-insert_answer-clause-err : goal.returns-in_err-insert_answer-clause-err
 returns-in_err-insert_answer-clause-err g c =
     let p = err_from_is_err_and c.from_residual-in_err-insert_answer.result c.from_residual-in_err-insert_answer.ensures.1 in
-    let one = get nat_eq c.make_room.new.nodes in
-    let after = unseen g.L.TreeRead.tree c.deref.ensures c.make_room.ensures.same c.self.invariant c.self.view_is in
+    let one = get nat_eq c.copy_directory_up.new.nodes in
+    let after = unseen g.L.TreeRead.tree c.deref.ensures c.copy_directory_up.ensures.same c.self.invariant c.self.view_is in
     rw p.1 (tree_same (g.L.TreeRead.tree (arc_value c.self.inside.lower)) one (get nat_eq c.insert_answer.new.nodes)
     (same_alike (g.L.TreeRead.tree (arc_value c.self.inside.lower)) one (get nat_eq c.insert_answer.new.nodes)
     c.in_err-insert_answer.ensures.err) _ _ after.view)
 
 pub stamp_directory-requires : goal.stamp_directory-requires
 stamp_directory-requires g c =
-    let one = get nat_eq c.make_room.new.nodes in
-    let after = unseen g.L.TreeRead.tree c.deref.ensures c.make_room.ensures.same c.self.invariant c.self.view_is in
+    let one = get nat_eq c.copy_directory_up.new.nodes in
+    let after = unseen g.L.TreeRead.tree c.deref.ensures c.copy_directory_up.ensures.same c.self.invariant c.self.view_is in
     stamps_said (g.L.TreeRead.tree (arc_value c.self.inside.lower)) one (get nat_eq c.insert_answer.new.nodes) c.args.directory
     c.in_ok-key.key (Some (c.self.inside.greatest + 1))
     (stamps_in (g.L.TreeRead.tree (arc_value c.self.inside.lower)) one _ _ after.held _ after.view c.args.directory c.requires.vers)
-    c.in_ok-make_room.ensures.there c.in_ok-insert_answer.ensures.ok
+    c.in_ok-copy_directory_up.ensures.there c.in_ok-insert_answer.ensures.ok
 
 pub invariant_of-self-2 : goal.invariant_of-self-2
 invariant_of-self-2 g c =
-    let one = get nat_eq c.make_room.new.nodes in
-    let after = unseen g.L.TreeRead.tree c.deref.ensures c.make_room.ensures.same c.self.invariant c.self.view_is in
+    let one = get nat_eq c.copy_directory_up.new.nodes in
+    let after = unseen g.L.TreeRead.tree c.deref.ensures c.copy_directory_up.ensures.same c.self.invariant c.self.view_is in
     subst (IsOver (g.L.TreeRead.tree (arc_value c.self.inside.lower)) (get nat_eq c.set_entry.new.nodes) (c.self.inside.greatest + 1 + 1))
     (sym c.in-Some.ensures.1)
     (over_added (g.L.TreeRead.tree (arc_value c.self.inside.lower)) one _ _ after.held _ after.view c.args.directory c.requires.directory
     c.args.name
-    c.args.new c.args.stamp c.requires.free c.in_ok-make_room.ensures.there
+    c.args.new c.args.stamp c.requires.free c.in_ok-copy_directory_up.ensures.there
     c.in_ok-group.group
     (ap Some c.in_ok-group.ensures ∙ ap (option_map (λ (m : MetadataBuf). m.group)) c.in-Some-record.ensures.value ∙ group_lent
     (record_numbered c.args.self.now c.args.directory)) c.in_ok-node.node c.in_ok-node.ensures
@@ -87,11 +87,11 @@ returns-clause-number g c =
 
 pub returns-clause-ok : goal.returns-clause-ok
 returns-clause-ok g c =
-    let one = get nat_eq c.make_room.new.nodes in
-    let after = unseen g.L.TreeRead.tree c.deref.ensures c.make_room.ensures.same c.self.invariant c.self.view_is in
+    let one = get nat_eq c.copy_directory_up.new.nodes in
+    let after = unseen g.L.TreeRead.tree c.deref.ensures c.copy_directory_up.ensures.same c.self.invariant c.self.view_is in
     tree_added (g.L.TreeRead.tree (arc_value c.self.inside.lower)) one _ _ after.held _ after.view c.args.directory c.requires.directory
     c.args.name
-    c.args.new c.args.stamp c.requires.free c.in_ok-make_room.ensures.there
+    c.args.new c.args.stamp c.requires.free c.in_ok-copy_directory_up.ensures.there
     c.in_ok-group.group
     (ap Some c.in_ok-group.ensures ∙ ap (option_map (λ (m : MetadataBuf). m.group)) c.in-Some-record.ensures.value ∙ group_lent
     (record_numbered c.args.self.now c.args.directory)) c.in_ok-node.node c.in_ok-node.ensures

@@ -22,8 +22,8 @@ invariant_of-self g c =
     (subst (λ v. SameLayers (g.L.TreeRead.tree v) (get nat_eq c.self.inside.nodes) (get nat_eq c.copy_up.new.nodes)) c.deref.ensures
     c.copy_up.ensures.same) _ _ c.self.invariant
 
-pub write-requires-clause-vers : goal.write-requires-clause-vers
-write-requires-clause-vers g c =
+pub write_to_entry-requires-clause-vers : goal.write_to_entry-requires-clause-vers
+write_to_entry-requires-clause-vers g c =
     let same =
     subst (λ v. SameLayers (g.L.TreeRead.tree v) (get nat_eq c.self.inside.nodes) (get nat_eq c.copy_up.new.nodes)) c.deref.ensures
     c.copy_up.ensures.same in
@@ -33,25 +33,25 @@ write-requires-clause-vers g c =
     (tree_same (g.L.TreeRead.tree (arc_value c.self.inside.lower)) (get nat_eq c.self.inside.nodes) (get nat_eq c.copy_up.new.nodes)
     same _ _ c.self.view_is) c.args.number c.requires.vers
 
-pub invariant_of-self-in_err-write : goal.invariant_of-self-in_err-write
-invariant_of-self-in_err-write g c =
+pub invariant_of-self-in_err-write_to_entry : goal.invariant_of-self-in_err-write_to_entry
+invariant_of-self-in_err-write_to_entry g c =
     let one = get nat_eq c.copy_up.new.nodes in
     let same = subst (λ v. SameLayers (g.L.TreeRead.tree v) (get nat_eq c.self.inside.nodes) one) c.deref.ensures c.copy_up.ensures.same in
-    over_same (g.L.TreeRead.tree (arc_value c.self.inside.lower)) one (get nat_eq c.write.new.nodes)
-    (same_step (g.L.TreeRead.tree (arc_value c.self.inside.lower)) c.args.number one (get nat_eq c.write.new.nodes)
-    (subst (λ v. StepsAt (g.L.TreeRead.tree v) c.args.number (λ r. r) one (get nat_eq c.write.new.nodes)) c.deref-2.ensures
-    c.in_err-write.ensures.err))
+    over_same (g.L.TreeRead.tree (arc_value c.self.inside.lower)) one (get nat_eq c.write_to_entry.new.nodes)
+    (same_step (g.L.TreeRead.tree (arc_value c.self.inside.lower)) c.args.number one (get nat_eq c.write_to_entry.new.nodes)
+    (subst (λ v. StepsAt (g.L.TreeRead.tree v) c.args.number (λ r. r) one (get nat_eq c.write_to_entry.new.nodes)) c.deref-2.ensures
+    c.in_err-write_to_entry.ensures.err))
     _ _ (over_same (g.L.TreeRead.tree (arc_value c.self.inside.lower)) (get nat_eq c.self.inside.nodes) one same _ _ c.self.invariant)
 
-pub returns-in_err-write-clause-err : goal.returns-in_err-write-clause-err
-returns-in_err-write-clause-err g c =
-    let p = err_from_is_err_and c.from_residual-in_err-write.result c.from_residual-in_err-write.ensures.1 in
+pub returns-in_err-write_to_entry-clause-err : goal.returns-in_err-write_to_entry-clause-err
+returns-in_err-write_to_entry-clause-err g c =
+    let p = err_from_is_err_and c.from_residual-in_err-write_to_entry.result c.from_residual-in_err-write_to_entry.ensures.1 in
     let one = get nat_eq c.copy_up.new.nodes in
     let same = subst (λ v. SameLayers (g.L.TreeRead.tree v) (get nat_eq c.self.inside.nodes) one) c.deref.ensures c.copy_up.ensures.same in
-    rw p.1 (tree_same (g.L.TreeRead.tree (arc_value c.self.inside.lower)) one (get nat_eq c.write.new.nodes)
-    (same_step (g.L.TreeRead.tree (arc_value c.self.inside.lower)) c.args.number one (get nat_eq c.write.new.nodes)
-    (subst (λ v. StepsAt (g.L.TreeRead.tree v) c.args.number (λ r. r) one (get nat_eq c.write.new.nodes)) c.deref-2.ensures
-    c.in_err-write.ensures.err))
+    rw p.1 (tree_same (g.L.TreeRead.tree (arc_value c.self.inside.lower)) one (get nat_eq c.write_to_entry.new.nodes)
+    (same_step (g.L.TreeRead.tree (arc_value c.self.inside.lower)) c.args.number one (get nat_eq c.write_to_entry.new.nodes)
+    (subst (λ v. StepsAt (g.L.TreeRead.tree v) c.args.number (λ r. r) one (get nat_eq c.write_to_entry.new.nodes)) c.deref-2.ensures
+    c.in_err-write_to_entry.ensures.err))
     _ _ (tree_same (g.L.TreeRead.tree (arc_value c.self.inside.lower)) (get nat_eq c.self.inside.nodes) one same _ _ c.self.view_is))
 
 pub invariant_of-self-2 : goal.invariant_of-self-2
@@ -61,9 +61,9 @@ invariant_of-self-2 g c =
     over_step (g.L.TreeRead.tree (arc_value c.self.inside.lower)) one _ _
     (over_same (g.L.TreeRead.tree (arc_value c.self.inside.lower)) (get nat_eq c.self.inside.nodes) one same _ _ c.self.invariant) _
     (tree_same (g.L.TreeRead.tree (arc_value c.self.inside.lower)) (get nat_eq c.self.inside.nodes) one same _ _ c.self.view_is)
-    c.args.number (stamped_write c.args.offset c.args.bytes.now c.args.stamp) (get nat_eq c.write.new.nodes)
+    c.args.number (stamped_write c.args.offset c.args.bytes.now c.args.stamp) (get nat_eq c.write_to_entry.new.nodes)
     (subst (λ v. StepsAt (g.L.TreeRead.tree v) c.args.number (stamped_write c.args.offset c.args.bytes.now c.args.stamp) one
-    (get nat_eq c.write.new.nodes)) c.deref-2.ensures c.in_ok-write.ensures.ok)
+    (get nat_eq c.write_to_entry.new.nodes)) c.deref-2.ensures c.in_ok-write_to_entry.ensures.ok)
     (λ r. refl) (λ r. ap (option_map (bytes_after_write c.args.offset c.args.bytes.now)))
 
 pub returns-clause-ok : goal.returns-clause-ok
@@ -73,7 +73,7 @@ returns-clause-ok g c =
     tree_step (g.L.TreeRead.tree (arc_value c.self.inside.lower)) one _ _
     (over_same (g.L.TreeRead.tree (arc_value c.self.inside.lower)) (get nat_eq c.self.inside.nodes) one same _ _ c.self.invariant) _
     (tree_same (g.L.TreeRead.tree (arc_value c.self.inside.lower)) (get nat_eq c.self.inside.nodes) one same _ _ c.self.view_is)
-    c.args.number (stamped_write c.args.offset c.args.bytes.now c.args.stamp) (get nat_eq c.write.new.nodes)
+    c.args.number (stamped_write c.args.offset c.args.bytes.now c.args.stamp) (get nat_eq c.write_to_entry.new.nodes)
     (subst (λ v. StepsAt (g.L.TreeRead.tree v) c.args.number (stamped_write c.args.offset c.args.bytes.now c.args.stamp) one
-    (get nat_eq c.write.new.nodes)) c.deref-2.ensures c.in_ok-write.ensures.ok)
+    (get nat_eq c.write_to_entry.new.nodes)) c.deref-2.ensures c.in_ok-write_to_entry.ensures.ok)
     (λ r. refl) (λ r. ap (option_map (bytes_after_write c.args.offset c.args.bytes.now)))

@@ -8,4 +8,4 @@ use Rattle.cs_overlay.proofs.patched.Patched.grow.Goals as goal
 pub returns-clause-bytes : goal.returns-clause-bytes
 returns-clause-bytes c = λ lower hides.
     let f = byte_at lower c.args.self.now.kept (get nat_cmp c.args.self.now.blocks) in
-    bytes_of_length f f c.args.self.now.size c.args.n (λ i lt below. refl) (λ i lt behind. hides i behind)
+    bytes_of_length f f c.args.self.now.size c.args.size (λ i lt below. refl) (λ i lt behind. hides i behind)

@@ -8,12 +8,12 @@ use Rattle.cs_overlay.proofs.patched.Patched.shrink.Goals as goal
 pub returns-clause-hides : goal.returns-clause-hides
 returns-clause-hides c = λ lower i le.
     (λ j. byte_at lower (c.min-self.ensures j) (λ k. c.in_ok-truncate_blocks.ensures.ok k j) i)
-    ∙ byte_behind lower c.args.self.now.kept (get nat_cmp c.args.self.now.blocks) c.args.n i le
+    ∙ byte_behind lower c.args.self.now.kept (get nat_cmp c.args.self.now.blocks) c.args.size i le
 
 pub returns-clause-bytes : goal.returns-clause-bytes
 returns-clause-bytes c = λ lower. bytes_of_length
     (byte_at lower c.args.self.now.kept (get nat_cmp c.args.self.now.blocks))
-    (byte_at lower c.min-self.result (get nat_cmp c.truncate_blocks.new.blocks)) c.args.self.now.size c.args.n
+    (byte_at lower c.min-self.result (get nat_cmp c.truncate_blocks.new.blocks)) c.args.self.now.size c.args.size
     (λ i lt below. (λ j. byte_at lower (c.min-self.ensures j) (λ k. c.in_ok-truncate_blocks.ensures.ok k j) i)
-    ∙ byte_before lower c.args.self.now.kept (get nat_cmp c.args.self.now.blocks) c.args.n i lt)
+    ∙ byte_before lower c.args.self.now.kept (get nat_cmp c.args.self.now.blocks) c.args.size i lt)
     (λ i lt behind. absurd (omega (arith, c.requires)))

@@ -10,6 +10,6 @@ of-requires-2 c =
     let steps : length c.deref-2.result.now ≡ length c.in-Ok.micros.ops =
     ap length c.deref-2.ensures.value ∙ steps_long tables.rights.items tables.paths.items c.in-Ok.micros.ops tables.steps.items is.steps
     in
-    let ops : length c.ops.result.now ≡ length c.in-Ok.micros.ops = ap length c.ops.ensures.value in
-    let few = c.ops.ensures.few in
+    let ops : length c.ops-2.result.now ≡ length c.in-Ok.micros.ops = ap length c.ops-2.ensures.value in
+    let few = c.ops-2.ensures.few in
     omega (arith, steps, ops, few)

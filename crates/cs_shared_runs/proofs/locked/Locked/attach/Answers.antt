@@ -14,21 +14,21 @@ invariant_of-self-2 g c =
     c.args.now (called.Attach (record { user = c.args.user })) c.step-answer.result
     (rw c.in-Ok.ensures.run c.self.invariant) c.step-answer.ensures.stepped
 
-pub returns-then-not-is_of-clause-told : goal.returns-then-not-is_of-clause-told
-returns-then-not-is_of-clause-told g c =
+pub returns-then-not-is_of-clause-answers : goal.returns-then-not-is_of-clause-answers
+returns-then-not-is_of-clause-answers g c =
     let differs : c.self.inside.number ≢ c.args.number =
     λ own. (let no = c.if-not-is_of.ensures.1 (sym (ap (λ (l : Locked). l.number) c.self.view_is) ∙ own) in cc) in
     another g.S.ServerBrand.serves c.args.number c.self.inside.number c.self.inside.run c.self.invariant c.entries.ensures.legal
     differs
 
-pub returns-in-Err-clause-told : goal.returns-in-Err-clause-told
-returns-in-Err-clause-told g c =
+pub returns-in-Err-clause-answers : goal.returns-in-Err-clause-answers
+returns-in-Err-clause-answers g c =
     refused g.S.ServerBrand.serves c.args.number c.self.inside.number c.self.inside.run c.self.invariant c.entries.ensures.legal
     (ap (λ (l : Locked). l.number) c.self.view_is ∙ c.if-not-is_of.ensures.0 refl) c.in-Err.fault
     (λ foreign. c.in-Err.ensures.own (ap Err foreign)) (λ room. c.in-Err.ensures.room.0 (ap Err room))
 
-pub returns-clause-told : goal.returns-clause-told
-returns-clause-told g c =
+pub returns-clause-answers : goal.returns-clause-answers
+returns-clause-answers g c =
     let call = called.Attach (record { user = c.args.user }) in
     let s = c.step-answer in
     let numbers : s.new.pass.number ≡ c.in-Ok.pass.number =

@@ -8,8 +8,8 @@ invariant_of-self g c =
     served_after g.S.ServerBrand.serves c.self.inside.number c.self.inside.run c.step.new.self c.args.pass.now c.step.new.pass c.args.now
     c.args.call c.step.result c.self.invariant c.step.ensures.stepped
 
-pub returns-then-not-is_of-clause-told : goal.returns-then-not-is_of-clause-told
-returns-then-not-is_of-clause-told g c =
+pub returns-then-not-is_of-clause-answers : goal.returns-then-not-is_of-clause-answers
+returns-then-not-is_of-clause-answers g c =
     let differs : c.self.inside.number ≢ c.args.number =
     λ own. (let no = c.if-not-is_of.ensures.1 (sym (ap (λ (l : Locked). l.number) c.self.view_is) ∙ own) in cc) in
     inr (
@@ -19,8 +19,8 @@ returns-then-not-is_of-clause-told g c =
       refl,
     )
 
-pub returns-then-not-fits-clause-told : goal.returns-then-not-fits-clause-told
-returns-then-not-fits-clause-told g c =
+pub returns-then-not-fits-clause-answers : goal.returns-then-not-fits-clause-answers
+returns-then-not-fits-clause-answers g c =
     inr (
       inr (unfit g.S.ServerBrand.serves c.args.number c.self.inside.number c.self.inside.run c.self.invariant
           c.entries.ensures.legal (ap (λ (l : Locked). l.number) c.self.view_is ∙ c.if-not-is_of.ensures.0 refl) c.args.pass.now
@@ -29,8 +29,8 @@ returns-then-not-fits-clause-told g c =
       refl,
     )
 
-pub returns-clause-told : goal.returns-clause-told
-returns-clause-told g c =
+pub returns-clause-answers : goal.returns-clause-answers
+returns-clause-answers g c =
     let served =
     subst (λ (n : ℕ). g.S.ServerBrand.serves n c.self.inside.run.fresh)
     (ap (λ (l : Locked). l.number) c.self.view_is ∙ c.if-not-is_of.ensures.0 refl) c.self.invariant in

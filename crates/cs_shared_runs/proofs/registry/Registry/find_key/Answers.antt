@@ -13,7 +13,7 @@ invariant_of-self-2 g c =
 pub returns-clause-finds : goal.returns-clause-finds
 returns-clause-finds g c =
     rw (← c.self.view_is) (record {
-      told = Ok c.in_ok-place.place;
+      place = Ok c.in_ok-place.place;
       found = c.in_ok-place.ensures.finds;
       handle = elim c.match-try_clone.branch [
         | in-Ok w ↦ rw w.result-is (c.held_at.ensures ∙ ap Some (sym w.in-Ok.ensures))

@@ -37,7 +37,7 @@ returns c =
     let s2 = c.deref-3.ensures.value in
     let p2 = c.deref-4.ensures.value ∙ c.in_ok-places.ensures in
     record {
-      sizes = c.in_ok-sizes-2.ensures;
+      sizes = c.in_ok-size_changes.ensures;
       rows = rows_are c.args.file c.args.start ops c.in_ok-sizes.sizes.items c.in_ok-sizes.ensures.each rows
           (subst (All (λ k. HasRow rows (op_at ops k))) p2 c.in_ok-pages.ensures.written)
           (λ page row there. c.in_ok-pages.ensures.each page row there ∙ (λ i. places_reaching (s2 i) ops (p2 i) (Some page)))

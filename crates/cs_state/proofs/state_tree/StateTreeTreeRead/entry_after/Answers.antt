@@ -21,11 +21,11 @@ returns-clause-name c =
     let d = c.args.directory in
     let bound = option_copied c.args.bound in
     let last = option_copied c.args.last in
-    let o = option_map entry_name c.entry_in.result in
+    let o = option_map entry_name c.entry_after_id.result in
     let same = find_is s c.self.invariant c.in_ok-found.found.id d c.in_ok-found.ensures.place in
     entry_is (tree_in s) d last bound o
     (entry_same (number_shown s c.in_ok-found.found.id) (number_in (tree_in s) d) (λ y. ap is_some (sym (same y))) last bound o
-    c.entry_in.ensures.name)
+    c.entry_after_id.ensures.name)
     ∙ ap (λ (t : Tree). entry_below bound (next_name t d last)) c.self.view_is
 
 pub returns-clause-number : goal.returns-clause-number
@@ -34,4 +34,4 @@ returns-clause-number c =
     let d = c.args.directory in
     let same = find_is s c.self.invariant c.in_ok-found.found.id d c.in_ok-found.ensures.place in
     numbers_same (number_shown s c.in_ok-found.found.id) (number_in c.args.self.now d)
-    (λ y. sym (same y) ∙ ap (λ (t : Tree). number_in t d y) c.self.view_is) c.entry_in.result c.entry_in.ensures.number
+    (λ y. sym (same y) ∙ ap (λ (t : Tree). number_in t d y) c.self.view_is) c.entry_after_id.result c.entry_after_id.ensures.number

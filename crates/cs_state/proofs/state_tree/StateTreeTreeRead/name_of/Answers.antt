@@ -12,6 +12,6 @@ returns-in_err-found c =
 
 pub returns : goal.returns
 returns c =
-    c.name_of.ensures ∙ ap (λ (t : Tree). name_numbered t c.in_ok-found.found.id) c.names.ensures
+    c.name_of.ensures ∙ ap (λ (t : Tree). name_numbered t c.in_ok-found.found.id) c.path_names.ensures
     ∙ sym (name_is c.self.inside.state c.self.invariant c.in_ok-found.found.id c.args.number c.in_ok-found.ensures.place)
     ∙ ap (λ (t : Tree). name_numbered t c.args.number) c.self.view_is

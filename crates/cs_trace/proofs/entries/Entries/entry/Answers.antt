@@ -1,9 +1,9 @@
-use Rattle.std.proofs.Common.{ap, sym, ◌∙◌}
+use Rattle.std.proofs.Common.{ap, subst, sym, ◌∙◌}
 use Rattle.std.specs.FinMap as map
 use Rattle.std.specs.Option.{option_or}
 use Rattle.cs_tree_model.specs.Tree.{path_cmp}
-use Rattle.cs_trace.specs.Siblings.{with_siblings}
-use Rattle.cs_trace.proofs.Unions.{get-union}
+use Rattle.cs_trace.specs.Siblings.{AreApart, AreElsewhere, with_siblings}
+use Rattle.cs_trace.proofs.Unions.{get-union, or_nothing}
 use Rattle.cs_trace.proofs.Views.{get-keyed}
 use Rattle.cs_trace.proofs.entries.Entries.entry.Goals as goal
 
@@ -15,22 +15,28 @@ returns-in-None c =
     ∙ ap (λ o. map.get (with_siblings o (map.from_entries es)) p) (sym c.in-None.is)
     ∙ ap (λ m. map.get m p) c.self.view_is
 
-pub returns-in-Some-entry : goal.returns-in-Some-entry
-returns-in-Some-entry c =
+pub returns-then-is_in_directory : goal.returns-then-is_in_directory
+returns-then-is_in_directory c =
     let m = map.from_entries {R = path_cmp} c.self.inside.by_path.entries in
+    let s = c.in-Some.siblings in
     let p = c.args.path.now in
-    ap (λ o. option_or o (map.get m p)) c.in-Some-entry.ensures
-    ∙ sym (get-union c.in-Some.siblings.entries m p)
+    let apart : AreElsewhere s m = subst (λ o. AreApart o m) c.in-Some.is c.self.invariant in
+    let here = c.is_in_directory.ensures.there c.if-is_in_directory.true in
+    c.entry.ensures
+    ∙ sym (or_nothing (map.get s.entries p))
+    ∙ ap (option_or (map.get s.entries p)) (sym (ap (map.get m) here.1 ∙ apart here.0))
+    ∙ sym (get-union s.entries m p)
     ∙ ap (λ o. map.get (with_siblings o m) p) (sym c.in-Some.is)
     ∙ ap (λ m. map.get m p) c.self.view_is
 
-pub returns-in-None-entry : goal.returns-in-None-entry
-returns-in-None-entry c =
+pub returns-else-is_in_directory : goal.returns-else-is_in_directory
+returns-else-is_in_directory c =
     let es = c.self.inside.by_path.entries in
     let m = map.from_entries {R = path_cmp} es in
+    let s = c.in-Some.siblings in
     let p = c.args.path.now in
-    c.get-in-None-entry.ensures.value ∙ get-keyed es p
-    ∙ ap (λ o. option_or o (map.get m p)) c.in-None-entry.ensures
-    ∙ sym (get-union c.in-Some.siblings.entries m p)
+    c.get-else-is_in_directory.ensures.value ∙ get-keyed es p
+    ∙ ap (λ o. option_or o (map.get m p)) (sym (c.is_in_directory.ensures.none c.if-is_in_directory.false))
+    ∙ sym (get-union s.entries m p)
     ∙ ap (λ o. map.get (with_siblings o m) p) (sym c.in-Some.is)
     ∙ ap (λ m. map.get m p) c.self.view_is

@@ -10,43 +10,43 @@ use Rattle.cs_trace.proofs.entries.Entries.insert.Goals as goal
 
 -- ---- no siblings
 
-pub returns-in-None-clause-stood : goal.returns-in-None-clause-stood
-returns-in-None-clause-stood c =
+pub returns-in-None-clause-replaced : goal.returns-in-None-clause-replaced
+returns-in-None-clause-replaced c =
     let m = map.from_entries {R = path_cmp} c.self.inside.by_path.entries in
     let p = c.args.path in
-    if_ok c.insert_other.result
-    (λ stood is. is ∙ ap is_some (ap (λ o. map.get (with_siblings o m) p) (sym c.in-None.is) ∙ ap (λ m. map.get m p) c.self.view_is))
-    c.insert_other.ensures.stood
+    if_ok c.insert_in_map.result
+    (λ replaced is. is ∙ ap is_some (ap (λ o. map.get (with_siblings o m) p) (sym c.in-None.is) ∙ ap (λ m. map.get m p) c.self.view_is))
+    c.insert_in_map.ensures.replaced
 
 pub returns-in-None-clause-state : goal.returns-in-None-clause-state
 returns-in-None-clause-state c =
     let m = map.from_entries {R = path_cmp} c.self.inside.by_path.entries in
-    let k = map.from_entries {R = path_cmp} c.insert_other.new.by_path.entries in
+    let k = map.from_entries {R = path_cmp} c.insert_in_map.new.by_path.entries in
     let e = c.args.entry in
     let p = c.args.path in
-    on_ok c.insert_other.result
+    on_ok c.insert_in_map.result
     (λ is.
     ap (λ o. with_siblings o k) c.in-None.is ∙ is
     ∙ ap (λ l. map.insert l p e) (ap (λ o. with_siblings o m) (sym c.in-None.is) ∙ c.self.view_is))
-    c.insert_other.ensures.state
+    c.insert_in_map.ensures.state
 
 -- ---- one of the siblings
 
-pub returns-then-is_at-clause-stood : goal.returns-then-is_at-clause-stood
-returns-then-is_at-clause-stood c =
+pub returns-then-is_in_directory-clause-replaced : goal.returns-then-is_in_directory-clause-replaced
+returns-then-is_in_directory-clause-replaced c =
     let m = map.from_entries {R = path_cmp} c.self.inside.by_path.entries in
     let s = c.in-Some.siblings in
     let p = c.args.path in
     let apart : AreElsewhere s m = subst (λ o. AreApart o m) c.in-Some.is c.self.invariant in
-    let here = c.is_at.ensures.there c.if-is_at.true in
+    let here = c.is_in_directory.ensures.there c.if-is_in_directory.true in
     if_ok c.insert.result
-    (λ stood is.
+    (λ replaced is.
     is ∙ some-first s.entries m p (ap (map.get m) here.1 ∙ apart here.0)
     ∙ ap is_some (ap (λ o. map.get (with_siblings o m) p) (sym c.in-Some.is) ∙ ap (λ m. map.get m p) c.self.view_is))
-    c.insert.ensures.stood
+    c.insert.ensures.replaced
 
-pub returns-then-is_at-clause-state : goal.returns-then-is_at-clause-state
-returns-then-is_at-clause-state c =
+pub returns-then-is_in_directory-clause-state : goal.returns-then-is_in_directory-clause-state
+returns-then-is_in_directory-clause-state c =
     let m = map.from_entries {R = path_cmp} c.self.inside.by_path.entries in
     let s = c.in-Some.siblings in
     let e = c.args.entry in
@@ -58,39 +58,39 @@ returns-then-is_at-clause-state c =
     ∙ ap (λ l. map.insert l p e) (ap (λ o. with_siblings o m) (sym c.in-Some.is) ∙ c.self.view_is))
     c.insert.ensures.state
 
--- ---- another entry, beside siblings
+-- ---- another entry, next to siblings
 
-pub invariant_of-self-else-is_at : goal.invariant_of-self-else-is_at
-invariant_of-self-else-is_at c =
+pub invariant_of-self-else-is_in_directory : goal.invariant_of-self-else-is_in_directory
+invariant_of-self-else-is_in_directory c =
     let m = map.from_entries {R = path_cmp} c.self.inside.by_path.entries in
-    let k = map.from_entries {R = path_cmp} c.insert_other-else-is_at.new.by_path.entries in
+    let k = map.from_entries {R = path_cmp} c.insert_in_map-else-is_in_directory.new.by_path.entries in
     let s = c.in-Some.siblings in
     let apart : AreElsewhere s m = subst (λ o. AreApart o m) c.in-Some.is c.self.invariant in
-    either (AreElsewhere s k) c.insert_other-else-is_at.result
-    c.insert_other-else-is_at.ensures.state c.insert_other-else-is_at.ensures.err
-    (λ is. elsewhere-insert s m k c.args.path c.args.entry is (c.is_at.ensures.elsewhere c.if-is_at.false) apart)
+    either (AreElsewhere s k) c.insert_in_map-else-is_in_directory.result
+    c.insert_in_map-else-is_in_directory.ensures.state c.insert_in_map-else-is_in_directory.ensures.err
+    (λ is. elsewhere-insert s m k c.args.path c.args.entry is (c.is_in_directory.ensures.elsewhere c.if-is_in_directory.false) apart)
     (λ is. subst (λ es. AreElsewhere s (map.from_entries {R = path_cmp} es)) (sym is) apart)
 
-pub returns-else-is_at-clause-stood : goal.returns-else-is_at-clause-stood
-returns-else-is_at-clause-stood c =
+pub returns-else-is_in_directory-clause-replaced : goal.returns-else-is_in_directory-clause-replaced
+returns-else-is_in_directory-clause-replaced c =
     let m = map.from_entries {R = path_cmp} c.self.inside.by_path.entries in
     let s = c.in-Some.siblings in
     let p = c.args.path in
-    if_ok c.insert_other-else-is_at.result
-    (λ stood is.
-    is ∙ some-second s.entries m p (c.is_at.ensures.none c.if-is_at.false)
+    if_ok c.insert_in_map-else-is_in_directory.result
+    (λ replaced is.
+    is ∙ some-second s.entries m p (c.is_in_directory.ensures.none c.if-is_in_directory.false)
     ∙ ap is_some (ap (λ o. map.get (with_siblings o m) p) (sym c.in-Some.is) ∙ ap (λ m. map.get m p) c.self.view_is))
-    c.insert_other-else-is_at.ensures.stood
+    c.insert_in_map-else-is_in_directory.ensures.replaced
 
-pub returns-else-is_at-clause-state : goal.returns-else-is_at-clause-state
-returns-else-is_at-clause-state c =
+pub returns-else-is_in_directory-clause-state : goal.returns-else-is_in_directory-clause-state
+returns-else-is_in_directory-clause-state c =
     let m = map.from_entries {R = path_cmp} c.self.inside.by_path.entries in
     let s = c.in-Some.siblings in
     let e = c.args.entry in
     let p = c.args.path in
-    on_ok c.insert_other-else-is_at.result
+    on_ok c.insert_in_map-else-is_in_directory.result
     (λ is.
     ap (union s.entries) is
-    ∙ union-insert_second s.entries m p e (c.is_at.ensures.none c.if-is_at.false)
+    ∙ union-insert_second s.entries m p e (c.is_in_directory.ensures.none c.if-is_in_directory.false)
     ∙ ap (λ l. map.insert l p e) (ap (λ o. with_siblings o m) (sym c.in-Some.is) ∙ c.self.view_is))
-    c.insert_other-else-is_at.ensures.state
+    c.insert_in_map-else-is_in_directory.ensures.state

@@ -14,6 +14,6 @@ loop-path-init c =
     ∙ sym (entries-whole s.directory s.by_name.entries c.self.invariant gives.5)
     ∙ ap (λ (s : Siblings). entries s.entries) c.self.view_is in
     record {
-      records = ap (with_records c.args.parts.now.records.items) same;
-      nodes = ap (with_nodes c.args.parts.now.nodes.items) same;
+      records = ap (with_records c.args.lists.now.records.items) same;
+      nodes = ap (with_nodes c.args.lists.now.nodes.items) same;
     }

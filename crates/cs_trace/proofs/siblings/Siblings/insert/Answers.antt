@@ -17,8 +17,8 @@ invariant_of-self-2 c =
     subst (λ es. AreWithPaths s.directory (by_bytes es)) (sym c.in_ok-before.ensures.entries)
     (with_paths-insert s.directory c.in_ok-key.key (c.args.path, c.args.entry) s.by_name.entries is c.self.invariant)
 
-pub returns-clause-stood : goal.returns-clause-stood
-returns-clause-stood c =
+pub returns-clause-replaced : goal.returns-clause-replaced
+returns-clause-replaced c =
     let s = c.self.inside in
     let n = string_bytes c.in_ok-key.key in
     let is = c.in-Some.ensures.there ∙ ap (λ n. s.directory ++ n ∷ []) (sym c.in_ok-key.ensures.ok) in

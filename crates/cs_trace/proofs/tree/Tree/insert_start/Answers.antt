@@ -6,8 +6,8 @@ use Rattle.cs_trace.proofs.Trees.{stands-nodes, start-tree}
 use Rattle.cs_trace.proofs.tree.Tree.insert_start.Goals as goal
 use Rattle.cs_trace.proofs.tree.Tree.insert_start.Goals.{then-was_placed, else-was_placed}
 
-pub returns-clause-stood : goal.returns-clause-stood
-returns-clause-stood c =
+pub returns-clause-replaced : goal.returns-clause-replaced
+returns-clause-replaced c =
     let t = c.self.inside in
     let p = c.args.path in
     let either = sym (stands-nodes t.kept t.gone t.placed p) ∙ ap (λ (t : Tree). is_some (map.get t.nodes p)) c.self.view_is in
@@ -15,12 +15,12 @@ returns-clause-stood c =
       | then-was_placed w ↦
           w.result-is
           ∙ w.if-was_placed.true
-          ∙ ap (λ b. b || is_some (map.get t.kept p)) (sym w.if-was_placed.true ∙ c.remove-was_placed.ensures.stood)
+          ∙ ap (λ b. b || is_some (map.get t.kept p)) (sym w.if-was_placed.true ∙ c.remove-was_placed.ensures.was_there)
           ∙ either
       | else-was_placed w ↦
           w.result-is
-          ∙ c.in_ok-was_kept.ensures.stood
-          ∙ ap (λ b. b || is_some (map.get t.kept p)) (sym w.if-was_placed.false ∙ c.remove-was_placed.ensures.stood)
+          ∙ c.in_ok-was_kept.ensures.replaced
+          ∙ ap (λ b. b || is_some (map.get t.kept p)) (sym w.if-was_placed.false ∙ c.remove-was_placed.ensures.was_there)
           ∙ either
     ]
 

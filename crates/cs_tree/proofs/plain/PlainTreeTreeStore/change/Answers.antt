@@ -8,20 +8,20 @@ use Rattle.cs_tree.proofs.Renaming.{can_stamp_renamed, held_after_rename, tree_a
 use Rattle.cs_tree.proofs.Tables.{one_table}
 use Rattle.cs_tree.proofs.plain.PlainTreeTreeStore.change.Goals as goal
 
-pub change-requires : goal.change-requires
-change-requires c = can_stamp (get nat_eq c.self.inside.nodes) _ c.self.invariant _ c.self.view_is c.args.number c.requires.vers
+pub set_fields-requires : goal.set_fields-requires
+set_fields-requires c = can_stamp (get nat_eq c.self.inside.nodes) _ c.self.invariant _ c.self.view_is c.args.number c.requires.vers
 
 pub invariant_of-self : goal.invariant_of-self
 invariant_of-self c =
     held_with_fields (get nat_eq c.self.inside.nodes) _ c.self.invariant _ c.self.view_is c.args.number c.requires.there c.args.fields.now
     c.args.stamp c.requires.file c.in_ok-bytes.bytes c.in_ok-bytes.ensures c.in_ok-group.group c.in_ok-group.ensures c.in_default.is
-    (get nat_eq c.change.new.nodes) c.change.ensures
+    (get nat_eq c.set_fields.new.nodes) c.set_fields.ensures
 
 pub returns-in_default-clause-ok : goal.returns-in_default-clause-ok
 returns-in_default-clause-ok c =
     tree_with_fields (get nat_eq c.self.inside.nodes) _ c.self.invariant _ c.self.view_is c.args.number c.requires.there c.args.fields.now
     c.args.stamp c.requires.file c.in_ok-bytes.bytes c.in_ok-bytes.ensures c.in_ok-group.group c.in_ok-group.ensures c.in_default.is
-    (get nat_eq c.change.new.nodes) c.change.ensures
+    (get nat_eq c.set_fields.new.nodes) c.set_fields.ensures
 
 pub rename-requires-clause-there : goal.rename-requires-clause-there
 rename-requires-clause-there c =
@@ -47,8 +47,8 @@ invariant_of-self-in_err-rename c =
     subst (λ v. IsHeld v (c.self.inside.greatest + 1))
     (one_table (get nat_eq c.self.inside.nodes) (get nat_eq c.rename.new.nodes) c.in_err-rename.ensures.err) c.self.invariant
 
-pub change-requires-2 : goal.change-requires-2
-change-requires-2 c =
+pub set_fields-requires-2 : goal.set_fields-requires-2
+set_fields-requires-2 c =
     can_stamp_renamed (get nat_eq c.self.inside.nodes) _ c.self.invariant _ c.self.view_is c.args.number c.requires.there c.args.fields.now
     c.args.stamp c.requires.file c.in_ok-bytes.bytes c.in_ok-bytes.ensures c.in_ok-group.group c.in_ok-group.ensures
     (c.requires.not_root (subst IsSome (sym c.in-Some.is) refl)) c.in-Some.name c.in-Some.is c.requires.free c.in_ok-moment.moment
@@ -59,11 +59,13 @@ invariant_of-self-2 c =
     held_after_rename (get nat_eq c.self.inside.nodes) _ c.self.invariant _ c.self.view_is c.args.number c.requires.there c.args.fields.now
     c.args.stamp c.requires.file c.in_ok-bytes.bytes c.in_ok-bytes.ensures c.in_ok-group.group c.in_ok-group.ensures
     (c.requires.not_root (subst IsSome (sym c.in-Some.is) refl)) c.in-Some.name c.in-Some.is c.requires.free c.in_ok-moment.moment
-    c.in_ok-moment.ensures (get nat_eq c.rename.new.nodes) c.in_ok-rename.ensures.ok (get nat_eq c.change-2.new.nodes) c.change-2.ensures
+    c.in_ok-moment.ensures (get nat_eq c.rename.new.nodes) c.in_ok-rename.ensures.ok (get nat_eq c.set_fields-2.new.nodes)
+    c.set_fields-2.ensures
 
 pub returns-clause-ok : goal.returns-clause-ok
 returns-clause-ok c =
     tree_after_rename (get nat_eq c.self.inside.nodes) _ c.self.invariant _ c.self.view_is c.args.number c.requires.there c.args.fields.now
     c.args.stamp c.requires.file c.in_ok-bytes.bytes c.in_ok-bytes.ensures c.in_ok-group.group c.in_ok-group.ensures
     (c.requires.not_root (subst IsSome (sym c.in-Some.is) refl)) c.in-Some.name c.in-Some.is c.requires.free c.in_ok-moment.moment
-    c.in_ok-moment.ensures (get nat_eq c.rename.new.nodes) c.in_ok-rename.ensures.ok (get nat_eq c.change-2.new.nodes) c.change-2.ensures
+    c.in_ok-moment.ensures (get nat_eq c.rename.new.nodes) c.in_ok-rename.ensures.ok (get nat_eq c.set_fields-2.new.nodes)
+    c.set_fields-2.ensures

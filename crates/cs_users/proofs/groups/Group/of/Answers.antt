@@ -15,7 +15,7 @@ returns c =
     c.at-row.ensures.row
     (rw (← c.in_ok-members.ensures) c.sort_unstable.ensures.permutation) c.sort_unstable.ensures.sorted in
     record {
-      leader = c.somebody_at.ensures ∙ ap (somebody_at c.args.rows.now) c.leader.ensures ∙ sym
+      leader = c.place_unless_none.ensures ∙ ap (somebody_at c.args.rows.now) c.leader.ensures ∙ sym
           (leader_of-row c.args.rows.now c.args.place c.at-row.result.now c.requires c.at-row.ensures.row);
       members = members;
       marks =

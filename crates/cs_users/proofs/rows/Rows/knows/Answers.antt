@@ -4,4 +4,4 @@ use Rattle.cs_users.proofs.Places.{is_some-place_of}
 use Rattle.cs_users.proofs.rows.Rows.knows.Goals as goal
 
 pub returns : goal.returns
-returns c = c.is_some.ensures ∙ ap is_some c.place_of.ensures ∙ is_some-place_of c.args.self.now c.args.name.now
+returns c = c.is_some.ensures ∙ ap is_some c.place_of_name.ensures ∙ is_some-place_of c.args.self.now c.args.name.now

@@ -13,7 +13,7 @@ returns-then-awaits-clause-fits c =
           (search rules) ∙ sym c.index_mut-session.ensures.value,
       ← c.msize.ensures.value,
     )
-    (c.out_of_turn.ensures.fits c.msize.result c.msize.ensures.agreed)
+    (c.out_of_turn_reply.ensures.fits c.msize.result c.msize.ensures.agreed)
 
 pub returns-clause-replied : goal.returns-clause-replied
 returns-clause-replied c =

@@ -1,0 +1,10 @@
+use Rattle.std.proofs.Common.{◌≡◌, ◌≤◌}
+use Rattle.cs_plan.specs.Plans.{places_below}
+use Rattle.cs_plan.specs.Scenes.{says_of}
+use Rattle.cs_plan.proofs.members.says_of_prefix.Given as goal
+
+abbrev pub invariant-loop-place : goal.invariant-loop-place
+invariant-loop-place l = record {
+  so_far : l.count ≡ says_of l.ops (places_below l.place);
+  small : l.count ≤ l.place;
+}

@@ -1,6 +1,0 @@
-use Rattle.std.proofs.Common.{◌≡◌, take, fold}
-use Rattle.cs_same_states.specs.Standing.{flagged}
-use Rattle.cs_same_states.proofs.standing.flag_all.Given as goal
-
-abbrev pub invariant-loop-slot : goal.invariant-loop-slot
-invariant-loop-slot l = l.flags ≡ fold flagged l.initial.flags (take l.slot-index l.slots)
