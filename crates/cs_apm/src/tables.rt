@@ -55,7 +55,7 @@ impl Tables {
         let mut rights = Vec::new(alloc);
         let slots = start_slots(alloc, records, nodes, &paths, &mut rights)?;
         let steps = steps_of(alloc, &paths, &mut rights, ops)?;
-        let starts = starts_of(alloc, nodes, trace.files().len())?;
+        let starts = starts_of(alloc, nodes, trace.file_count())?;
         let owners = owners_of(alloc, records, &starts, ops)?;
         let changed = changed_by(alloc, ops, owners.len())?;
         Ok(Tables {

@@ -3,12 +3,12 @@ use Rattle.std.proofs.Common.{◌≡◌, ◌≢◌, ℕ, ◌+◌, ◌<◌, ◌==
 use Rattle.std.proofs.Common.{refl, sym, ap, ◌∙◌, subst, ⊎_elim, arith}
 use Rattle.std.proofs.lemmas.Bool.{cases_eq, eq-eqb, ne_eqb}
 use Rattle.std.proofs.lemmas.List.{append-nil, ext_get_or, get_or-map, get_or-set_other, get_or-set_same, length-map, length-set}
-use Rattle.std.proofs.lemmas.List.{map-append, map-set}
+use Rattle.std.proofs.lemmas.List.{map-append, map-set, take_more}
 use Rattle.std.proofs.lemmas.List.Elements.{filter_more}
 use Rattle.std.proofs.lemmas.List.FromFn.{get_or-map-range_with_len}
-use Rattle.std.proofs.lemmas.Option.{slice_get-get_or, slice_get_within}
+use Rattle.std.proofs.lemmas.Option.{get_or_from_slice_get, slice_get-get_or, slice_get_within}
 use Rattle.std.specs.FinMap.{get}
-use Rattle.std.specs.Prelude.{filter, slice_set}
+use Rattle.std.specs.Prelude.{filter, slice_get, slice_set}
 use Rattle.cs_tree_model.specs.Tree.{Path}
 use Rattle.cs_trace.specs.Traces.{AreLinks, IsPathOf, Trace, start_paths}
 use Rattle.cs_trace.specs.declared.operation.Node.TheVariants.{File}
@@ -27,6 +27,17 @@ own_paths files = ext_get_or [] (paths_of_files files []) (map (λ path. path �
     (length-paths_of_files files [] ∙ sym (length-map files (λ path. path ∷ [])))
     (λ n low. let inside : n < length files = subst (λ k. n < k) (length-paths_of_files files []) low in
     paths_at files [] n inside ∙ sym (get_or-map (λ path. path ∷ []) files n [] [] inside))
+
+-- one file more, with its own path
+pub own_more : {V : Type 0} (f : V → List Path) (starts : List V) (files : List Path) (k : ℕ) (p : Path) (new : V)
+    → slice_get files k ≡ Some p → map f starts ≡ map (λ path. path ∷ []) (take k files) → f new ≡ p ∷ []
+    → map f (starts ++ new ∷ []) ≡ map (λ path. path ∷ []) (take (k + 1) files)
+own_more f starts files k p new at so_far is =
+    let taken : take (k + 1) files ≡ take k files ++ p ∷ [] =
+    take_more files k p (slice_get_within files k p at) ∙ ap (λ q. take k files ++ q ∷ []) (get_or_from_slice_get files k p p at) in
+    map-append f starts (new ∷ [])
+    ∙ (λ w. so_far w ++ is w ∷ [])
+    ∙ sym (ap (map (λ path. path ∷ [])) taken ∙ map-append (λ path. path ∷ []) (take k files) (p ∷ []))
 
 -- one link more
 linked_more : (file : ℕ) (links : List (Path × ℕ)) (k : ℕ) (d : Path × ℕ) → k < length links
@@ -93,11 +104,19 @@ link_pushed f starts files links k link p old new low is known so_far read same 
     ∙ (λ w. slice_set (so_far w) n ((pushed ∙ (λ u. was u ++ same u ∷ [])) w))
     ∙ sym (links_more files links k link.0 n link low (sym is) known)
 
+-- the number of a file at the start is below how many there are
+pub numbers_below : (t : Trace) → ((n : ℕ) (p : Path) → get (start_paths t) p ≡ Some (File n) → IsPathOf t n p)
+    → (n : ℕ) (p : Path) → get (start_paths t) p ≡ Some (File n) → n < length t.files
+numbers_below t found n p at =
+    let own = found n p at in
+    slice_get_within t.files n own.own own.at
+
 -- each link is of a file of the start
-pub links_known : (t : Trace) → AreLinks (start_paths t) t.links
-    → ((n : ℕ) (p : Path) → get (start_paths t) p ≡ Some (File n) → IsPathOf t n p)
-    → (k : ℕ) (d : Path × ℕ) → k < length t.links → (get_or t.links k d).1 < length t.files
-links_known t linked found k d low =
-    let link = get_or t.links k d in
-    let own = found link.1 link.0 (linked k link (slice_get-get_or t.links k d low)) in
-    slice_get_within t.files link.1 own.own own.at
+pub link_known : (t : Trace) → AreLinks (start_paths t) t.links
+    → ((n : ℕ) (p : Path) → get (start_paths t) p ≡ Some (File n) → n < length t.files)
+    → (links : List (Path × ℕ)) → links ≡ t.links → (k : ℕ) (link : Path × ℕ) → k < length links → link ≡ get_or links k link
+    → link.1 < length t.files
+link_known t linked numbered links is k link low at =
+    let here : k < length t.links = subst (λ ls. k < length ls) is low in
+    numbered link.1 link.0
+    (linked k link (slice_get-get_or t.links k link here ∙ ap Some (sym (at ∙ ap (λ ls. get_or ls k link) is))))

@@ -95,7 +95,7 @@ pub fn break_up(alloc: Global, trace: &Trace) -> Result<Micros, MicroFault>
         return Err(MicroFault::TooMany);
     }
     let (ops, syncs) = micros_and_syncs(alloc, block, operations)?;
-    let starts = paths_of_files(alloc, trace.files(), trace.links())?;
+    let starts = paths_of_files(alloc, trace)?;
     Ok(Micros {
         ops,
         syncs,

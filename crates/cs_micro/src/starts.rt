@@ -1,20 +1,29 @@
 //! The paths of the files at the start of a trace.
-ghost use Rattle.std.specs.Prelude.{◌≡◌, ◌∷◌, [], ◌++◌, ◌<◌, length, map, slice_index_or};
-ghost use Rattle.std.specs.Prelude.{slice_set, IfOk, IsErr, OnOk};
-ghost use Rattle.std.specs.List.{All};
+ghost use Rattle.std.specs.Prelude.{◌≡◌, ℕ, List, ◌∷◌, [], ◌<◌, length, map, Some, IfOk, IsErr};
+ghost use Rattle.std.specs.FinMap.{get};
+ghost use Rattle.cs_trace.specs.Traces.{start_paths};
+ghost use Rattle.cs_trace.specs.declared.operation.Node.TheVariants.{File};
 ghost use Rattle.cs_micro.specs.Micros.{paths_of_files};
 
 use cs_names::Path;
+use cs_trace::Trace;
 use std::alloc::{AllocError, Global};
 
-/// For each file, in the order of `files`, a list of one path: the file's path there.
-fn own_paths(alloc: Global, files: &[Path]) -> Result<Vec<Vec<Path>>, AllocError>
+/// For each file at the start, by its number, a list of one path: the path that it was made at.
+/// The number of each file there is below how many there are.
+#[tactic(auto, using(crate::proofs::Linking::numbers_below))]
+fn own_paths(alloc: Global, trace: &Trace) -> Result<Vec<Vec<Path>>, AllocError>
     ensures value { IfOk result (λ starts. map (λ paths. paths.items) starts.items
-        ≡ map (λ path. path ∷ []) files.now) }
-    ensures memory { IsErr result → 0 < length files.now }
+        ≡ map (λ path. path ∷ []) trace.now.files) }
+    ensures numbered { (file : ℕ) (p : List (List ℕ))
+        → get (start_paths trace.now) p ≡ Some (File file) → file < length trace.now.files }
+    ensures memory { IsErr result → 0 < length trace.now.files }
 {
     let mut starts = Vec::new(alloc);
-    for path in files {
+    for file in 0..trace.file_count() {
+        let Some(path) = trace.file_path(file) else {
+            unreachable!()
+        };
         let mut paths = Vec::new(alloc);
         paths.push(path.try_clone(alloc)?)?;
         starts.push(paths)?;
@@ -22,21 +31,15 @@ fn own_paths(alloc: Global, files: &[Path]) -> Result<Vec<Vec<Path>>, AllocError
     Ok(starts)
 }
 
-/// The paths of each file, in the order of the files' numbers: its first path, from `files`, and
-/// then those that `links` has with its number, in their order. Each number in `links` must be that
-/// of one of `files`.
-pub fn paths_of_files(
-    alloc: Global,
-    files: &[Path],
-    links: &[(Path, u32)],
-) -> Result<Vec<Vec<Path>>, AllocError>
-    requires { All (λ link. link.1 < length files.now) links.now }
+/// The paths of each file at the start, in the order of the files' numbers: the path that it was
+/// made at, and then those of the trace's links that have its number, in their order.
+pub fn paths_of_files(alloc: Global, trace: &Trace) -> Result<Vec<Vec<Path>>, AllocError>
     ensures value { IfOk result (λ starts. map (λ paths. paths.items) starts.items
-        ≡ paths_of_files files.now links.now) }
-    ensures memory { IsErr result → 0 < length files.now }
+        ≡ paths_of_files trace.now.files trace.now.links) }
+    ensures memory { IsErr result → 0 < length trace.now.files }
 {
-    let mut starts = own_paths(alloc, files)?;
-    for (path, file) in links {
+    let mut starts = own_paths(alloc, trace)?;
+    for (path, file) in trace.links() {
         starts[*file as usize].push(path.try_clone(alloc)?)?;
     }
     Ok(starts)

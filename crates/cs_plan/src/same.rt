@@ -36,11 +36,29 @@ fn are_same_nodes(nodes: &[Node], others: &[Node]) -> bool
     nodes == others
 }
 
-/// Whether the paths of the files at the start are equal, in the same order.
-fn are_same_paths(paths: &[Path], others: &[Path]) -> bool
-    ensures { IsTrue result ↔ (paths.now ≡ others.now) }
+/// Whether two paths are equal.
+fn is_same_path(path: &Path, other: &Path) -> bool
+    ensures { IsTrue result ↔ (path.now ≡ other.now) }
 {
-    paths == others
+    path == other
+}
+
+/// Whether the files at the start were made at equal paths, by their numbers.
+fn have_same_paths(trace: &Trace, other: &Trace) -> bool
+    ensures { IsTrue result ↔ (trace.now.files ≡ other.now.files) }
+{
+    if trace.file_count() != other.file_count() {
+        return false;
+    }
+    for file in 0..trace.file_count() {
+        let (Some(path), Some(beside)) = (trace.file_path(file), other.file_path(file)) else {
+            unreachable!()
+        };
+        if !is_same_path(path, beside) {
+            return false;
+        }
+    }
+    true
 }
 
 /// Whether the further paths of files at the start, with the files' numbers, are equal, in the same
@@ -75,5 +93,5 @@ pub fn is_same_trace(trace: &Trace, other: &Trace) -> bool
     if !are_same_nodes(trace.nodes(), other.nodes()) {
         return false;
     }
-    are_same_paths(trace.files(), other.files()) && are_same_links(trace.links(), other.links())
+    have_same_paths(trace, other) && are_same_links(trace.links(), other.links())
 }

@@ -110,7 +110,7 @@ fn length_of(content: &Content) -> u64 {
 /// are 0 until the file's record is read; of a trace each file has a record.
 fn start_files(alloc: Global, trace: &Trace) -> Result<Vec<File>, AllocError> {
     let mut files = Vec::new(alloc);
-    for _ in trace.files() {
+    for _ in 0..trace.file_count() {
         push_file(alloc, &mut files, 0)?;
     }
     for ((_, record), node) in trace.records().iter().zip(trace.nodes()) {

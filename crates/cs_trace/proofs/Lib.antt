@@ -5,13 +5,16 @@ pub mod InDirectory
 pub mod LineByLine
 pub mod Named
 pub mod Numbered
+pub mod Owned
 pub mod Past
+pub mod Places
 pub mod Resolved
 pub mod Sound
 pub mod SoundOperations
 pub mod SoundSteps
 pub mod Spelling
 pub mod Started
+pub mod Starting
 pub mod Trees
 pub mod Unions
 pub mod Views

@@ -1,11 +1,12 @@
 -- Records and nodes of entries that are appended in parts.
-use Rattle.std.proofs.Common.{◌≡◌, ◌+◌, List, [], ◌∷◌, ◌++◌, length, map, refl, sym, ap, ◌∙◌, append_assoc, length-append, arith}
+use Rattle.std.proofs.Common.{◌≡◌, ◌+◌, List, [], ◌∷◌, ◌++◌, length, map, refl, sym, ap, ◌∙◌, append_assoc, length-append, arith, ℕ, suc, add-zero}
 use Rattle.std.proofs.lemmas.List.{append-nil}
 use Rattle.cs_tree_model.specs.Fresh.{fresh_record, with_numbers_from}
 use Rattle.cs_tree_model.specs.Maps.Values.{map_entries}
 use Rattle.cs_tree_model.specs.Tree.{Path}
 use Rattle.cs_tree_model.specs.declared.record.Record.{Record}
 use Rattle.cs_trace.specs.Entries.{node_of, record_of, with_nodes, with_records}
+use Rattle.cs_trace.specs.Owned.{with_place, with_places}
 use Rattle.cs_trace.specs.declared.entry.StartEntry.{StartEntry}
 use Rattle.cs_trace.specs.declared.operation.Node.{Node}
 
@@ -31,3 +32,25 @@ nodes_append (e ∷ es) fs = ap (λ ns. node_of e.1 ∷ ns) (nodes_append es fs)
 
 pub nodes-append : (ns : List Node) (es fs : List (Path × StartEntry)) → with_nodes (with_nodes ns es) fs ≡ with_nodes ns (es ++ fs)
 nodes-append ns es fs = append_assoc ns (map (λ e. node_of e.1) es) (map (λ e. node_of e.1) fs) ∙ ap (λ m. ns ++ m) (nodes_append es fs)
+
+numbers_length : (n : ℕ) (es : List (Path × StartEntry)) → length (with_numbers_from n (map_entries record_of es)) ≡ length es
+numbers_length n [] = refl
+numbers_length n (e ∷ es) = ap suc (numbers_length (n + 1) es)
+
+pub records-length : (rs : List (Path × Record)) (es : List (Path × StartEntry)) → length (with_records rs es) ≡ length rs + length es
+records-length rs es =
+    length-append rs (with_numbers_from (length rs) (map_entries record_of es)) ∙ ap (λ n. length rs + n) (numbers_length (length rs) es)
+
+pub places-append : (ps : List ℕ) (k : ℕ) (es fs : List (Path × StartEntry))
+    → with_places (with_places ps k es) (k + length es) fs ≡ with_places ps k (es ++ fs)
+places-append ps k [] fs = ap (λ n. with_places ps n fs) (add-zero k)
+places-append ps k (e ∷ es) fs =
+    let next : k + suc (length es) ≡ (k + 1) + length es = omega arith in
+    ap (λ n. with_places (with_places (with_place ps k e.1) (k + 1) es) n fs) next
+    ∙ places-append (with_place ps k e.1) (k + 1) es fs
+
+-- one part more
+pub places-next : (ps qs : List ℕ) (rs ss : List (Path × Record)) (es fs : List (Path × StartEntry)) → ss ≡ with_records rs es
+    → qs ≡ with_places ps (length rs) es → with_places qs (length ss) fs ≡ with_places ps (length rs) (es ++ fs)
+places-next ps qs rs ss es fs records places =
+    (λ i. with_places (places i) ((ap length records ∙ records-length rs es) i) fs) ∙ places-append ps (length rs) es fs

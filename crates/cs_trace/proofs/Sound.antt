@@ -1,9 +1,10 @@
 -- What each line that is accepted keeps.
 use Rattle.std.proofs.Common.{◌≡◌, ◌≢◌, ◌⊎◌, ℕ, suc, zero, ◌+◌, ◌<◌, ◌≤◌, true, false, cond, List, [], ◌∷◌, ◌++◌, length, map, inl, inr}
 use Rattle.std.proofs.Common.{⊎_elim, Option, None, Some, option_map, refl, sym, ap, ◌∙◌, subst, arith, length-append}
+use Rattle.std.proofs.lemmas.Bool.{false≢true}
 use Rattle.std.proofs.lemmas.Option.{same_Some}
 use Rattle.std.proofs.lemmas.List.{length-map, map-append}
-use Rattle.std.specs.FinMap.{FinMap, get, insert, get-insert, len, len-insert, same_map}
+use Rattle.std.specs.FinMap.{FinMap, entries, entries-insert, get, insert, get-insert, len, len-insert, same_map}
 use Rattle.std.specs.List.{slice_get, sum_by}
 use Rattle.std.specs.Option.{is_some, option_map_or}
 use Rattle.std.specs.Ordering.{eq_by_cmp}
@@ -18,12 +19,14 @@ use Rattle.cs_trace.specs.Entries.{Entries, node_by, node_of, size_of}
 use Rattle.cs_trace.specs.Judging.{AreShort}
 use Rattle.cs_trace.specs.Kept.{AreShortAtStart}
 use Rattle.cs_trace.specs.Operations.{AreLegal, IsDirectoryAt, Paths, made_by, paths_after_all, sizes_after_all}
+use Rattle.cs_trace.specs.Owned.{AreBelow}
 use Rattle.cs_trace.specs.States.{State, empty_state, with_entry, with_link}
 use Rattle.cs_trace.specs.Traces.{AreLinks}
 use Rattle.cs_trace.specs.declared.entry.StartEntry.{StartEntry}
 use Rattle.cs_trace.specs.declared.operation.Node.{Node}
 use Rattle.cs_trace.specs.declared.operation.Rights.{Rights}
 use Rattle.cs_trace.specs.declared.operation.Node.TheVariants.{Directory, File}
+use Rattle.cs_trace.proofs.Owned.{below-more, below-put}
 use Rattle.cs_trace.proofs.Resolved.{AreKnown, AreOctal, kept_octal}
 
 -- what is at each path at the start
@@ -46,7 +49,7 @@ AreSmall m = (p : Path) (e : StartEntry) → get m p ≡ Some e → size_of e.co
 pub record HasOwn (files : List Path) (m : Entries) (e : StartEntry) : Type 0 where
   pub own : Path
   pub at : slice_get files e.number ≡ Some own
-  pub entry : get m own ≡ Some e
+  pub entry : get m own ≡ Some (record e { own = true })
 
 abbrev pub AreFound : List Path → Entries → Type 0
 AreFound files m = (p : Path) (e : StartEntry) → get m p ≡ Some e → (bytes : List ℕ) → e.content ≡ Some bytes → HasOwn files m e
@@ -59,6 +62,7 @@ pub record IsSound (s : State) : Type 0 where
   pub numbered : (n : ℕ) (p : Path) → slice_get s.files n ≡ Some p → get (start_of s) p ≡ Some (File n)
   pub linked : AreLinks (start_of s) s.links
   pub found : AreFound s.files s.start
+  pub below : AreBelow (entries s.start) (length s.files)
   pub paths : s.paths ≡ paths_after_all (start_of s) s.operations
   pub sizes : s.sizes ≡ sizes_after_all (sizes_of s) s.operations
   pub legal : AreLegal (start_of s) (sizes_of s) s.operations
@@ -175,7 +179,7 @@ module _ (s : State) (sound : IsSound s) (p : Path) (e : StartEntry)
       → HasOwn files (insert s.start p e) f
   still_found files more q f there bytes content =
       let old = sound.found q f there bytes content in
-      record { own = old.own; at = more f.number old.own old.at; entry = entry_stays old.own f old.entry }
+      record { own = old.own; at = more f.number old.own old.at; entry = entry_stays old.own (record f { own = true }) old.entry }
 
   abbrev Finds : List Path → Path → StartEntry → Type 0
   Finds files q f = (bytes : List ℕ) → f.content ≡ Some bytes → HasOwn files (insert s.start p e) f
@@ -247,10 +251,16 @@ module _ (s : State) (sound : IsSound s) (p : Path) (e : StartEntry)
       → sizes ≡ sizes_after_all (map (λ q. entry_size (get (insert s.start p e) q)) files) s.operations
   sizes_by files sizes is = is ∙ sym (ap (sizes_after_all (map (λ q. entry_size (get (insert s.start p e) q)) files)) none)
 
+  -- the numbers of the files that were made at paths, with one entry more
+  all_below : (count : ℕ) → (e.own ≡ true → e.number < count) → AreBelow (entries s.start) count
+      → AreBelow (entries (insert s.start p e)) count
+  all_below count low old =
+      subst (λ es. AreBelow es count) (sym (entries-insert path_total s.start p e)) (below-put p e count (entries s.start) low old)
+
   module _ (rooted : IsDirectoryAt now []) where
     -- a directory more
-    pub sound-directory : e.content ≡ None → IsSound (with_entry s p e None)
-    sound-directory directory = record {
+    pub sound-directory : e.content ≡ None → e.own ≡ false → IsSound (with_entry s p e None)
+    sound-directory directory further = record {
       fresh = λ zero_made. absurd (not_fresh zero_made);
       rooted = λ _. subst AreRooted (sym same_start) rooted;
       nested = subst AreInDirectories (sym same_start) in_directories;
@@ -258,6 +268,7 @@ module _ (s : State) (sound : IsSound s) (p : Path) (e : StartEntry)
       numbered = subst (HaveNumbers s.files) (sym same_start) old_numbers;
       linked = subst (λ m. AreLinks m s.links) (sym same_start) old_links;
       found = all_found s.files (λ n q at. at) (λ bytes content. absurd (no_content bytes directory content));
+      below = all_below (length s.files) (λ own. absurd (false≢true (sym further ∙ own))) sound.below;
       paths = paths_now;
       sizes = sizes_by s.files s.sizes (sizes_then ∙ same_sizes);
       legal = none_legal _ _;
@@ -283,8 +294,9 @@ module _ (s : State) (sound : IsSound s) (p : Path) (e : StartEntry)
         here = ap (λ c. node_by c e.number) directory
 
     -- a file more
-    pub sound-file : (bytes : List ℕ) → e.content ≡ Some bytes → e.number ≡ length s.sizes → IsSound (with_entry s p e (Some bytes))
-    sound-file bytes content number = record {
+    pub sound-file : (bytes : List ℕ) → e.content ≡ Some bytes → e.number ≡ length s.sizes → e.own ≡ true
+        → IsSound (with_entry s p e (Some bytes))
+    sound-file bytes content number own = record {
       fresh = λ zero_made. absurd (not_fresh zero_made);
       rooted = λ _. subst AreRooted (sym same_start) rooted;
       nested = subst AreInDirectories (sym same_start) in_directories;
@@ -299,8 +311,10 @@ module _ (s : State) (sound : IsSound s) (p : Path) (e : StartEntry)
       found = all_found (s.files ++ p ∷ []) (slice_get-push_old s.files p) (λ bytes content. record {
         own = p;
         at = ap (slice_get (s.files ++ p ∷ [])) count ∙ slice_get-push_new s.files p;
-        entry = get-insert_same path_total path_exact s.start p e;
+        entry = get-insert_same path_total path_exact s.start p e ∙ ap (λ o. Some (record e { own = o })) own;
       });
+      below = all_below (length (s.files ++ p ∷ [])) (λ _. omega (arith, count, more)) (subst (AreBelow (entries s.start)) (sym more)
+          (below-more (entries s.start) (length s.files) sound.below));
       paths = paths_now;
       sizes = sizes_by (s.files ++ p ∷ []) (s.sizes ++ length bytes ∷ [])
           (ap (λ sizes. sizes ++ length bytes ∷ []) (sizes_then ∙ same_sizes)
@@ -325,6 +339,9 @@ module _ (s : State) (sound : IsSound s) (p : Path) (e : StartEntry)
         here : node_of e ≡ File e.number
         here = ap (λ c. node_by c e.number) content
 
+        more : length (s.files ++ p ∷ []) ≡ suc (length s.files)
+        more = omega (arith, length-append s.files (p ∷ []))
+
         count : e.number ≡ length s.files
         count = number ∙ ap length sizes_then ∙ length-map s.files (λ q. entry_size (get s.start q))
 
@@ -333,8 +350,8 @@ module _ (s : State) (sound : IsSound s) (p : Path) (e : StartEntry)
 
     -- one path more for a file
     pub sound-link : (bytes : List ℕ) → e.content ≡ Some bytes → HasOwn s.files s.start e → e.number < length s.sizes
-        → IsSound (with_link s p e)
-    sound-link bytes content own low = record {
+        → e.own ≡ false → IsSound (with_link s p e)
+    sound-link bytes content own low further = record {
       fresh = λ zero_made. absurd (not_fresh zero_made);
       rooted = λ _. subst AreRooted (sym same_start) rooted;
       nested = subst AreInDirectories (sym same_start) in_directories;
@@ -346,7 +363,9 @@ module _ (s : State) (sound : IsSound s) (p : Path) (e : StartEntry)
           ap (λ (l : Path × ℕ). get now l.0) new.1 ∙ get-insert_same path_total path_exact (start_of s) p (node_of e)
           ∙ ap Some (here ∙ ap (λ (l : Path × ℕ). File l.1) (sym new.1)))
           (slice_get-push s.links (p, e.number) n link at));
-      found = all_found s.files (λ n q at. at) (λ _ _. record { own = own.own; at = own.at; entry = entry_stays own.own e own.entry });
+      found = all_found s.files (λ n q at. at)
+          (λ _ _. record { own = own.own; at = own.at; entry = entry_stays own.own (record e { own = true }) own.entry });
+      below = all_below (length s.files) (λ is. absurd (false≢true (sym further ∙ is))) sound.below;
       paths = paths_now;
       sizes = sizes_by s.files s.sizes (sizes_then ∙ same_sizes);
       legal = none_legal _ _;

@@ -2,6 +2,7 @@
 use Rattle.std.proofs.Common.{◌≡◌, ◌≢◌, ℕ, ◌+◌, ◌≤◌, ◌==◌, ◌||◌, Bool, true, false, List, [], ◌∷◌, length}
 use Rattle.std.proofs.Common.{Option, option_map, None, Some, refl, sym, ap, ◌∙◌, subst, arith, Result, Ok, Err}
 use Rattle.std.proofs.lemmas.Bool.{false≢true, eqb-true, eq-eqb, or_parts}
+use Rattle.std.proofs.lemmas.List.{length-map}
 use Rattle.std.proofs.lemmas.List.Sums.{fold_push}
 use Rattle.std.specs.FinMap.{get, empty, get-empty, len-empty, same_map}
 use Rattle.std.specs.Option.{option_and_then, option_map_or}
@@ -20,6 +21,7 @@ use Rattle.cs_trace_lines.specs.Lines.{Claims, Header, Line, Operation, Start, S
 use Rattle.cs_trace_lines.specs.Lines.{is_blank, line_in}
 use Rattle.cs_trace.specs.Names.{are_user_names, below_root, entry_path_of, new_path_of, path_of, rights_of}
 use Rattle.cs_trace.specs.Operations.{IsDirectoryAt, IsLegal, made_by, paths_after, paths_after_all, sizes_after, sizes_after_all}
+use Rattle.cs_trace.specs.Owned.{AreBelow}
 use Rattle.cs_trace.specs.States.{State, at_line, after_header, entry_for, first_step, later_step, line_step, empty_state, start_file_at}
 use Rattle.cs_trace.specs.States.{start_file_by, start_link_step, start_step, state_from, state_in, step, after_operation, with_link}
 use Rattle.cs_trace.specs.States.{with_start}
@@ -31,8 +33,9 @@ use Rattle.cs_trace.specs.declared.operation.Operation.{Operation as Resolved}
 use Rattle.cs_trace_lines.specs.declared.version.Version.{Version}
 use Rattle.cs_trace_lines.proofs.Octal.{HasOctal, IsOctal, line_octal}
 use Rattle.cs_trace.proofs.Resolved.{AreOctal, IsTaken, free_is, kept_octal, limits_by, resolve_taken, within}
-use Rattle.cs_trace.proofs.Sound.{IsSound, each_of, sound-directory, sound-file, sound-link, start_of, sizes_of, stays}
+use Rattle.cs_trace.proofs.Sound.{IsSound, each_of, entry_size, sound-directory, sound-file, sound-link, start_of, sizes_of, stays}
 use Rattle.cs_trace.proofs.SoundOperations.{counted_after, known_after, legal_push, rights_after, short_after}
+use Rattle.cs_trace.proofs.Views.{entries-empty}
 use Rattle.cs_trace.proofs.Within.{good, limit_by, then_by, value_by}
 
 -- ---- one operation more
@@ -48,6 +51,7 @@ versioned s version a octal made sound = record {
   numbered = sound.numbered;
   linked = sound.linked;
   found = sound.found;
+  below = sound.below;
   paths = sound.paths;
   sizes = sound.sizes;
   legal = sound.legal;
@@ -74,6 +78,7 @@ module _ (s : State) (sound : IsSound s) (made : s.made ≢ 0) where
     numbered = sound.numbered;
     linked = sound.linked;
     found = sound.found;
+    below = sound.below;
     paths = ap (λ m. paths_after m o) sound.paths ∙ sym (fold_push paths_after (start_of s) s.operations o);
     sizes = ap (λ sizes. sizes_after sizes o) sound.sizes ∙ sym (fold_push sizes_after (sizes_of s) s.operations o);
     legal =
@@ -110,11 +115,11 @@ module _ (s : State) (sound : IsSound s) (made : s.made ≢ 0) where
     sound-start None small =
         let e = entry_for s claims None in
         sound-directory s sound p e none free (λ _. above) octal short few small
-        (stays s sound p e none free (λ _. above) octal short few small [] Directory (sound.rooted made)) refl
+        (stays s sound p e none free (λ _. above) octal short few small [] Directory (sound.rooted made)) refl refl
     sound-start (Some bytes) small =
         let e = entry_for s claims (Some bytes) in
         sound-file s sound p e none free (λ _. above) octal short few small
-        (stays s sound p e none free (λ _. above) octal short few small [] Directory (sound.rooted made)) bytes refl refl
+        (stays s sound p e none free (λ _. above) octal short few small [] Directory (sound.rooted made)) bytes refl refl refl
 
   new_named : (read : Option Path) (t : Bool) (p : Path)
       → or_bad_name (option_and_then (λ q. if t then Some q else None) (option_and_then below_root read)) ≡ Ok p → p ≢ []
@@ -153,7 +158,8 @@ module _ (s : State) (sound : IsSound s) (made : s.made ≢ 0) where
   sound-start_link_step path from none =
       then_by (or_bad_name (entry_path_of path)) _ IsSound (λ q at. then_by (or_bad_name (entry_path_of from)) _ IsSound (λ p _.
       then_by (start_file_at (get s.start p)) _ IsSound
-      (λ e is. then_by (free_at s.paths q) _ IsSound (λ u free. limit_by (is_too_much s.made q) (with_link s q e) IsSound (λ large.
+      (λ e is. then_by (free_at s.paths q) _ IsSound (λ u free.
+      limit_by (is_too_much s.made q) (with_link s q (record e { own = false })) IsSound (λ large.
       let same : s.paths ≡ start_of s = sound.paths ∙ ap (paths_after_all (start_of s)) none in
       let parts = free_is (get s.paths (parent_path q)) (get s.paths q) u free in
       let limits = limits_by s.made q large in
@@ -165,9 +171,11 @@ module _ (s : State) (sound : IsSound s) (made : s.made ≢ 0) where
       let above = ap (λ m. get m (parent_path q)) (sym same) ∙ parts.1 in
       let octal = sound.octal p e file.0 in
       let small = sound.small p e file.0 in
-      let root = stays s sound q e none here (λ _. above) octal limits.0 limits.1 small [] Directory (sound.rooted made) in
-      sound-link s sound q e none here (λ _. above) octal limits.0 limits.1 small root file.1 file.2 (sound.found p e file.0 file.1 file.2)
-      (sound.known p e.number there))))))
+      let copy = record e { own = false } in
+      let root = stays s sound q copy none here (λ _. above) octal limits.0 limits.1 small [] Directory (sound.rooted made) in
+      let own = sound.found p e file.0 file.1 file.2 in
+      sound-link s sound q copy none here (λ _. above) octal limits.0 limits.1 small root file.1 file.2
+      (record { own = own.own; at = own.at; entry = own.entry }) (sound.known p e.number there) refl)))))
 
   begun_by : (t : Bool) (l : StartLine) → HasOctal l.claims → length s.operations == 0 ≡ t → (n : State)
       → (if t then start_step s l else Err Syntax) ≡ Ok n → IsSound n
@@ -213,6 +221,7 @@ sound-nothing = record {
   numbered = λ n p at. absurd (no_element p at);
   linked = λ n link at. absurd (no_element link at);
   found = λ p e there. absurd (not_both _ e (get-empty path_cmp p) there);
+  below = subst (λ es. AreBelow es 0) (sym entries-empty) tt;
   paths = no_paths;
   sizes = refl;
   legal = tt;
@@ -243,7 +252,7 @@ module _ (claims : Claims) (octal : HasOctal claims) where
   sound-root =
       sound-directory empty_state sound-nothing [] (entry_for empty_state claims None) refl free_root (λ named. absurd (named refl)) octal
       (omega arith) (omega arith) (omega arith)
-      (get-insert_same path_total path_exact (start_of empty_state) [] Directory) refl
+      (get-insert_same path_total path_exact (start_of empty_state) [] Directory) refl refl
 
 some_made : (n : ℕ) → n + 1 ≢ 0
 some_made n none = omega arith
@@ -304,4 +313,17 @@ sound-state_in lines s does = sound-from empty_state s 1 lines sound-nothing doe
 pub bounded : (lines : List (List ℕ)) (s : State) → state_in lines ≡ Ok s → IsBounded s
 bounded lines s does =
     let sound = sound-state_in lines s does in
-    record { short = sound.short; started = sound.started; few = sound.few; counted = sound.counted }
+    record {
+      fresh = sound.fresh;
+      starting = λ none. record {
+        paths = sound.paths ∙ ap (paths_after_all (start_of s)) none;
+        even =
+            ap length (sound.sizes ∙ ap (sizes_after_all (sizes_of s)) none)
+            ∙ length-map s.files (λ p. entry_size (get s.start p));
+        below = sound.below;
+      };
+      short = sound.short;
+      started = sound.started;
+      few = sound.few;
+      counted = sound.counted;
+    }

@@ -1,5 +1,5 @@
 -- A sound state is a trace.
-use Rattle.std.proofs.Common.{◌≡◌, ◌≢◌, ℕ, ◌+◌, ◌*◌, ◌^◌, ◌<◌, ◌≤◌, List, [], ◌∷◌, get_or, length, map, Option, None, Some, option_map}
+use Rattle.std.proofs.Common.{◌≡◌, ◌≢◌, ℕ, ◌+◌, ◌*◌, ◌^◌, ◌<◌, ◌≤◌, true, List, [], ◌∷◌, get_or, length, map, Option, None, Some, option_map}
 use Rattle.std.proofs.Common.{refl, sym, ap, ◌∙◌, subst, arith, lit≤}
 use Rattle.std.proofs.lemmas.List.{length-map}
 use Rattle.std.proofs.lemmas.List.Elements.{All-map}
@@ -193,7 +193,7 @@ module _ (s : State) (sound : IsSound s) (made : s.made ≢ 0) where
         alike =
             subst (λ o. AreAlikeAt o (record_in (records_in s.start) own.own)) (sym (record_of_entry p e.0 e.1))
             (subst (AreAlikeAt (option_map (fresh_record (place_in p (entries (map_values record_of s.start))))
-            (option_map record_of (Some e.0)))) (sym (record_of_entry own.own e.0 own.entry))
+            (option_map record_of (Some e.0)))) (sym (record_of_entry own.own (record e.0 { own = true }) own.entry))
             (alike_by _ _ e.0));
       }
 

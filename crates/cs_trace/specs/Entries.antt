@@ -1,6 +1,6 @@
 -- What is at each path at the start.
-use Rattle.std.specs.Prelude.{ℕ, ◌+◌, ◌++◌, List, Option, None, Some, length, map, refl}
-use Rattle.std.specs.Coded.{Coded, code_by, coded×, coded_ℕ, coded_list, coded_option}
+use Rattle.std.specs.Prelude.{ℕ, Bool, ◌+◌, ◌++◌, List, Option, None, Some, length, map, refl}
+use Rattle.std.specs.Coded.{Coded, code_by, coded×, coded_ℕ, coded_bool, coded_list, coded_option}
 use Rattle.std.specs.FinMap.{FinMap, code, entries}
 use Rattle.cs_tree_model.specs.Fresh.{listing, with_numbers_from}
 use Rattle.cs_tree_model.specs.Maps.Values.{map_entries, map_values}
@@ -17,16 +17,21 @@ Entries = FinMap path_cmp StartEntry
 
 abbrev pub entry_code : Coded StartEntry
 entry_code = code_by
-    (ℕ × (List ℕ × (List ℕ × (ℕ × Option (List ℕ)))))
+    (ℕ × (Bool × (List ℕ × (List ℕ × (ℕ × Option (List ℕ))))))
     (coded× coded_ℕ
+    (coded× coded_bool
     (coded× (coded_list coded_ℕ)
     (coded× (coded_list coded_ℕ)
-    (coded× coded_ℕ (coded_option (coded_list coded_ℕ))))))
-    (λ e. (e.number, (e.rights.owner, (e.rights.group, (e.rights.permissions, e.content)))))
+    (coded× coded_ℕ (coded_option (coded_list coded_ℕ)))))))
+    (λ e. (
+      e.number,
+      (e.own, (e.rights.owner, (e.rights.group, (e.rights.permissions, e.content)))),
+    ))
     (λ p. record {
       number = p.0;
-      rights = record { owner = p.1.0; group = p.1.1.0; permissions = p.1.1.1.0 };
-      content = p.1.1.1.1;
+      own = p.1.0;
+      rights = record { owner = p.1.1.0; group = p.1.1.1.0; permissions = p.1.1.1.1.0 };
+      content = p.1.1.1.1.1;
     })
     (λ _. refl)
 

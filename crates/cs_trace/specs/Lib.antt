@@ -8,6 +8,7 @@ pub mod Kept
 pub mod Names
 pub mod Operations
 pub mod Outcomes
+pub mod Owned
 pub mod Siblings
 pub mod States
 pub mod Traces

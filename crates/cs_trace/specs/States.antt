@@ -1,9 +1,9 @@
 -- The state after the lines of a trace, one after another.
-use Rattle.std.specs.Prelude.{ℕ, ◌+◌, ◌==◌, List, [], ◌∷◌, ◌++◌, length, nat_lt, ◌||◌, Option, Some}
+use Rattle.std.specs.Prelude.{ℕ, ◌+◌, ◌==◌, List, [], ◌∷◌, ◌++◌, length, nat_lt, ◌||◌, Option, Some, false}
 use Rattle.std.specs.Prelude.{None, if◌then◌else◌, Result, Ok, Err}
 use Rattle.std.specs.FinMap.{empty, get, insert}
 use Rattle.std.specs.List.{slice_split}
-use Rattle.std.specs.Option.{option_map_or}
+use Rattle.std.specs.Option.{is_some, option_map_or}
 use Rattle.cs_names.specs.declared.limits.TheConstants.{FILE_BYTES}
 use Rattle.cs_tree_model.specs.Tree.{Path}
 use Rattle.cs_trace.specs.Attributes.{Attributes, attributes_after, kept_in, no_attributes}
@@ -78,7 +78,12 @@ number_for s (Some bytes) = length s.sizes
 
 abbrev pub entry_for : State → Claims → Option (List ℕ) → StartEntry
 entry_for s claims content =
-    record { number = number_for s content; rights = rights_of claims; content = content }
+    record {
+      number = number_for s content;
+      own = is_some content;
+      rights = rights_of claims;
+      content = content;
+    }
 
 abbrev pub with_start : State → Path → Claims → Option (List ℕ) → State
 with_start s p claims content = with_entry s p (entry_for s claims content) content
@@ -127,7 +132,7 @@ abbrev pub start_link_at : State → Path → Path → Result State TraceFaultKi
 start_link_at s p q =
     and_then (start_file_at (get s.start p)) (λ e.
     and_then (free_at s.paths q) (λ _.
-    unless_too_large (is_too_much s.made q) (with_link s q e)))
+    unless_too_large (is_too_much s.made q) (with_link s q (record e { own = false }))))
 
 abbrev pub start_link_step : State → List ℕ → List ℕ → Result State TraceFaultKind
 start_link_step s path from =

@@ -1,5 +1,5 @@
 -- A trace: its start tree, and its operations.
-use Rattle.std.specs.Prelude.{◌≡◌, ℕ, ◌+◌, ◌-◌, ◌<◌, ◌≤◌, ◌==◌, true, List, [], length, map, take}
+use Rattle.std.specs.Prelude.{◌≡◌, ◌∷◌, zero, suc, ℕ, ◌+◌, ◌-◌, ◌<◌, ◌≤◌, ◌==◌, true, List, [], length, map, take}
 use Rattle.std.specs.Prelude.{Option, None, Some, slice_get, if◌then◌else◌, Result, Ok, Err, IsOk}
 use Rattle.std.specs.FinMap.{from_entries, get}
 use Rattle.std.specs.List.{All, slice_index_or, sum_by, zip}
@@ -47,6 +47,12 @@ start_paths t = paths_of_records t.records t.nodes
 -- the record at a path
 abbrev pub record_in : List (Path × Record) → Path → Option Record
 record_in records p = get (from_entries {R = path_cmp} records) p
+
+-- the path of the record at a place; past the end the root's
+abbrev pub path_at : {X : Type 0} → List (Path × X) → ℕ → Path
+path_at [] place = []
+path_at (e ∷ es) zero = e.0
+path_at (e ∷ es) (suc place) = path_at es place
 
 -- how many bytes it has
 abbrev pub size_at : List (Path × Record) → Path → ℕ

@@ -1,7 +1,7 @@
 //! The files and directories at the start, by their paths. What operations put at paths, without
 //! bytes and rights, is in `placed`. After an error, the trace is given up; entries may be missing
 //! then, or only some of them appended to the lists of the start.
-ghost use Rattle.std.specs.Prelude.{◌≡◌, ◌++◌, false, IfOk, OnErr, OnOk};
+ghost use Rattle.std.specs.Prelude.{◌≡◌, ◌++◌, false, IfOk, OnErr, OnOk, length, replicate};
 ghost use Rattle.std.specs.FinMap as map;
 ghost use Rattle.std.specs.List.{list_any};
 ghost use Rattle.std.specs.Option.{is_some, option_map};
@@ -9,6 +9,7 @@ ghost use Rattle.cs_tree_model.specs.Maps.Values.{map_values};
 ghost use Rattle.cs_tree_model.specs.Tree.{path_cmp};
 ghost use Rattle.cs_trace.specs.Below.{has_below, is_below};
 ghost use Rattle.cs_trace.specs.Entries.{node_of, nodes_in, records_in, with_nodes, with_records};
+ghost use Rattle.cs_trace.specs.Owned.{with_places};
 ghost use Rattle.cs_trace.specs.Siblings.{AreBefore, AreElsewhere, AreIn, with_all};
 ghost use Rattle.cs_trace.specs.Siblings.{with_siblings};
 ghost use Rattle.cs_trace.specs.Unions.{union};
@@ -73,6 +74,9 @@ fn append_map(by_path: BTreeMap<Path, StartEntry>, lists: &mut StartLists) -> Re
     ensures records { OnOk result (lists.new.records.items ≡ with_records lists.old.records.items
         (map.entries (map.from_entries {R = path_cmp} by_path.entries))) }
     ensures nodes { OnOk result (lists.new.nodes.items ≡ with_nodes lists.old.nodes.items
+        (map.entries (map.from_entries {R = path_cmp} by_path.entries))) }
+    ensures places { OnOk result (lists.new.places.items
+        ≡ with_places lists.old.places.items (length lists.old.records.items)
         (map.entries (map.from_entries {R = path_cmp} by_path.entries))) }
 {
     for (path, entry) in by_path {
@@ -181,6 +185,9 @@ fn append_split(
         (map.entries (union siblings.entries (map.from_entries others.entries)))) }
     ensures nodes { OnOk result (lists.new.nodes.items ≡ with_nodes lists.old.nodes.items
         (map.entries (union siblings.entries (map.from_entries others.entries)))) }
+    ensures places { OnOk result (lists.new.places.items
+        ≡ with_places lists.old.places.items (length lists.old.records.items)
+        (map.entries (union siblings.entries (map.from_entries others.entries)))) }
 {
     let mut before = others;
     let after = split_off_after(alloc, &mut before, &siblings)?;
@@ -203,6 +210,9 @@ fn append_both(
     ensures records { OnOk result (lists.new.records.items ≡ with_records lists.old.records.items
         (map.entries (union siblings.entries (map.from_entries others.entries)))) }
     ensures nodes { OnOk result (lists.new.nodes.items ≡ with_nodes lists.old.nodes.items
+        (map.entries (union siblings.entries (map.from_entries others.entries)))) }
+    ensures places { OnOk result (lists.new.places.items
+        ≡ with_places lists.old.places.items (length lists.old.records.items)
         (map.entries (union siblings.entries (map.from_entries others.entries)))) }
 {
     if !has_below(&others, siblings.directory()) {
@@ -351,6 +361,8 @@ impl Entries {
             ≡ with_records lists.old.records.items (map.entries self)) }
         ensures nodes { OnOk result (lists.new.nodes.items
             ≡ with_nodes lists.old.nodes.items (map.entries self)) }
+        ensures places { OnOk result (lists.new.places.items ≡ with_places
+            lists.old.places.items (length lists.old.records.items) (map.entries self)) }
     {
         let Entries { by_path, siblings } = self;
         match siblings {
@@ -361,15 +373,14 @@ impl Entries {
 
     /// A record of each entry, in the order of their paths and numbered from 0; and, in the same
     /// order, the node of each: a directory, or a file by its number.
-    pub(crate) fn into_lists(
-        self,
-        alloc: Global,
-    ) -> Result<(Vec<(Path, Record)>, Vec<Node>), AllocError>
-        ensures records { IfOk result (λ lists. lists.0.items ≡ records_in self) }
-        ensures nodes { IfOk result (λ lists. lists.1.items ≡ nodes_in self) }
+    pub(crate) fn into_lists(self, alloc: Global, files: usize) -> Result<StartLists, AllocError>
+        ensures records { IfOk result (λ lists. lists.records.items ≡ records_in self) }
+        ensures nodes { IfOk result (λ lists. lists.nodes.items ≡ nodes_in self) }
+        ensures places { IfOk result (λ lists. lists.places.items
+            ≡ with_places (replicate files 0) 0 (map.entries self)) }
     {
-        let mut lists = StartLists::with_capacity(alloc, self.count())?;
+        let mut lists = StartLists::with_capacity(alloc, self.count(), files)?;
         self.append_to(alloc, &mut lists)?;
-        Ok((lists.records, lists.nodes))
+        Ok(lists)
     }
 }

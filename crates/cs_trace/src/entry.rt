@@ -1,5 +1,5 @@
 //! The file or directory at a path at the start.
-ghost use Rattle.std.specs.Prelude.{◌≡◌, ◌≤◌, IfOk};
+ghost use Rattle.std.specs.Prelude.{◌≡◌, ◌≤◌, false, IfOk};
 ghost use Rattle.cs_tree_model.specs.Fresh.{fresh_record};
 ghost use Rattle.cs_trace.specs.Entries.{file_mode, node_of, record_of};
 
@@ -12,6 +12,8 @@ use std::alloc::{AllocError, Global};
 pub(crate) struct StartEntry {
     /// The number of a file; 0 for a directory, which has none.
     pub(crate) number: u32,
+    /// Whether a file was made at this path; further paths of it have entries that are copies.
+    pub(crate) own: bool,
     pub(crate) rights: Rights,
     pub(crate) content: Content,
 }
@@ -39,10 +41,11 @@ impl StartEntry {
 
     /// A copy of the entry, for another path of its file.
     pub(crate) fn try_clone(&self, alloc: Global) -> Result<StartEntry, AllocError>
-        ensures { IfOk result (λ copy. copy ≡ self.now) }
+        ensures { IfOk result (λ copy. copy ≡ record self.now { own = false }) }
     {
         Ok(StartEntry {
             number: self.number,
+            own: false,
             rights: self.rights.try_clone()?,
             content: self.content.try_clone(alloc)?,
         })

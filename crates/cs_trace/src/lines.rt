@@ -53,7 +53,8 @@ fn apply_operation(
 /// Applies the first line that isn't blank. If it is no header, it is Syntax; the other faults are
 /// those of `apply_header`.
 fn apply_first(alloc: Global, state: &mut LinesSoFar, line: Line) -> Result<(), TraceFaultKind>
-    requires { IsBounded (state_of state.old) }
+    requires bounded { IsBounded (state_of state.old) }
+    requires first { state.old.made ≡ 0 }
     ensures { Leaves
         (first_step (state_of state.old) (line_value line))
         result (state_of state.new) IsPastNames }

@@ -3,12 +3,14 @@
 //! entries may be missing then, or only some of them appended.
 ghost use Rattle.std.specs.Prelude.{◌≡◌, ◌≢◌, ◌∷◌, ◌++◌, [], IfNone, IfOk, IfSome, IsTrue, OnOk};
 ghost use Rattle.std.specs.Prelude.{None, false};
+ghost use Rattle.std.specs.Prelude.{length};
 ghost use Rattle.std.specs.FinMap as map;
 ghost use Rattle.std.specs.Option.{is_some, option_map};
 ghost use Rattle.cs_tree_model.specs.Maps.Values.{map_values};
 ghost use Rattle.cs_tree_model.specs.Tree.{NameBytes};
 ghost use Rattle.cs_trace.specs.Below.{has_below};
 ghost use Rattle.cs_trace.specs.Entries.{node_of, with_nodes, with_records};
+ghost use Rattle.cs_trace.specs.Owned.{with_places};
 ghost use Rattle.cs_trace.specs.Siblings.{AreIn, BeginsAt, IsIn, entry_in};
 
 use crate::entry::StartEntry;
@@ -198,6 +200,9 @@ impl Siblings {
             ≡ with_records lists.old.records.items (map.entries self.entries)) }
         ensures nodes { OnOk result (lists.new.nodes.items
             ≡ with_nodes lists.old.nodes.items (map.entries self.entries)) }
+        ensures places { OnOk result (lists.new.places.items
+            ≡ with_places lists.old.places.items (length lists.old.records.items)
+            (map.entries self.entries)) }
     {
         for (_, (path, entry)) in self.by_name {
             lists.append(path, entry)?;

@@ -2,23 +2,26 @@
 //! that no clause says what is left of the state. A line runs out of memory only if none of its
 //! names and paths is BadName.
 ghost use Rattle.std.specs.Prelude.{◌≡◌, ◌≢◌, ◌<◌, ◌^◌, IfErr, IfOk, IsOk, OnOk, None, Some, Ok};
-ghost use Rattle.std.specs.Prelude.{Err, length};
+ghost use Rattle.std.specs.Prelude.{Err, false, length};
 ghost use Rattle.std.specs.FinMap as map;
 ghost use Rattle.std.specs.Option.{is_some, option_map};
 ghost use Rattle.cs_tree_model.specs.Tree.{parent_path};
+ghost use Rattle.cs_trace.specs.Attributes.{kept_in};
 ghost use Rattle.cs_trace.specs.Entries.{node_of, size_of};
 ghost use Rattle.cs_trace.specs.Judging.{IsPastNames, free_at, or_bad_name};
-ghost use Rattle.cs_trace.specs.Kept.{IsBounded, state_of};
+ghost use Rattle.cs_trace.specs.Kept.{IsBounded, IsStarting, attributes_of, state_of, with_node};
 ghost use Rattle.cs_trace_lines.specs.Lines.{Header};
 ghost use Rattle.cs_trace.specs.Names.{new_path_of};
+ghost use Rattle.cs_trace.specs.Owned.{count_with, sizes_with};
 ghost use Rattle.cs_trace.specs.Outcomes.{Leaves};
 ghost use Rattle.cs_trace_lines.specs.Said.{claims_of, start_of};
 ghost use Rattle.cs_trace.specs.States.{entry_for, first_step, start_at, start_file_at};
 ghost use Rattle.cs_trace.specs.States.{start_link_at, start_link_step, start_step, with_entry};
-ghost use Rattle.cs_trace.specs.States.{with_link};
+ghost use Rattle.cs_trace.specs.States.{number_for, with_link};
 ghost use Rattle.cs_trace.specs.declared.fault.TraceFaultKind.TheVariants.{Memory};
 ghost use Rattle.cs_trace.specs.declared.operation.Node.TheVariants.{Directory};
 
+use crate::attributes::Attributes;
 use crate::entry::StartEntry;
 use crate::fault::TraceFaultKind;
 use crate::judge::{check_free, is_over_limits};
@@ -60,47 +63,82 @@ fn new_entry(
     Ok(match content {
         None => StartEntry {
             number: 0,
+            own: false,
             rights,
             content: Content::directory(),
         },
         Some(bytes) => StartEntry {
             number: state.sizes.len() as u32,
+            own: true,
             rights,
             content: Content::file(bytes),
         },
     })
 }
 
-/// Adds the entry of a new file or directory at the path: to the tree, to the files and their sizes
-/// if it is a file, and to the attributes if the version has them, as `LinesSoFar::apply` does.
-/// Counts one more record. Returns whether it replaced another entry, which the caller reports as a
-/// fault.
+/// Keeps the size of a new file of the start, and counts the start's files. A directory changes
+/// neither.
+fn add_size(
+    sizes: &mut Vec<u64>,
+    file_count: &mut usize,
+    content: &Content,
+) -> Result<(), AllocError>
+    ensures sizes { OnOk result (sizes.new.items ≡ sizes_with sizes.old.items content.now) }
+    ensures count { OnOk result (file_count.new
+        ≡ count_with file_count.old sizes.old.items content.now) }
+{
+    if let Kind::File { length } = content.kind() {
+        sizes.push(length)?;
+        // Before the first operation, each file is one of the start's.
+        *file_count = sizes.len();
+    }
+    Ok(())
+}
+
+/// Keeps the attributes of a new entry at the path, if the version has them.
+fn add_attributes(
+    alloc: Global,
+    version: Version,
+    attributes: &mut Attributes,
+    path: &Path,
+    entry: &StartEntry,
+) -> Result<(), AllocError>
+    ensures { OnOk result (attributes_of attributes.new
+        ≡ kept_in version (attributes_of attributes.old)
+        (with_node (attributes_of attributes.old) (node_of entry.now) path.now entry.now.rights)) }
+{
+    match version {
+        // Version 1 has no operation that changes attributes.
+        Version::First => Ok(()),
+        Version::Second(_) | Version::Third(..) => {
+            attributes.add(alloc, entry.node(), path, &entry.rights)
+        }
+    }
+}
+
+/// Adds the entry of a new file or directory at the path: to the tree, to the sizes and the count
+/// of files if it is a file, and to the attributes if the version has them, as `LinesSoFar::apply`
+/// does. Counts one more record. Returns whether it replaced another entry, which the caller reports
+/// as a fault.
 fn put_entry(
     alloc: Global,
     state: &mut LinesSoFar,
     path: Path,
     entry: StartEntry,
 ) -> Result<bool, AllocError>
-    requires { state.old.made < 2 ^ 32 }
+    requires few { state.old.made < 2 ^ 32 }
+    requires starting { IsStarting (state_of state.old) }
+    requires own { entry.own ≡ is_some entry.content }
+    requires number { entry.number ≡ number_for (state_of state.old) entry.content }
     ensures replaced { IfOk result (λ replaced. replaced
         ≡ is_some (map.get state.old.tree.nodes path)) }
-    ensures state { OnOk result (state_of state.new
+    ensures state { IfOk result (λ replaced. replaced ≡ false → state_of state.new
         ≡ with_entry (state_of state.old) path entry entry.content) }
     ensures nodes { OnOk result (state.new.tree.nodes
         ≡ map.insert state.old.tree.nodes path (node_of entry)) }
 {
-    if let Kind::File { length } = entry.content.kind() {
-        state.files.push(path.try_clone(alloc)?)?;
-        state.sizes.push(length)?;
-    }
-    match state.version {
-        // Version 1 has no operation that changes attributes.
-        Version::First => {}
-        Version::Second(_) | Version::Third(..) => {
-            let node = entry.node();
-            state.attributes.add(alloc, node, &path, &entry.rights)?;
-        }
-    }
+    add_size(&mut state.sizes, &mut state.file_count, &entry.content)?;
+    add_attributes(alloc, state.version, &mut state.attributes, &path, &entry)?;
     let replaced = state.tree.insert_start(alloc, path, entry)?;
     state.made += 1;
     Ok(replaced)
@@ -151,6 +189,7 @@ fn add_entry_in(
     content: Option<Vec<u8>>,
 ) -> Result<(), TraceFaultKind>
     requires bounded { IsBounded (state_of state.old) }
+    requires starting { IsStarting (state_of state.old) }
     requires names { names ≡ length path }
     requires above { above ≡ parent_path path }
     requires is_there { map.get state.old.tree.nodes above ≡ Some Directory }
@@ -204,7 +243,8 @@ fn add_entry(
     claims: Claims,
     content: Option<Vec<u8>>,
 ) -> Result<(), TraceFaultKind>
-    requires { IsBounded (state_of state.old) }
+    requires bounded { IsBounded (state_of state.old) }
+    requires starting { IsStarting (state_of state.old) }
     ensures { Leaves
         (start_at (state_of state.old) text.now (claims_of claims)
         (option_map (λ bytes. bytes.items) content))
@@ -222,7 +262,8 @@ pub(crate) fn apply_start(
     state: &mut LinesSoFar,
     line: StartLine,
 ) -> Result<(), TraceFaultKind>
-    requires { IsBounded (state_of state.old) }
+    requires bounded { IsBounded (state_of state.old) }
+    requires starting { IsStarting (state_of state.old) }
     ensures { Leaves
         (start_step (state_of state.old) (start_of line))
         result (state_of state.new) IsPastNames }
@@ -262,7 +303,10 @@ fn put_link(
     path: Path,
     entry: StartEntry,
 ) -> Result<(), AllocError>
-    requires { state.old.made < 2 ^ 32 }
+    requires few { state.old.made < 2 ^ 32 }
+    requires starting { IsStarting (state_of state.old) }
+    requires free { map.get state.old.tree.nodes path ≡ None }
+    requires further { entry.own ≡ false }
     ensures { OnOk result (state_of state.new ≡ with_link (state_of state.old) path entry) }
 {
     state.links.push((path.try_clone(alloc)?, entry.number))?;
@@ -281,7 +325,8 @@ fn add_link(
     from: &PathText<'_>,
     to: &PathText<'_>,
 ) -> Result<(), TraceFaultKind>
-    requires { IsBounded (state_of state.old) }
+    requires bounded { IsBounded (state_of state.old) }
+    requires starting { IsStarting (state_of state.old) }
     ensures { Leaves
         (start_link_at (state_of state.old) from.now to.now)
         result (state_of state.new) IsPastNames }
@@ -308,7 +353,8 @@ pub(crate) fn apply_link(
     to: &str,
     from: &str,
 ) -> Result<(), TraceFaultKind>
-    requires { IsBounded (state_of state.old) }
+    requires bounded { IsBounded (state_of state.old) }
+    requires starting { IsStarting (state_of state.old) }
     ensures { Leaves
         (start_link_step (state_of state.old) to.now from.now)
         result (state_of state.new) IsPastNames }
@@ -326,7 +372,8 @@ pub(crate) fn apply_header(
     version: Version,
     claims: Claims,
 ) -> Result<(), TraceFaultKind>
-    requires { IsBounded (state_of state.old) }
+    requires bounded { IsBounded (state_of state.old) }
+    requires first { state.old.made ≡ 0 }
     ensures { Leaves
         (first_step (state_of state.old) (Header version (claims_of claims)))
         result (state_of state.new) IsOk }

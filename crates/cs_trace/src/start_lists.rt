@@ -1,6 +1,8 @@
-//! The lists of the start, the records and their nodes. Entries are appended in the order of paths.
-ghost use Rattle.std.specs.Prelude.{◌≡◌, ◌∷◌, [], IfOk, OnOk};
+//! The lists of the start: the records, their nodes, and the places of the files' records. Entries
+//! are appended in the order of paths.
+ghost use Rattle.std.specs.Prelude.{◌≡◌, ◌∷◌, [], IfOk, OnOk, length, replicate, slice_set};
 ghost use Rattle.cs_trace.specs.Entries.{with_nodes, with_records};
+ghost use Rattle.cs_trace.specs.Owned.{with_place};
 
 use crate::entry::StartEntry;
 use crate::operation::Node;
@@ -13,31 +15,72 @@ use std::alloc::{AllocError, Global};
 pub(crate) struct StartLists {
     pub(crate) records: Vec<(Path, Record)>,
     pub(crate) nodes: Vec<Node>,
+    /// For each file, by its number, the place of the record at the path that it was made at; 0
+    /// until that entry is appended.
+    pub(crate) places: Vec<usize>,
 }
 
 impl StartLists {
-    /// Empty lists, with memory for `count` entries.
-    pub(crate) fn with_capacity(alloc: Global, count: usize) -> Result<StartLists, AllocError>
+    /// Empty lists, with memory for `count` entries, of a start with so many files.
+    pub(crate) fn with_capacity(
+        alloc: Global,
+        count: usize,
+        files: usize,
+    ) -> Result<StartLists, AllocError>
         ensures records { IfOk result (λ lists. lists.records.items ≡ []) }
         ensures nodes { IfOk result (λ lists. lists.nodes.items ≡ []) }
+        ensures places { IfOk result (λ lists. lists.places.items ≡ replicate files 0) }
     {
         Ok(StartLists {
             records: Vec::with_capacity(alloc, count)?,
             nodes: Vec::with_capacity(alloc, count)?,
+            places: vec![in alloc; 0usize; files]?,
         })
     }
 
-    /// Appends the record of an entry, with the next number, and the entry's node. An error may
-    /// leave the node without its record; the trace is given up then.
+    /// Appends the record of an entry, with the next number, and the entry's node, and keeps the
+    /// place of the record if a file was made at the path. An error may leave the place and the
+    /// node without the record; the trace is given up then.
     pub(crate) fn append(&mut self, path: Path, entry: StartEntry) -> Result<(), AllocError>
         ensures records { OnOk result
             (self.new.records.items ≡ with_records self.old.records.items ((path, entry) ∷ [])) }
         ensures nodes { OnOk result
             (self.new.nodes.items ≡ with_nodes self.old.nodes.items ((path, entry) ∷ [])) }
+        ensures places { OnOk result (self.new.places.items
+            ≡ with_place self.old.places.items (length self.old.records.items) entry) }
     {
+        self.keep_place(&entry);
         let number = self.records.len() as u64;
         self.nodes.push(entry.node())?;
         self.records.push((path, entry.into_record(number)?))?;
         Ok(())
+    }
+
+    /// Keeps the place of the next record for the file of that number. If there is no such file,
+    /// nothing changes.
+    fn set_place(&mut self, file: u32)
+        ensures records { self.new.records.items ≡ self.old.records.items }
+        ensures nodes { self.new.nodes.items ≡ self.old.nodes.items }
+        ensures places { self.new.places.items
+            ≡ slice_set self.old.places.items file (length self.old.records.items) }
+    {
+        let next = self.records.len();
+        let file = file as usize;
+        if file < self.places.len() {
+            self.places[file] = next;
+        }
+    }
+
+    /// Keeps the place of the next record, which is that of the entry, if a file was made at the
+    /// entry's path.
+    fn keep_place(&mut self, entry: &StartEntry)
+        ensures records { self.new.records.items ≡ self.old.records.items }
+        ensures nodes { self.new.nodes.items ≡ self.old.nodes.items }
+        ensures places { self.new.places.items
+            ≡ with_place self.old.places.items (length self.old.records.items) entry.now }
+    {
+        if entry.own {
+            self.set_place(entry.number);
+        }
     }
 }

@@ -22,8 +22,8 @@ pub(crate) struct LinesSoFar {
     pub(crate) version: Version,
     /// What was at each path at the start, and what is there now.
     pub(crate) tree: Tree,
-    /// The path of the start line of each file at the start, by the file's number.
-    pub(crate) files: Vec<Path>,
+    /// How many files there are at the start. Their paths are only in the tree.
+    pub(crate) file_count: usize,
     /// The further paths of files at the start, each with the file's number.
     pub(crate) links: Vec<(Path, u32)>,
     /// The size of each file, by its number.
@@ -148,7 +148,7 @@ impl LinesSoFar {
         LinesSoFar {
             version: Version::First,
             tree: Tree::new(alloc),
-            files: Vec::new(alloc),
+            file_count: 0,
             links: Vec::new(alloc),
             sizes: Vec::new(alloc),
             made: 0,

@@ -1,6 +1,6 @@
 //! A trace: the tree at its start, and its operations.
 ghost use Rattle.std.specs.Prelude.{◌≡◌, ◌≢◌, ◌≤◌, ℕ, List, Some, IfErr, IfOk, Ok, Err, length};
-ghost use Rattle.std.specs.Prelude.{map, slice_get};
+ghost use Rattle.std.specs.Prelude.{map, option_map, slice_get};
 ghost use Rattle.std.specs.FinMap.{get};
 ghost use Rattle.std.specs.List.{All};
 ghost use Rattle.std.specs.List.Sorted.{IsStrictlySortedBy};
@@ -32,13 +32,15 @@ use std::marker::Model;
 pub struct Trace {
     records: Vec<(Path, Record)>,
     nodes: Vec<Node>,
-    files: Vec<Path>,
+    /// The place of the record of the path that each file was made at.
+    places: Vec<usize>,
     links: Vec<(Path, u32)>,
     operations: Vec<Operation>,
     version: Version,
 }
 
 impl Model for Trace {
+    ghost use Rattle.std.specs.Prelude.{map};
     ghost use Rattle.cs_trace.specs.Traces as model;
 
     ghost Value = { model.Trace };
@@ -46,7 +48,7 @@ impl Model for Trace {
     ghost view = { λ trace. record {
       records = trace.records.items;
       nodes = trace.nodes.items;
-      files = trace.files.items;
+      files = map (model.path_at trace.records.items) trace.places.items;
       links = trace.links.items;
       operations = trace.operations.items;
       version = trace.version;
@@ -55,7 +57,7 @@ impl Model for Trace {
     ghost invariant = { λ trace. model.IsTrace (record {
       records = trace.records.items;
       nodes = trace.nodes.items;
-      files = trace.files.items;
+      files = map (model.path_at trace.records.items) trace.places.items;
       links = trace.links.items;
       operations = trace.operations.items;
       version = trace.version;
@@ -86,17 +88,29 @@ impl Trace {
         &self.nodes
     }
 
-    /// The path of each of the start's files, in the order of their numbers. A file with further
-    /// paths (`links`) has a record at each; these records differ only in their numbers.
-    pub fn files(&self) -> &[Path]
-        ensures value { result.now ≡ self.now.files }
+    /// How many files there are at the start.
+    pub fn file_count(&self) -> usize
+        ensures value { result ≡ length self.now.files }
         ensures numbered { (n : ℕ) (p : List (List ℕ)) → slice_get self.now.files n ≡ Some p
             → get (start_paths self.now) p ≡ Some (Node.File n) }
         ensures found { (n : ℕ) (p : List (List ℕ))
             → get (start_paths self.now) p ≡ Some (Node.File n) → IsPathOf self.now n p }
         ensures small { All (λ size. size ≤ FILE_BYTES) (start_sizes self.now) }
     {
-        &self.files
+        self.places.len()
+    }
+
+    /// The path that the start's file of this number was made at; None if the start has no such
+    /// file. A file with further paths (`links`) has a record at each; these records differ only in
+    /// their numbers.
+    pub fn file_path(&self, file: usize) -> Option<&Path>
+        ensures { option_map (λ path. path.now) result ≡ slice_get self.now.files file }
+    {
+        let place = *self.places.get(file)?;
+        match self.records.get(place) {
+            Some((path, _)) => Some(path),
+            None => unreachable!(),
+        }
     }
 
     /// The further paths of the start's files, in the order of their lines, each with the file's
@@ -140,11 +154,11 @@ fn trace_of_state(alloc: Global, state: LinesSoFar) -> Result<Trace, AllocError>
     requires { IsTrace (trace_of_state (state_of state)) }
     ensures { IfOk result (λ trace. trace ≡ trace_of_state (state_of state)) }
 {
-    let (records, nodes) = state.tree.into_start(alloc)?;
+    let lists = state.tree.into_start(alloc, state.file_count)?;
     Ok(Trace {
-        records,
-        nodes,
-        files: state.files,
+        records: lists.records,
+        nodes: lists.nodes,
+        places: lists.places,
         links: state.links,
         operations: state.operations,
         version: state.version,

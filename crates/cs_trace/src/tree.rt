@@ -1,12 +1,14 @@
 //! The tree that the lines of a trace make: what was at each path at the start, and what is there
 //! now.
 ghost use Rattle.std.specs.Prelude.{◌≡◌, Some, IfOk, IfSome, OnOk};
+ghost use Rattle.std.specs.Prelude.{replicate};
 ghost use Rattle.std.specs.FinMap as map;
 ghost use Rattle.std.specs.Option.{is_some, option_map};
 ghost use Rattle.cs_tree_model.specs.Tree.{parent_path};
 ghost use Rattle.cs_trace.specs.Below.{has_below};
 ghost use Rattle.cs_trace.specs.Entries.{nodes_in, records_in};
 ghost use Rattle.cs_trace.specs.Names.{entry_path_of};
+ghost use Rattle.cs_trace.specs.Owned.{with_places};
 ghost use Rattle.cs_trace.specs.Trees.{empty_tree, with_start};
 ghost use Rattle.cs_trace.specs.declared.operation.Node.TheVariants.{Directory};
 
@@ -16,6 +18,7 @@ use crate::last_directory::LastDirectory;
 use crate::operation::Node;
 use crate::path_text::PathText;
 use crate::placed::Placed;
+use crate::start_lists::StartLists;
 use cs_names::Path;
 use cs_tree_model::Record;
 use std::alloc::{AllocError, Global};
@@ -197,13 +200,14 @@ impl Tree {
 
     /// A record of each entry of the start, in the order of their paths and numbered from 0; and,
     /// in the same order, the node of each: a directory, or a file by its number.
-    pub(crate) fn into_start(
-        self,
-        alloc: Global,
-    ) -> Result<(Vec<(Path, Record)>, Vec<Node>), AllocError>
-        ensures records { IfOk result (λ lists. lists.0.items ≡ records_in self.start) }
-        ensures nodes { IfOk result (λ lists. lists.1.items ≡ nodes_in self.start) }
+    pub(crate) fn into_start(self, alloc: Global, files: usize) -> Result<StartLists, AllocError>
+        ensures records { IfOk result (λ lists. lists.records.items ≡ records_in self.start) }
+        ensures nodes { IfOk result (λ lists. lists.nodes.items ≡ nodes_in self.start) }
+        ensures places { IfOk result (λ lists. lists.places.items
+            ≡ with_places (replicate files 0) 0 (map.entries self.start)) }
     {
-        self.kept.union_with(alloc, self.gone)?.into_lists(alloc)
+        self.kept
+            .union_with(alloc, self.gone)?
+            .into_lists(alloc, files)
     }
 }

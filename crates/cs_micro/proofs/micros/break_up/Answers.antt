@@ -1,15 +1,14 @@
-use Rattle.std.proofs.Common.{◌<◌, ap, arith, get_or, length, refl, subst, sym, ◌∙◌}
+use Rattle.std.proofs.Common.{◌<◌, ap, arith, length, refl, subst, sym, ◌∙◌}
 use Rattle.std.proofs.lemmas.List.{length-map}
 use Rattle.std.specs.List.{All}
 use Rattle.cs_trace.specs.Traces.{size_at, start_paths, start_sizes}
 use Rattle.cs_trace_lines.specs.Versions.{block_bytes, block_size_of}
 use Rattle.cs_micro.specs.Laws.Starts.{length-paths_of_files}
 use Rattle.cs_micro.specs.MicroOperations.{IsWithinLimit, micro_operations_of}
-use Rattle.cs_micro.specs.Micros.{block_of_version, paths_of_files}
+use Rattle.cs_micro.specs.Micros.{block_of_version}
 use Rattle.cs_micro.specs.Legal.{AreLegal}
 use Rattle.cs_micro.proofs.Legality.{all_legal}
 use Rattle.cs_micro.proofs.Limits.{all_within}
-use Rattle.cs_micro.proofs.Linking.{links_known}
 use Rattle.cs_micro.proofs.micros.break_up.Goals as goal
 
 pub has_room-requires : goal.has_room-requires
@@ -24,18 +23,10 @@ micros_and_syncs-requires c =
     let lent = c.operations-operations.ensures in
     subst (All IsWithinLimit) (sym lent.value) (all_within (start_paths t) (start_sizes t) t.operations lent.legal)
 
-pub paths_of_files-requires : goal.paths_of_files-requires
-paths_of_files-requires c = λ k d low.
-    let t = c.args.trace.now in
-    let links = c.links.ensures.value in
-    let known = links_known t c.links.ensures.linked c.files.ensures.found k d (subst (λ v. k < length v) links low) in
-    subst (λ v. (get_or v k d).1 < length c.files.result.now) (sym links)
-    (subst (λ v. (get_or t.links k d).1 < length v) (sym c.files.ensures.value) known)
-
 pub returns-in_err-starts-clause-memory : goal.returns-in_err-starts-clause-memory
 returns-in_err-starts-clause-memory c refused =
     let t = c.args.trace.now in
-    let some : 0 < length t.files = subst (λ v. 0 < length v) c.files.ensures.value (c.in_err-starts.ensures.memory refl) in
+    let some : 0 < length t.files = c.in_err-starts.ensures.memory refl in
     let long = length-paths_of_files t.files t.links in
     omega (arith, some, long)
 
@@ -47,8 +38,8 @@ returns-clause-legal c =
     let block = c.block_size-block.ensures ∙ ap block_size_of c.version-version.ensures.value in
     let broken = c.in_ok-ops.ensures.ops ∙ (λ w. micro_operations_of (block_bytes (block w)) (lent.value w)) in
     let paths = c.in_ok-starts.starts.items in
-    let starts = c.in_ok-starts.ensures.value ∙ (λ w. paths_of_files (c.files.ensures.value w) (c.links.ensures.value w)) in
-    let counted = ap length starts ∙ length-paths_of_files t.files t.links ∙ sym (length-map t.files (size_at t.records)) in
+    let counted =
+    ap length c.in_ok-starts.ensures.value ∙ length-paths_of_files t.files t.links ∙ sym (length-map t.files (size_at t.records)) in
     subst (λ n. AreLegal size (start_paths t) n c.in_ok-ops.ops.items) (sym counted)
     (subst (AreLegal size (start_paths t) (length (start_sizes t))) (sym broken)
     (all_legal (block_size_of t.version) (start_paths t) (start_sizes t) t.operations lent.legal))

@@ -1,7 +1,8 @@
-use Rattle.std.proofs.Common.{◌∷◌, [], ap, sym, ◌∙◌}
+use Rattle.std.proofs.Common.{length, ◌∷◌, [], ap, sym, ◌∙◌}
 use Rattle.std.proofs.lemmas.List.{append-nil}
 use Rattle.cs_trace.specs.Entries.{with_nodes, with_records}
-use Rattle.cs_trace.proofs.Numbered.{nodes-append, records-append}
+use Rattle.cs_trace.proofs.Numbered.{nodes-append, places-next, records-append}
+use Rattle.cs_trace.specs.Owned.{with_places}
 use Rattle.cs_trace.proofs.Views.{entries-keyed}
 use Rattle.cs_trace.proofs.entries.append_map.Goals as goal
 
@@ -12,6 +13,7 @@ loop-path-init c =
     record {
       records = ap (with_records c.args.lists.now.records.items) same;
       nodes = ap (with_nodes c.args.lists.now.nodes.items) same;
+      places = ap (with_places c.args.lists.now.places.items (length c.args.lists.now.records.items)) same;
     }
 
 pub loop-path-preserved : goal.loop-path-preserved
@@ -31,6 +33,11 @@ loop-path-preserved c =
           ∙ nodes-append ns one rest
           ∙ ap (with_nodes ns) (sym c.in-Some.ensures.steps)
           ∙ c.loop-path.invariant.nodes;
+      places =
+          places-next c.loop-path.lists.places.items c.append.new.self.places.items rs c.append.new.self.records.items one rest
+          c.in_ok-append.ensures.records c.in_ok-append.ensures.places
+          ∙ ap (with_places c.loop-path.lists.places.items (length rs)) (sym c.in-Some.ensures.steps)
+          ∙ c.loop-path.invariant.places;
     }
 
 pub returns : goal.returns
@@ -38,4 +45,7 @@ returns c = record {
   records = sym (append-nil _) ∙ ap (with_records c.loop-path.lists.records.items) (sym c.in-None.ensures.steps.0)
       ∙ c.loop-path.invariant.records;
   nodes = sym (append-nil _) ∙ ap (with_nodes c.loop-path.lists.nodes.items) (sym c.in-None.ensures.steps.0) ∙ c.loop-path.invariant.nodes;
+  places =
+      ap (with_places c.loop-path.lists.places.items (length c.loop-path.lists.records.items)) (sym c.in-None.ensures.steps.0)
+      ∙ c.loop-path.invariant.places;
 }

@@ -1,10 +1,11 @@
-use Rattle.std.proofs.Common.{◌≡◌, ◌++◌, ap, ◌∙◌}
+use Rattle.std.proofs.Common.{length, ◌≡◌, ◌++◌, ap, ◌∙◌}
 use Rattle.std.specs.FinMap as map
 use Rattle.cs_tree_model.specs.Tree.{path_cmp}
 use Rattle.cs_trace.specs.Entries.{with_nodes, with_records}
+use Rattle.cs_trace.specs.Owned.{with_places}
 use Rattle.cs_trace.specs.Unions.{union}
 use Rattle.cs_trace.proofs.Around.{entries-around}
-use Rattle.cs_trace.proofs.Numbered.{nodes-append, records-append}
+use Rattle.cs_trace.proofs.Numbered.{nodes-append, places-next, records-append}
 use Rattle.cs_trace.proofs.entries.append_split.Goals as goal
 
 pub returns-clause-records : goal.returns-clause-records
@@ -40,3 +41,21 @@ returns-clause-nodes c =
     ∙ nodes-append (with_nodes ns before) (map.entries s.entries) after
     ∙ nodes-append ns before (map.entries s.entries ++ after)
     ∙ ap (with_nodes ns) whole
+
+pub returns-clause-places : goal.returns-clause-places
+returns-clause-places c =
+    let s = c.args.siblings in
+    let m = map.from_entries {R = path_cmp} c.args.others.entries in
+    let before = map.entries (map.from_entries {R = path_cmp} c.split_off_after.new.others.entries) in
+    let after = map.entries (map.from_entries {R = path_cmp} c.in_ok-after.after.entries) in
+    let rs = c.args.lists.now.records.items in
+    let ps = c.args.lists.now.places.items in
+    let whole : before ++ (map.entries s.entries ++ after) ≡ map.entries (union s.entries m) =
+    entries-around s m before after c.in_ok-after.ensures.parts c.requires.all c.requires.apart c.in_ok-after.ensures.before
+    c.in_ok-after.ensures.after in
+    c.in_ok-append_map-2.ensures.places
+    ∙ places-next c.append_map.new.lists.places.items c.append_to.new.lists.places.items c.append_map.new.lists.records.items
+    c.append_to.new.lists.records.items (map.entries s.entries) after c.in_ok-append_to.ensures.records c.in_ok-append_to.ensures.places
+    ∙ places-next ps c.append_map.new.lists.places.items rs c.append_map.new.lists.records.items before (map.entries s.entries ++ after)
+    c.in_ok-append_map.ensures.records c.in_ok-append_map.ensures.places
+    ∙ ap (with_places ps (length rs)) whole

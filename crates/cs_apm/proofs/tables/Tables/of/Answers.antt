@@ -33,11 +33,11 @@ owners_of-requires c = λ k d low.
     let t = c.args.trace.now in
     let starts = c.in_ok-starts.starts.items in
     let here : k < length starts = subst (λ ss. k < length ss) c.deref-3.ensures.value low in
-    let long = c.in_ok-starts.ensures.long ∙ ap length c.files.ensures.value in
+    let long = c.in_ok-starts.ensures.long ∙ c.file_count.ensures.value in
     let finds = subst (λ ns. FindsFiles ns (length ns) starts) c.nodes-nodes.ensures.value c.in_ok-starts.ensures.found in
     let one =
     inside t c.nodes-nodes.ensures.each (ascending_of (map (λ e. e.0) t.records) c.records-records.ensures.ascending)
-    c.files.ensures.numbered c.files.ensures.found starts long finds k here in
+    c.file_count.ensures.numbered c.file_count.ensures.found starts long finds k here in
     let same = get_or_default starts k 0 d here ∙ ap (λ ss. get_or ss k d) (sym c.deref-3.ensures.value) in
     subst (λ v. v < length c.records-records.result.now) same
     (subst (λ es. get_or starts k 0 < length es) (sym c.records-records.ensures.value) one)
@@ -53,7 +53,7 @@ returns c =
     let starts = c.in_ok-starts.starts.items in
     let owners = c.in_ok-owners.owners.items in
     let up = c.in_ok-paths.ensures.ascending in
-    let long = c.in_ok-starts.ensures.long ∙ ap length c.files.ensures.value in
+    let long = c.in_ok-starts.ensures.long ∙ c.file_count.ensures.value in
     let finds = subst (λ ns. FindsFiles ns (length ns) starts) c.nodes-nodes.ensures.value c.in_ok-starts.ensures.found in
     let sorted = ascending_of (map (λ e. e.0) t.records) c.records-records.ensures.ascending in
     let old = c.start_slots.new.table.items in
@@ -79,7 +79,7 @@ returns c =
     c.in_ok-owners.ensures
     ∙ (λ w. map (λ place. rights_of (slice_index_or (records w) place no_record).1) (c.deref-3.ensures.value w) ++ owners_made (ops w))
     ∙ ap (λ os. os ++ owners_made m.ops)
-    (start_owners t c.nodes-nodes.ensures.each sorted c.files.ensures.numbered c.files.ensures.found starts long finds) in
+    (start_owners t c.nodes-nodes.ensures.each sorted c.file_count.ensures.numbered c.file_count.ensures.found starts long finds) in
     let count : length t.files + length (owners_made m.ops) ≡ length owners =
     sym (ap length owners_are ∙ length-append (map (owner_at t.records) t.files) (owners_made m.ops) ∙ ap
     (λ n. n + length (owners_made m.ops)) (length-map t.files (owner_at t.records))) in
@@ -98,13 +98,14 @@ returns c =
       long = slots_long;
       start = start;
       steps = steps_are;
-      known = known_start t c.files.ensures.found rights paths slots up slots_long start have_all (length owners) (omega (arith, count));
+      known = known_start t c.file_count.ensures.found rights paths slots up slots_long start have_all (length owners)
+          (omega (arith, count));
       known_steps =
           subst (λ f. AreKnownSteps (length slots) (length rights) f steps) count
           (known_steps size (start_paths t) (length t.files) rights paths (length slots) m.ops steps slots_long legal
           c.in_ok-steps.ensures.there steps_are);
       owners = owners_are;
-      starts = are_starts t c.nodes-nodes.ensures.each sorted c.files.ensures.numbered c.files.ensures.found starts long finds;
+      starts = are_starts t c.nodes-nodes.ensures.each sorted c.file_count.ensures.numbered c.file_count.ensures.found starts long finds;
       changed =
           subst (λ n. AreChanged m.ops n c.in_ok-changed.changed.items) (c.len.ensures ∙ c.in_ok-owners.owners.ok.0 ∙ ap length owners_are)
           (subst (λ os. AreChanged os c.len.result c.in_ok-changed.changed.items) ops c.in_ok-changed.ensures);

@@ -1,6 +1,7 @@
-use Rattle.std.proofs.Common.{map, ap, sym, ◌∙◌}
+use Rattle.std.proofs.Common.{length, map, ap, sym, ◌∙◌}
 use Rattle.std.specs.FinMap.{entries}
 use Rattle.cs_trace.specs.Entries.{with_nodes, with_records}
+use Rattle.cs_trace.specs.Owned.{with_places}
 use Rattle.cs_trace.specs.Siblings.{Siblings}
 use Rattle.cs_trace.proofs.Named.{entries-whole}
 use Rattle.cs_trace.proofs.siblings.Siblings.append_to.Goals as goal
@@ -16,4 +17,5 @@ loop-path-init c =
     record {
       records = ap (with_records c.args.lists.now.records.items) same;
       nodes = ap (with_nodes c.args.lists.now.nodes.items) same;
+      places = ap (with_places c.args.lists.now.places.items (length c.args.lists.now.records.items)) same;
     }
