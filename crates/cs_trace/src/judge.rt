@@ -1,5 +1,6 @@
 //! What an operation needs of the files and directories that are there, and the limits of a trace.
-ghost use Rattle.std.specs.Prelude.{◌≡◌, ◌||◌, length, nat_le, nat_lt};
+ghost use Rattle.std.specs.Prelude.{◌≡◌, ◌||◌, IfErr, IfOk, Err, Ok, length, nat_le, nat_lt};
+ghost use Rattle.std.specs.FinMap as map;
 ghost use Rattle.cs_names.specs.declared.limits.TheConstants.{TRACE_PATH_NAMES, TREE_RECORDS};
 ghost use Rattle.cs_tree_model.specs.Tree.{parent_path};
 ghost use Rattle.cs_trace.specs.Judging.{emptied_at, ends_above, file_at, free_at, is_path_of};
@@ -40,16 +41,22 @@ pub(crate) fn check_free(tree: &Tree, above: &Path, path: &Path) -> Result<(), T
 
 /// Checks that a file may be moved to the path, whose parent path is `above`; it may replace a
 /// file. Nothing at the parent path is NoParent, a file there is NotDir, and a directory at the
-/// path itself is NotFile.
-pub(crate) fn check_target(tree: &Tree, above: &Path, path: &Path) -> Result<(), TraceFaultKind>
+/// path itself is NotFile. Returns what is at the path: a file, or None.
+pub(crate) fn check_target(
+    tree: &Tree,
+    above: &Path,
+    path: &Path,
+) -> Result<Option<Node>, TraceFaultKind>
     requires { above.now ≡ parent_path path.now }
-    ensures { result ≡ target_at tree.now.nodes path.now }
+    ensures there { IfOk result (λ there. there ≡ map.get tree.now.nodes path.now) }
+    ensures passed { IfOk result (λ _. target_at tree.now.nodes path.now ≡ Ok tt) }
+    ensures fault { IfErr result (λ kind. target_at tree.now.nodes path.now ≡ Err kind) }
 {
     match (tree.get(above), tree.get(path)) {
         (None, _) => Err(TraceFaultKind::NoParent),
         (Some(Node::File(_)), _) => Err(TraceFaultKind::NotDir),
         (Some(Node::Directory), Some(Node::Directory)) => Err(TraceFaultKind::NotFile),
-        (Some(Node::Directory), _) => Ok(()),
+        (Some(Node::Directory), there) => Ok(there),
     }
 }
 

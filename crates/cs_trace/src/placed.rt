@@ -74,11 +74,11 @@ impl Placed {
         Ok(before.is_some())
     }
 
-    /// Removes what is at the path, and returns whether anything was there.
-    pub(crate) fn remove(&mut self, path: &Path) -> bool
-        ensures was_there { result ≡ is_some (map.get self.old path.now) }
+    /// Removes what is at the path, and returns it; None if nothing was there.
+    pub(crate) fn remove(&mut self, path: &Path) -> Option<Node>
+        ensures node { result ≡ map.get self.old path.now }
         ensures state { self.new ≡ map.remove self.old path.now }
     {
-        self.by_path.remove(path).is_some()
+        self.by_path.remove(path)
     }
 }

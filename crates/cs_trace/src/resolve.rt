@@ -178,12 +178,12 @@ fn rename(
     let file = file_at(tree, &from)?;
     let to = to.to_path_or(alloc, TraceFaultKind::NoParent)?;
     let above = Path::of(alloc, &to.names().parent())?;
-    check_target(tree, &above, &to)?;
+    let there = check_target(tree, &above, &to)?;
     if are_too_many_names(to.names().len()) {
         return Err(TraceFaultKind::TooLarge);
     }
     // As rename(2), which does nothing if both are paths of one file.
-    let from = if is_path_of(file, tree.get(&to)) {
+    let from = if is_path_of(file, there) {
         to.try_clone(alloc)?
     } else {
         from

@@ -43,10 +43,9 @@ fn move_node(alloc: Global, tree: &mut Tree, from: &Path, to: &Path) -> Result<(
     ensures nodes { OnOk result (tree.new.nodes
         ≡ paths_after tree.old.nodes (Operation.Rename from.now to.now)) }
 {
-    let Some(node) = tree.get(from) else {
+    let Some(node) = tree.remove(alloc, from)? else {
         return Ok(());
     };
-    tree.remove(alloc, from)?;
     tree.insert(to.try_clone(alloc)?, node)
 }
 
@@ -61,7 +60,10 @@ fn move_paths(alloc: Global, tree: &mut Tree, operation: &Operation) -> Result<(
         }
         Operation::Mkdir { path, .. } => { tree.insert(path.try_clone(alloc)?, Node::Directory) }
         Operation::Link { path, file } => { tree.insert(path.try_clone(alloc)?, Node::File(*file)) }
-        Operation::Unlink { path } | Operation::Rmdir { path } => tree.remove(alloc, path),
+        Operation::Unlink { path } | Operation::Rmdir { path } => {
+            tree.remove(alloc, path)?;
+            Ok(())
+        }
         Operation::Rename { from, to } => move_node(alloc, tree, from, to),
         Operation::Write { .. }
         | Operation::Truncate { .. }

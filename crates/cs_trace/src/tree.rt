@@ -163,7 +163,7 @@ impl Tree {
         ensures state { OnOk result (self.new ≡ with_start self.old path entry) }
     {
         self.last_directory = None;
-        let was_placed = self.placed.remove(&path);
+        let was_placed = self.placed.remove(&path).is_some();
         let was_kept = self.kept.insert(alloc, path, entry)?;
         Ok(was_placed || was_kept)
     }
@@ -179,21 +179,23 @@ impl Tree {
         Ok(())
     }
 
-    /// Removes what is at the path now, if anything is; the start stays as it is. After an error,
-    /// the trace is given up.
-    pub(crate) fn remove(&mut self, alloc: Global, path: &Path) -> Result<(), AllocError>
+    /// Removes what is at the path now, and returns it; None if nothing was there. The start stays
+    /// as it is. After an error, the trace is given up.
+    pub(crate) fn remove(&mut self, alloc: Global, path: &Path) -> Result<Option<Node>, AllocError>
+        ensures node { IfOk result (λ node. node ≡ map.get self.old.nodes path.now) }
         ensures start { OnOk result (self.new.start ≡ self.old.start) }
         ensures nodes { OnOk result (self.new.nodes ≡ map.remove self.old.nodes path.now) }
     {
         self.last_directory = None;
         // Both may have the path: a node may be placed over what was there at the start.
-        self.placed.remove(path);
+        let placed = self.placed.remove(path);
         match self.kept.remove(path) {
-            None => Ok(()),
+            None => Ok(placed),
             Some(entry) => {
+                let kept = entry.node();
                 // All start lines come before the first removal, so this replaces nothing.
                 self.gone.insert(alloc, path.try_clone(alloc)?, entry)?;
-                Ok(())
+                Ok(placed.or(Some(kept)))
             }
         }
     }

@@ -1,9 +1,9 @@
 //! The object of a line: the value of each key of the format, not yet read further. What the values
 //! mean is in `values`.
-ghost use Rattle.std.specs.Prelude.{◌≡◌, option_map};
+ghost use Rattle.std.specs.Prelude.{◌≡◌};
 ghost use Rattle.serde_json.specs.Data.{no_members};
 ghost use Rattle.serde_json.specs.View.{members_view, view};
-ghost use Rattle.cs_trace_lines.specs.Fields.{field_of, fields_in, fields_of, has_keys};
+ghost use Rattle.cs_trace_lines.specs.Fields.{field_of, fields_of, has_keys};
 ghost use Rattle.cs_trace_lines.specs.Reading.{field_value, field_values, with_field};
 
 use serde_json::{Map, Number, Value};
@@ -56,7 +56,7 @@ impl Field {
 
 impl Fields {
     /// The fields of an object without keys.
-    fn new() -> Fields
+    pub(crate) fn new() -> Fields
         ensures { field_values result ≡ fields_of no_members }
     {
         Fields {
@@ -87,44 +87,34 @@ impl Fields {
             ≡ with_field key.now (field_value field) (field_values self.old) }
     {
         match key {
-            "trace" => self.trace = Some(field),
-            "profile" => self.profile = Some(field),
-            "block" => self.block = Some(field),
-            "start" => self.start = Some(field),
             "op" => self.op = Some(field),
             "path" => self.path = Some(field),
-            "from" => self.from = Some(field),
-            "to" => self.to = Some(field),
+            "start" => self.start = Some(field),
             "owner" => self.owner = Some(field),
             "group" => self.group = Some(field),
             "mode" => self.mode = Some(field),
             "bytes" => self.bytes = Some(field),
             "offset" => self.offset = Some(field),
+            "to" => self.to = Some(field),
+            "from" => self.from = Some(field),
             "length" => self.length = Some(field),
             "text" => self.text = Some(field),
             "note" => self.note = Some(field),
+            "trace" => self.trace = Some(field),
+            "profile" => self.profile = Some(field),
+            "block" => self.block = Some(field),
             _ => self.has_others = true,
         }
     }
 
-    /// The fields of a JSON object with these members.
-    fn of(members: Map<String, Value>) -> Fields
-        ensures { field_values result ≡ fields_of (members_view members.entries) }
+    /// Puts the members of a JSON object into the fields, which are those of an object without keys
+    /// before. The fields are large, so they are filled where they are.
+    pub(crate) fn put_members(&mut self, members: Map<String, Value>)
+        requires { field_values self.old ≡ fields_of no_members }
+        ensures { field_values self.new ≡ fields_of (members_view members.entries) }
     {
-        let mut fields = Fields::new();
         for (key, value) in members {
-            fields.put(key.as_str(), Field::of(value));
-        }
-        fields
-    }
-
-    /// The fields of a JSON object. None if the value isn't an object.
-    pub(crate) fn of_value(value: Value) -> Option<Fields>
-        ensures { option_map field_values result ≡ fields_in (view value) }
-    {
-        match value {
-            Value::Object(members) => Some(Fields::of(members)),
-            _ => None,
+            self.put(key.as_str(), Field::of(value));
         }
     }
 
@@ -133,23 +123,21 @@ impl Fields {
     pub(crate) fn has_keys(&self, count: usize) -> bool
         ensures { result ≡ has_keys count (field_values self.now) }
     {
-        let are_given = [
-            self.trace.is_some(),
-            self.profile.is_some(),
-            self.block.is_some(),
-            self.start.is_some(),
-            self.op.is_some(),
-            self.path.is_some(),
-            self.from.is_some(),
-            self.to.is_some(),
-            self.owner.is_some(),
-            self.group.is_some(),
-            self.mode.is_some(),
-            self.bytes.is_some(),
-            self.offset.is_some(),
-            self.length.is_some(),
-            self.text.is_some(),
-        ];
-        !self.has_others && are_given.iter().filter(|is_given| **is_given).count() == count
+        let given = usize::from(self.trace.is_some())
+            + usize::from(self.profile.is_some())
+            + usize::from(self.block.is_some())
+            + usize::from(self.start.is_some())
+            + usize::from(self.op.is_some())
+            + usize::from(self.path.is_some())
+            + usize::from(self.from.is_some())
+            + usize::from(self.to.is_some())
+            + usize::from(self.owner.is_some())
+            + usize::from(self.group.is_some())
+            + usize::from(self.mode.is_some())
+            + usize::from(self.bytes.is_some())
+            + usize::from(self.offset.is_some())
+            + usize::from(self.length.is_some())
+            + usize::from(self.text.is_some());
+        !self.has_others && given == count
     }
 }

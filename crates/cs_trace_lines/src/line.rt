@@ -1,8 +1,9 @@
 //! The kinds of lines, and how the text of a line is read as one of them.
 ghost use Rattle.std.specs.Prelude.{◌≡◌, IfErr, IfOk, None, Some, option_and_then};
+ghost use Rattle.serde_json.specs.Find.{as_object};
 ghost use Rattle.serde_json.specs.Read.{read};
+ghost use Rattle.serde_json.specs.View.{members_view};
 ghost use Rattle.cs_trace_lines.specs.Faults.{IsRead};
-ghost use Rattle.cs_trace_lines.specs.Fields.{fields_in};
 ghost use Rattle.cs_trace_lines.specs.Lines.{is_blank, line_in, line_of};
 ghost use Rattle.cs_trace_lines.specs.Reading.{field_values};
 ghost use Rattle.cs_trace_lines.specs.Said.{line_value};
@@ -14,7 +15,7 @@ use crate::header::header_in;
 use crate::operation::operation_in;
 use crate::start::start_line_in;
 use crate::version::Version;
-use serde_json::Value;
+use serde_json::{Map, Value};
 use std::alloc::Global;
 
 /// What a line says. Its texts are not yet checked to be names and paths.
@@ -125,13 +126,17 @@ pub fn is_blank(line: &str) -> bool
         .all(|byte| *byte == b' ' || *byte == b'\t' || *byte == b'\r')
 }
 
-/// The fields of the JSON object that a line spells. A text that isn't JSON, or that spells a value
+/// The members of the JSON object that a line spells. A text that isn't JSON, or that spells a value
 /// of another kind, is Syntax; and Memory means that an allocation failed.
-fn fields_in(alloc: Global, text: &str) -> Result<Fields, LineFault>
-    ensures { IsRead field_values (option_and_then fields_in (read text.now)) result }
+fn members_in(alloc: Global, text: &str) -> Result<Map<String, Value>, LineFault>
+    ensures { IsRead (λ members. members_view members.entries)
+        (option_and_then as_object (read text.now)) result }
 {
     match Value::from_str(alloc, text) {
-        Ok(value) => Fields::of_value(value).ok_or(LineFault::Syntax),
+        Ok(value) => match value {
+            Value::Object(members) => Ok(members),
+            _ => Err(LineFault::Syntax),
+        },
         Err(error) => {
             if error.is_memory() {
                 return Err(LineFault::Memory);
@@ -163,6 +168,8 @@ pub fn read_line(alloc: Global, version: Version, text: &str) -> Result<Line, Li
     ensures read { IfOk result (λ line. line_in version text.now ≡ Some (line_value line)) }
     ensures fault { IfErr result (λ fault. fault ≡ Syntax → line_in version text.now ≡ None) }
 {
-    let mut fields = fields_in(alloc, text)?;
+    let members = members_in(alloc, text)?;
+    let mut fields = Fields::new();
+    fields.put_members(members);
     line_of(alloc, version, &mut fields)
 }

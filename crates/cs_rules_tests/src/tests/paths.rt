@@ -52,7 +52,8 @@ fn reads_paths_and_writes_them_back(rt: HostRuntime) {
     }
 }
 
-/// Whether the path ends with that name, and the rest is the path of its directory.
+/// Whether the path ends with that name, the rest is the path of its directory, and both make the
+/// path again.
 fn is_parted(alloc: Global, path: &Path, directory: &str, name: &str) -> Option<bool> {
     let (above, last) = path.names().split_last()?;
     let above = Path::of(alloc, &above).ok()?;
@@ -60,6 +61,7 @@ fn is_parted(alloc: Global, path: &Path, directory: &str, name: &str) -> Option<
         last == name
             && prints(alloc, &above, directory)
             && path.begins_with(&above)
+            && above.child(alloc, last).ok()? == *path
             && above.names() == path.names().parent(),
     )
 }

@@ -7,7 +7,7 @@ use Rattle.serde_json.proofs.Views.{Entry, put_last}
 use Rattle.cs_trace_lines.specs.Fields.{field_of, fields_of}
 use Rattle.cs_trace_lines.specs.Reading.{field_value, field_values, with_field}
 use Rattle.cs_trace_lines.proofs.Members.{fields_of-put}
-use Rattle.cs_trace_lines.proofs.fields.Fields.of.Goals as goal
+use Rattle.cs_trace_lines.proofs.fields.Fields.put_members.Goals as goal
 
 pub loop-key-preserved : goal.loop-key-preserved
 loop-key-preserved c =
@@ -19,10 +19,10 @@ loop-key-preserved c =
     let last =
     put_last done e left
     (subst (λ es. IsStrictlySortedBy string_cmp (keys_of es)) all c.into_iter-key-iterator.ensures.into_iter_gives.5) in
-    let put : with_field c.as_str.result.now (field_value c.of.result) (field_values l.fields)
+    let put : with_field c.as_str.result.now (field_value c.of.result) (field_values l.self)
     ≡ with_field (string_bytes e.0) (field_of (view e.1)) (fields_of (members_view done)) =
-    ap (λ name. with_field name (field_value c.of.result) (field_values l.fields)) c.as_str.ensures.value
-    ∙ ap (λ field. with_field (string_bytes e.0) field (field_values l.fields)) c.of.ensures
+    ap (λ name. with_field name (field_value c.of.result) (field_values l.self)) c.as_str.ensures.value
+    ∙ ap (λ field. with_field (string_bytes e.0) field (field_values l.self)) c.of.ensures
     ∙ ap (with_field (string_bytes e.0) (field_of (view e.1))) l.invariant.2 in (
       done ++ e ∷ [],
       all ∙ sym (append_assoc done (e ∷ []) left),
