@@ -49,6 +49,8 @@ EXCEPTIONS = {
     'cs_journal Run::fresh': HANDLES,
     'cs_session Session::table_step': 'has no allocator',
     'cs_session serve_stream': 'a test has no memory for its buffers, and none is read',
+    'cs_shared_runs AnyScene::answer': 'made by `SharedRun::call`, whose row makes it',
+    'cs_shared_runs AnyScene::attach': 'made by `SharedRun::attach`, whose row makes it',
     'cs_shared_runs SharedRun::fresh': 'made by a find, whose rows make it',
     'cs_shared_runs SharedRun::try_clone': HANDLES,
     'cs_shared_runs SharedRegistry::of': HANDLES,

@@ -2,6 +2,7 @@ pub mod Words
 pub mod Finding
 pub mod Filling
 pub mod Entries
+pub mod Fields
 pub mod Reaching
 pub mod FromRules
 pub mod Admitting

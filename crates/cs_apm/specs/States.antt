@@ -7,6 +7,7 @@ use Rattle.std.specs.FinMap.{FinMap, from_entries, get, insert, remove}
 use Rattle.std.specs.List.{zip}
 use Rattle.std.specs.Option.{option_map_or}
 use Rattle.cs_tree_model.specs.declared.mode.TheConstants.{DMDIR}
+use Rattle.cs_tree_model.specs.declared.record.MetadataBuf.{MetadataBuf}
 use Rattle.cs_tree_model.specs.declared.record.Record.{Record}
 use Rattle.cs_tree_model.specs.Fresh.{fresh}
 use Rattle.cs_tree_model.specs.Maps.Values.{map_values}
@@ -151,6 +152,10 @@ permission_bits mode = mode % 512
 
 abbrev pub rights_of : Record → Rights
 rights_of r = record { owner = r.owner; group = r.group; permissions = permission_bits r.mode }
+
+-- the same of the fields
+abbrev pub rights_in : MetadataBuf → Rights
+rights_in m = record { owner = m.owner; group = m.group; permissions = permission_bits m.mode }
 
 abbrev pub start_entry : Node → Record → Entry
 start_entry node r = entry_made node (rights_of r)

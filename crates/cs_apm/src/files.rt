@@ -1,21 +1,21 @@
 //! The bytes of the files of a crash state. Their owners are in `owners`.
-ghost use Rattle.std.specs.Prelude.{◌≡◌, ◌<◌, length, IfOk, slice_index_or};
+ghost use Rattle.std.specs.Prelude.{◌≡◌, ◌<◌, [], length, unwrap_or, IfOk, slice_index_or};
 ghost use Rattle.std.specs.List.{All};
 ghost use Rattle.cs_apm.specs.Atlases.{AreChanged, AreStarts, content_before, files_left};
 ghost use Rattle.cs_apm.specs.Contents.{IsSmall, content_left};
-ghost use Rattle.cs_apm.specs.States.{bytes_of, no_content, owners_of, visible};
+ghost use Rattle.cs_apm.specs.States.{no_content, owners_of, visible};
 
 use crate::content::FileContent;
 use cs_micro::MicroOp;
 use cs_trace::Trace;
-use cs_tree_model::Record;
+use cs_tree_model::Content;
 use std::alloc::{AllocError, Global};
 
-/// A copy of the bytes of the record's file; empty if it is a directory.
-fn copy_bytes(alloc: Global, file: &Record) -> Result<Vec<u8>, AllocError>
-    ensures { IfOk result (λ bytes. bytes.items ≡ bytes_of file.now) }
+/// A copy of the bytes of a file with this content; empty if it is a directory's.
+fn copy_bytes(alloc: Global, content: &Content) -> Result<Vec<u8>, AllocError>
+    ensures { IfOk result (λ bytes. bytes.items ≡ unwrap_or content.now []) }
 {
-    match file.content.try_clone(alloc)?.into_bytes() {
+    match content.try_clone(alloc)?.into_bytes() {
         None => Ok(Vec::new(alloc)),
         Some(bytes) => Ok(bytes),
     }
@@ -38,8 +38,8 @@ fn file_before(
     if file as usize >= starts.len() {
         return Ok(FileContent::of(Vec::new(alloc)));
     }
-    let record = &trace.records()[starts[file as usize] as usize].1;
-    let bytes = copy_bytes(alloc, record)?;
+    let content = trace.records().content(starts[file as usize] as usize);
+    let bytes = copy_bytes(alloc, content)?;
     Ok(FileContent::of(bytes))
 }
 

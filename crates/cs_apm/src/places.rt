@@ -10,8 +10,7 @@ ghost use Rattle.cs_apm.specs.Slots.{AreAscending, IsPlace};
 
 use cs_micro::MicroOp;
 use cs_names::Path;
-use cs_trace::Target;
-use cs_tree_model::Record;
+use cs_trace::{Start, Target};
 use std::alloc::{AllocError, Global};
 
 /// Inserts a copy of the path in its order, unless the path is there already. An error keeps the
@@ -32,13 +31,27 @@ pub fn add_path(alloc: Global, paths: &mut Vec<Path>, path: &Path) -> Result<(),
     Ok(())
 }
 
-/// Inserts the paths of the records, each in its order. An error keeps the paths that were there;
-/// some of the records' may have been inserted.
-fn add_starts(
-    alloc: Global,
-    paths: &mut Vec<Path>,
-    records: &[(Path, Record)],
-) -> Result<(), AllocError>
+/// Inserts the path in its order, unless it is there already. An error keeps the paths that were
+/// there.
+fn insert_path(paths: &mut Vec<Path>, path: Path) -> Result<(), AllocError>
+    requires { AreAscending paths.old.items }
+    ensures ascending { AreAscending paths.new.items }
+    ensures there { OnOk result (Contains paths.new.items path) }
+    ensures others { (p : Names) → Contains paths.old.items p → Contains paths.new.items p }
+    ensures only { (p : Names) → Contains paths.new.items p → Contains paths.old.items p
+        ⊎ (path ≡ p) }
+    ensures few { length paths.new.items ≤ length paths.old.items + 1 }
+{
+    match paths.binary_search(&path) {
+        Ok(_found) => {}
+        Err(place) => paths.insert(place, path)?,
+    }
+    Ok(())
+}
+
+/// Inserts the paths of the records at the start, each in its order. An error keeps the paths that
+/// were there; some of the records' may have been inserted.
+fn add_starts(alloc: Global, paths: &mut Vec<Path>, records: &Start) -> Result<(), AllocError>
     requires { AreAscending paths.old.items }
     ensures ascending { OnOk result (AreAscending paths.new.items) }
     ensures there { OnOk result (HasFirst paths.new.items records.now (length records.now)) }
@@ -48,8 +61,8 @@ fn add_starts(
     ensures few { OnOk result (length paths.new.items
         ≤ length paths.old.items + length records.now) }
 {
-    for record in records {
-        add_path(alloc, paths, &record.0)?;
+    for place in 0..records.len() {
+        insert_path(paths, records.path_of(alloc, place)?)?;
     }
     Ok(())
 }
@@ -91,11 +104,7 @@ fn add_named(alloc: Global, paths: &mut Vec<Path>, op: &MicroOp) -> Result<(), A
 
 /// Every path that ever exists, in order: those of the records at the start, and those that the
 /// micro-operations name.
-pub fn paths_of(
-    alloc: Global,
-    records: &[(Path, Record)],
-    ops: &[MicroOp],
-) -> Result<Vec<Path>, AllocError>
+pub fn paths_of(alloc: Global, records: &Start, ops: &[MicroOp]) -> Result<Vec<Path>, AllocError>
     ensures ascending { IfOk result (λ paths. AreAscending paths.items) }
     ensures starts { IfOk result (λ paths. HasFirst paths.items records.now (length records.now)) }
     ensures named { IfOk result (λ paths. HasAllNamed paths.items ops.now (length ops.now)) }

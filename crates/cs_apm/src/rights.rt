@@ -5,21 +5,21 @@
 ghost use Rattle.std.specs.Prelude.{◌≡◌, [], ◌∷◌, ◌+◌, ◌<◌, ◌≤◌, ◌++◌, ◌^◌, Some, length, map};
 ghost use Rattle.std.specs.Prelude.{IfOk, OnOk, slice_index_or};
 ghost use Rattle.std.specs.List.{All};
+ghost use Rattle.cs_tree_model.specs.Record.{metadata_of_ref};
 ghost use Rattle.cs_apm.specs.Atlases.{no_record};
 ghost use Rattle.cs_apm.specs.Slots.{Grows, HasRights, entry_of, rights_at};
-ghost use Rattle.cs_apm.specs.States.{entry_made, owners_made, rights_of, start_entry};
+ghost use Rattle.cs_apm.specs.States.{entry_made, owners_made, rights_in, rights_of};
 
 use crate::slot::Slot;
 use cs_micro::MicroOp;
-use cs_names::Path;
-use cs_trace::{Node, Rights};
-use cs_tree_model::Record;
+use cs_trace::{Node, Rights, Start};
+use cs_tree_model::Metadata;
 use std::alloc::{AllocError, Global};
 
 /// The rights of a record at the start, copied. The permissions are the lowest nine bits of its
 /// mode.
-fn rights_of(start: &Record) -> Result<Rights, AllocError>
-    ensures { IfOk result (λ rights. rights ≡ rights_of start.now) }
+fn rights_of(start: &Metadata<'_>) -> Result<Rights, AllocError>
+    ensures { IfOk result (λ rights. rights ≡ rights_in (metadata_of_ref start.now)) }
 {
     Ok(Rights {
         owner: start.owner.try_clone()?,
@@ -54,10 +54,14 @@ pub fn push_copy(table: &mut Vec<Rights>, rights: &Rights) -> Result<u32, AllocE
 
 /// The slot of a record at the start. A directory's rights are appended to the table; a file's are
 /// in the table of `owners_of`.
-pub fn start_slot(table: &mut Vec<Rights>, node: Node, start: &Record) -> Result<Slot, AllocError>
+pub fn start_slot(
+    table: &mut Vec<Rights>,
+    node: Node,
+    start: &Metadata<'_>,
+) -> Result<Slot, AllocError>
     requires { length table.old.items < 2 ^ 32 }
     ensures entry { IfOk result (λ slot. entry_of table.new.items slot
-        ≡ Some (start_entry node start.now)) }
+        ≡ Some (entry_made node (rights_in (metadata_of_ref start.now)))) }
     ensures there { IfOk result (HasRights (length table.new.items)) }
     ensures grows { OnOk result (Grows table.old.items table.new.items) }
     ensures few { OnOk result (length table.new.items ≤ length table.old.items + 1) }
@@ -85,17 +89,13 @@ pub fn made_slot(table: &mut Vec<Rights>, node: Node, rights: &Rights) -> Result
 }
 
 /// Appends the rights of the records at these places, in their order.
-fn push_starts(
-    table: &mut Vec<Rights>,
-    records: &[(Path, Record)],
-    places: &[u32],
-) -> Result<(), AllocError>
+fn push_starts(table: &mut Vec<Rights>, records: &Start, places: &[u32]) -> Result<(), AllocError>
     requires { All (λ place. place < length records.now) places.now }
     ensures { OnOk result (table.new.items ≡ table.old.items
         ++ map (λ place. rights_of (slice_index_or records.now place no_record).1) places.now) }
 {
     for place in places {
-        let rights = rights_of(&records[*place as usize].1)?;
+        let rights = rights_of(&records.metadata(*place as usize))?;
         table.push(rights)?;
     }
     Ok(())
@@ -120,7 +120,7 @@ fn push_made_rights(table: &mut Vec<Rights>, op: &MicroOp) -> Result<(), AllocEr
 /// records are at these places, and then of those that micro-operations make.
 pub fn owners_of(
     alloc: Global,
-    records: &[(Path, Record)],
+    records: &Start,
     places: &[u32],
     ops: &[MicroOp],
 ) -> Result<Vec<Rights>, AllocError>

@@ -9,15 +9,14 @@ use crate::places::place_of_path;
 use crate::rights::start_slot;
 use crate::slot::Slot;
 use cs_names::Path;
-use cs_trace::{Node, Rights};
-use cs_tree_model::Record;
+use cs_trace::{Node, Rights, Start};
 use std::alloc::{AllocError, Global};
 
 /// The slot of each path at the start, empty if nothing is there. The rights of the directories are
 /// appended to the table.
 pub fn start_slots(
     alloc: Global,
-    records: &[(Path, Record)],
+    records: &Start,
     nodes: &[Node],
     paths: &[Path],
     table: &mut Vec<Rights>,
@@ -37,8 +36,9 @@ pub fn start_slots(
     let mut slots = vec![in alloc; Slot::Nothing; paths.len()]?;
     // From the last record on: of two at one path, the first would count, as in `start_entries`.
     for k in (0..records.len()).rev() {
-        let place = place_of_path(paths, &records[k].0);
-        slots[place] = start_slot(table, nodes[k], &records[k].1)?;
+        let path = records.path_of(alloc, k)?;
+        let place = place_of_path(paths, &path);
+        slots[place] = start_slot(table, nodes[k], &records.metadata(k))?;
     }
     Ok(slots)
 }

@@ -1,5 +1,5 @@
 -- The paths of the start's files, link by link.
-use Rattle.std.proofs.Common.{◌≡◌, ◌≢◌, ℕ, ◌+◌, ◌<◌, ◌==◌, Bool, true, false, cond, List, [], ◌∷◌, ◌++◌, length, map, take, get_or, Some}
+use Rattle.std.proofs.Common.{◌≡◌, ◌≢◌, ℕ, zero, suc, ◌+◌, ◌<◌, ◌==◌, Bool, true, false, cond, List, [], ◌∷◌, ◌++◌, length, map, take, get_or, Some}
 use Rattle.std.proofs.Common.{refl, sym, ap, ◌∙◌, subst, ⊎_elim, arith}
 use Rattle.std.proofs.lemmas.Bool.{cases_eq, eq-eqb, ne_eqb}
 use Rattle.std.proofs.lemmas.List.{append-nil, ext_get_or, get_or-map, get_or-set_other, get_or-set_same, length-map, length-set}
@@ -8,9 +8,10 @@ use Rattle.std.proofs.lemmas.List.Elements.{filter_more}
 use Rattle.std.proofs.lemmas.List.FromFn.{get_or-map-range_with_len}
 use Rattle.std.proofs.lemmas.Option.{get_or_from_slice_get, slice_get-get_or, slice_get_within}
 use Rattle.std.specs.FinMap.{get}
+use Rattle.std.specs.Option.{option_map}
 use Rattle.std.specs.Prelude.{filter, slice_get, slice_set}
 use Rattle.cs_tree_model.specs.Tree.{Path}
-use Rattle.cs_trace.specs.Traces.{AreLinks, IsPathOf, Trace, start_paths}
+use Rattle.cs_trace.specs.Traces.{AreLinks, IsPathOf, Trace, path_at, start_paths}
 use Rattle.cs_trace.specs.declared.operation.Node.TheVariants.{File}
 use Rattle.cs_micro.specs.Laws.Starts.{length-paths_of_files}
 use Rattle.cs_micro.specs.Micros.{linked_to, paths_of_file, paths_of_files}
@@ -20,6 +21,13 @@ pub paths_at : (files : List Path) (links : List (Path × ℕ)) (n : ℕ) → n 
     → get_or (paths_of_files files links) n [] ≡ paths_of_file files links n
 unfolding paths_of_files
 paths_at files links n low = get_or-map-range_with_len (paths_of_file files links) 0 (length files) n n [] low (omega arith)
+
+-- the path at a place of a list
+pub slice_get-path_at : {X : Type 0} (es : List (Path × X)) (k : ℕ) → k < length es
+    → option_map (λ e. e.0) (slice_get es k) ≡ Some (path_at es k)
+slice_get-path_at [] k low = absurd (omega (arith, low))
+slice_get-path_at (e ∷ es) zero low = refl
+slice_get-path_at (e ∷ es) (suc k) low = slice_get-path_at es k (omega (arith, low))
 
 -- without links each file has one path
 pub own_paths : (files : List Path) → paths_of_files files [] ≡ map (λ path. path ∷ []) files

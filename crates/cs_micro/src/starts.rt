@@ -21,11 +21,12 @@ fn own_paths(alloc: Global, trace: &Trace) -> Result<Vec<Vec<Path>>, AllocError>
 {
     let mut starts = Vec::new(alloc);
     for file in 0..trace.file_count() {
-        let Some(path) = trace.file_path(file) else {
+        let Some(place) = trace.file_place(file) else {
             unreachable!()
         };
+        let path = trace.records().path_of(alloc, place)?;
         let mut paths = Vec::new(alloc);
-        paths.push(path.try_clone(alloc)?)?;
+        paths.push(path)?;
         starts.push(paths)?;
     }
     Ok(starts)

@@ -17,8 +17,6 @@ use Rattle.cs_trace.specs.contracts.operation.RightsPartialEq as rights
 use Rattle.cs_trace.specs.contracts.operation.CoversPartialEq as covers
 use Rattle.cs_trace.specs.contracts.operation.OperationPartialEq as operation
 use Rattle.cs_trace.specs.contracts.operation.TargetPartialEq as target
-use Rattle.cs_tree_model.specs.declared.record.Record.{Record}
-use Rattle.cs_tree_model.specs.contracts.record.RecordPartialEq as record_eq
 use Rattle.cs_plan.specs.declared.recipe.Recipe.{Recipe}
 use Rattle.cs_plan.specs.contracts.recipe.RecipePartialEq as recipe
 
@@ -59,9 +57,6 @@ target_own (targets.Directory p) = (path_decides p p).1 refl
 
 target_decides : (a b : Target) → Decides (target.TheImpl.eq-value.it a b) (a ≡ b)
 target_decides a b = (target_true a b, λ same. subst (λ x. target.TheImpl.eq-value.it a x ≡ true) same (target_own a))
-
-pub record_decides : (a b : Record) → Decides (record_eq.TheImpl.eq-value.it a b) (a ≡ b)
-record_decides a b = search (rules, bytes_eq-Decides)
 
 pub recipe_decides : (a b : Recipe) → Decides (recipe.TheImpl.eq-value.it a b) (a ≡ b)
 recipe_decides a b = search (rules, bytes_eq-Decides)
@@ -121,9 +116,6 @@ operation_own Say = refl
 
 pub operation_decides : (a b : Operation) → Decides (operation.TheImpl.eq-value.it a b) (a ≡ b)
 operation_decides a b = (operation_true a b, λ same. subst (λ x. operation.TheImpl.eq-value.it a x ≡ true) same (operation_own a))
-
-pub entry_decides : (a b : List (List ℕ) × Record) → Decides (path_eq a.0 b.0 && record_eq.TheImpl.eq-value.it a.1 b.1) (a ≡ b)
-entry_decides a b = search (rules, path_decides, record_decides)
 
 pub link_decides : (a b : List (List ℕ) × ℕ) → Decides (path_eq a.0 b.0 && a.1 == b.1) (a ≡ b)
 link_decides a b = search (rules, path_decides)

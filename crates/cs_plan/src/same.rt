@@ -5,7 +5,6 @@ ghost use Rattle.std.specs.Prelude.{◌≡◌, ◌↔◌, IsTrue};
 use crate::recipe::Recipe;
 use cs_names::Path;
 use cs_trace::{Node, Operation, Trace, Version};
-use cs_tree_model::Record;
 
 /// Whether the recipes are equal, in the same order.
 pub fn are_same_recipes(recipes: &[Recipe], others: &[Recipe]) -> bool
@@ -21,26 +20,12 @@ fn are_same_operations(operations: &[Operation], others: &[Operation]) -> bool
     operations == others
 }
 
-/// Whether the paths and records at the start are equal, in the same order.
-fn are_same_records(records: &[(Path, Record)], others: &[(Path, Record)]) -> bool
-    ensures { IsTrue result ↔ (records.now ≡ others.now) }
-{
-    records == others
-}
-
 /// Whether the entries at the start are of equal kinds, and the files of equal numbers, in the same
 /// order.
 fn are_same_nodes(nodes: &[Node], others: &[Node]) -> bool
     ensures { IsTrue result ↔ (nodes.now ≡ others.now) }
 {
     nodes == others
-}
-
-/// Whether two paths are equal.
-fn is_same_path(path: &Path, other: &Path) -> bool
-    ensures { IsTrue result ↔ (path.now ≡ other.now) }
-{
-    path == other
 }
 
 /// Whether the files at the start were made at equal paths, by their numbers.
@@ -51,10 +36,10 @@ fn have_same_paths(trace: &Trace, other: &Trace) -> bool
         return false;
     }
     for file in 0..trace.file_count() {
-        let (Some(path), Some(beside)) = (trace.file_path(file), other.file_path(file)) else {
+        let (Some(place), Some(beside)) = (trace.file_place(file), other.file_place(file)) else {
             unreachable!()
         };
-        if !is_same_path(path, beside) {
+        if !trace.records().is_same_path(place, other.records(), beside) {
             return false;
         }
     }
@@ -87,7 +72,7 @@ pub fn is_same_trace(trace: &Trace, other: &Trace) -> bool
     if !are_same_operations(trace.operations(), other.operations()) {
         return false;
     }
-    if !are_same_records(trace.records(), other.records()) {
+    if !trace.records().is_same_start(other.records()) {
         return false;
     }
     if !are_same_nodes(trace.nodes(), other.nodes()) {

@@ -1,10 +1,10 @@
 //! Which micro-operations change each file of a trace, and in which blocks. This is for digests
 //! only: a wrong digest costs time, never an answer, so nothing here has a contract. A number out
 //! of range is skipped. An error means out of memory, and the caller drops what it has so far.
-use crate::mixing::{digest_of_record, digest_of_rights};
+use crate::mixing::{digest_of_metadata, digest_of_rights};
 use cs_micro::MicroOp;
 use cs_trace::{BlockSize, Node, Target, Trace};
-use cs_tree_model::{Content, Kind};
+use cs_tree_model::Kind;
 use std::alloc::{AllocError, Global};
 
 /// What a micro-operation does to a file.
@@ -98,9 +98,9 @@ fn push_change(
     Ok(())
 }
 
-/// The length of a file's content; 0 for a directory.
-fn length_of(content: &Content) -> u64 {
-    match content.kind() {
+/// The length of a file; 0 for a directory.
+fn length_of(kind: Kind) -> u64 {
+    match kind {
         Kind::Directory => 0,
         Kind::File { length } => length,
     }
@@ -113,11 +113,13 @@ fn start_files(alloc: Global, trace: &Trace) -> Result<Vec<File>, AllocError> {
     for _ in 0..trace.file_count() {
         push_file(alloc, &mut files, 0)?;
     }
-    for ((_, record), node) in trace.records().iter().zip(trace.nodes()) {
+    let records = trace.records();
+    for (place, node) in trace.nodes().iter().enumerate() {
         if let Node::File(number) = node {
             if let Some(file) = files.get_mut(*number as usize) {
-                file.length = length_of(&record.content);
-                file.rights = digest_of_record(record);
+                let metadata = records.metadata(place);
+                file.length = length_of(metadata.kind);
+                file.rights = digest_of_metadata(&metadata);
             }
         }
     }

@@ -1,7 +1,7 @@
 //! What is at the paths at which the states of a trace differ. This is for digests only: a wrong
 //! digest costs time, never an answer, so nothing here has a contract. What is out of range is
 //! skipped. An error means out of memory; the caller then drops what was noted so far.
-use crate::mixing::{digest_of_record, digest_of_rights};
+use crate::mixing::{digest_of_metadata, digest_of_rights};
 use crate::places::TouchedPaths;
 use cs_micro::MicroOp;
 use cs_names::Path;
@@ -98,10 +98,12 @@ fn start_entries(
     touched: &TouchedPaths,
 ) -> Result<Vec<Entry>, AllocError> {
     let mut start = vec![in alloc; Entry::Nothing; touched.paths.len()]?;
-    for ((path, record), node) in trace.records().iter().zip(trace.nodes()) {
-        if let Some(place) = touched.by_path.get(path) {
-            let rights = digest_of_record(record);
-            set_entry(&mut start, *place, Entry::of(*node, rights));
+    let records = trace.records();
+    for (place, node) in trace.nodes().iter().enumerate() {
+        let path = records.path_of(alloc, place)?;
+        if let Some(path_place) = touched.by_path.get(&path) {
+            let rights = digest_of_metadata(&records.metadata(place));
+            set_entry(&mut start, *path_place, Entry::of(*node, rights));
         }
     }
     Ok(start)

@@ -2,7 +2,7 @@
 //! time, never an answer, so nothing here has a contract.
 use cs_names::UserName;
 use cs_trace::Rights;
-use cs_tree_model::Record;
+use cs_tree_model::Metadata;
 
 /// The digest of a sequence and one more part. `digest` is that of the sequence; 0 is that of an
 /// empty one. The factors are odd, so that no bit is lost; the second is 2^64 divided by the golden
@@ -37,7 +37,8 @@ pub fn digest_of_rights(rights: &Rights) -> u64 {
     digest_of_parts(&rights.owner, &rights.group, u32::from(rights.permissions))
 }
 
-/// The digest of a record's owner, group and permissions: the same as that of equal rights.
-pub fn digest_of_record(record: &Record) -> u64 {
-    digest_of_parts(&record.owner, &record.group, record.mode)
+/// The digest of the owner, group and permissions of a record with these fields: the same as that of
+/// equal rights.
+pub fn digest_of_metadata(record: &Metadata<'_>) -> u64 {
+    digest_of_parts(record.owner, record.group, record.mode)
 }

@@ -39,8 +39,8 @@ fn start_bytes<'a>(trace: &'a Trace, _ops: &[MicroOp], tables: &Tables, file: us
     if file >= starts.len() {
         return &[];
     }
-    let record = &trace.records()[starts[file] as usize].1;
-    record.content.bytes().unwrap_or(&[])
+    let content = trace.records().content(starts[file] as usize);
+    content.bytes().unwrap_or(&[])
 }
 
 /// Whether both have the same owner, group and permissions.

@@ -35,7 +35,7 @@ use Rattle.cs_session.specs.Removes.{close_decision, close_question, close_reply
 use Rattle.cs_session.specs.Sessions.{Awaited, SessionState, entry_at}
 use Rattle.cs_session.specs.Steps.{Continues, Step, AttachStep, CallStep, CloseStep, FindStep, TakesWithMark, first_move_of}
 use Rattle.cs_session.specs.Steps.{reply_and_session}
-use Rattle.cs_session.specs.TableSteps.{after_change, after_clunk, clunk_reply, table_stepped}
+use Rattle.cs_session.specs.TableSteps.{after_change, after_clunk, clunk_reply, clunk_rules, table_stepped}
 use Rattle.cs_session.specs.Versions.{after_version, agreed_size, is_spoken}
 
 -- ---- replies
@@ -126,15 +126,14 @@ picked_reply : (b : Bool) (x y : Reply) → IsOnWire x → IsOnWire y → IsOnWi
 picked_reply true x y h k = h
 picked_reply false x y h k = k
 
-clunked : (o : Option FidEntry) → IsOnWire (clunk_reply o)
+clunked : (o : Option RuleId) → IsOnWire (clunk_reply o)
 clunked None = tt
-clunked (Some (entry.Opened x)) = tt
-clunked (Some (entry.Walked x)) = tt
+clunked (Some rule) = tt
 
 clunk_on_wire : (s : SessionState) (fid : ℕ) → IsOnWire (table_stepped s (t.Clunk fid)).0
 clunk_on_wire s fid =
     picked (is_some s.awaited) (r.Error S5, s) (after_change s (t.Clunk fid)) tt
-    (picked (is_none s.msize) (r.Error S1, s) (after_clunk s fid) tt (clunked (entry_at s fid)))
+    (picked (is_none s.msize) (r.Error S1, s) (after_clunk s fid) tt (clunked (first_failing (clunk_rules s.fids fid))))
 
 version_on_wire : (s : SessionState) (msize : ℕ) (version : List ℕ) → IsOnWire (table_stepped s (t.Version msize version)).0
 version_on_wire s msize version =

@@ -1,14 +1,11 @@
 -- The error of a step that a connection refuses by itself is the first of its rules that fails.
 use Rattle.std.proofs.Common.{◌≡◌, ℕ, Bool, true, false, List, [], ◌∷◌, ◌++◌, Option, None, Some, Err, append_assoc, refl, sym, ap, subst}
 use Rattle.std.proofs.Common.{◌∙◌}
-use Rattle.std.specs.Prelude.{Result, Ok, is_none, is_some, nat_lt, option_and_then, if◌then◌else◌}
-use Rattle.cs_fids.specs.Entries.{as_opened}
+use Rattle.std.specs.Prelude.{Result, Ok, is_none, is_some, nat_lt, if◌then◌else◌}
 use Rattle.cs_fids.specs.Tables.{least_open}
-use Rattle.cs_fids.specs.declared.entry.FidEntry.{FidEntry}
-use Rattle.cs_fids.specs.declared.entry.FidEntry.TheVariants as entry
 use Rattle.cs_names.specs.declared.limits.TheConstants.{LEAST_MESSAGE_SIZE}
 use Rattle.cs_names.specs.declared.rule_id.RuleId.{RuleId}
-use Rattle.cs_names.specs.declared.rule_id.RuleId.TheVariants.{N1, S1, S4, S5}
+use Rattle.cs_names.specs.declared.rule_id.RuleId.TheVariants.{S1, S4, S5}
 use Rattle.cs_permit.specs.Refusals.{Check, IsFirstToFail, first_failing}
 use Rattle.cs_permit.specs.Table.{attach_table_rules}
 use Rattle.cs_session.specs.Attaches.{attach_decision, find_decision, find_question}
@@ -17,9 +14,9 @@ use Rattle.cs_session.specs.Decisions.{after_session, decide}
 use Rattle.cs_session.specs.OwnRules.{change_rules, own_rules, with_question}
 use Rattle.cs_session.specs.Questions.{Question}
 use Rattle.cs_session.specs.Removes.{close_decision, close_question}
-use Rattle.cs_session.specs.Sessions.{Awaited, SessionState, empty_session, entry_at, with_fids}
+use Rattle.cs_session.specs.Sessions.{Awaited, SessionState, empty_session, with_fids}
 use Rattle.cs_session.specs.Steps.{Step, FindStep, AttachStep, CallStep, CloseStep, Table, Done, first_move_by, first_move_of}
-use Rattle.cs_session.specs.TableSteps.{clunk_left, clunk_reply, table_stepped}
+use Rattle.cs_session.specs.TableSteps.{clunk_left, clunk_reply, clunk_rules, table_stepped}
 use Rattle.cs_session.specs.Versions.{agreed_size, is_spoken, session_size}
 use Rattle.cs_session.specs.declared.message.TableStep.{TableStep}
 use Rattle.cs_session.specs.declared.message.TableStep.TheVariants as t
@@ -105,18 +102,17 @@ attach_first (Some awaited) now rule is = absurd cc
 abbrev replied : Reply × SessionState → Reply
 replied answered = answered.0
 
-of_entry : (o : Option FidEntry) (rule : RuleId) → clunk_reply o ≡ r.Error rule
-    → first_failing ((N1, is_none o) ∷ (S5, is_some (option_and_then as_opened o)) ∷ []) ≡ Some rule
-of_entry None rule is = cc
-of_entry (Some (entry.Opened x)) rule is = cc
-of_entry (Some (entry.Walked x)) rule is = absurd cc
+of_failing : (o : Option RuleId) (rule : RuleId) → clunk_reply o ≡ r.Error rule → o ≡ Some rule
+of_failing None rule is = absurd cc
+of_failing (Some first) rule is = cc
 
-clunk_first : (awaits none : Bool) (o : Option FidEntry) (session left : SessionState) (rule : RuleId)
-    → replied (if awaits then (r.Error S5, session) else (if none then (r.Error S1, session) else (clunk_reply o, left))) ≡ r.Error rule
-    → first_failing ((S5, awaits) ∷ (S1, none) ∷ (N1, is_none o) ∷ (S5, is_some (option_and_then as_opened o)) ∷ []) ≡ Some rule
-clunk_first true none o session left rule is = cc
-clunk_first false true o session left rule is = cc
-clunk_first false false o session left rule is = of_entry o rule is
+clunk_first : (awaits none : Bool) (rules : List Check) (session left : SessionState) (rule : RuleId)
+    → replied (if awaits then (r.Error S5, session) else (if none then (r.Error S1, session) else (clunk_reply (first_failing rules), left)))
+    ≡ r.Error rule
+    → first_failing ((S5, awaits) ∷ (S1, none) ∷ rules) ≡ Some rule
+clunk_first true none rules session left rule is = cc
+clunk_first false true rules session left rule is = cc
+clunk_first false false rules session left rule is = of_failing (first_failing rules) rule is
 
 version_first : (awaits opens small : Bool) (session left : SessionState) (size : ℕ) (spoken : Bool) (rule : RuleId)
     → replied
@@ -138,8 +134,9 @@ hang_up_first false false session left rule is = absurd cc
 table_first : (session : SessionState) (change : TableStep) (rule : RuleId) → (table_stepped session change).0 ≡ r.Error rule
     → first_failing (change_rules session change) ≡ Some rule
 table_first session (t.Clunk fid) rule is =
-    clunk_first (is_some session.awaited) (is_none session.msize) (entry_at session fid) session
-    (with_fids (clunk_left session.fids fid (entry_at session fid)) session) rule is
+    let rules : List Check = clunk_rules session.fids fid in
+    clunk_first (is_some session.awaited) (is_none session.msize) rules session
+    (with_fids (clunk_left session.fids fid (first_failing rules)) session) rule is
 table_first session (t.Version msize version) rule is =
     version_first (is_some session.awaited) (is_some (least_open session.fids)) (nat_lt msize LEAST_MESSAGE_SIZE) session
     (empty_session (session_size msize version)) (agreed_size msize) (is_spoken version) rule is

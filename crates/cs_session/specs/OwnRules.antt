@@ -2,16 +2,17 @@
 use Rattle.std.specs.Prelude.{ℕ, nat_lt, List, [], ◌∷◌, ◌++◌, Option, is_none, is_some}
 use Rattle.cs_fids.specs.Tables.{least_open}
 use Rattle.cs_names.specs.declared.limits.TheConstants.{LEAST_MESSAGE_SIZE}
-use Rattle.cs_names.specs.declared.rule_id.RuleId.TheVariants.{N1, S1, S4, S5}
+use Rattle.cs_names.specs.declared.rule_id.RuleId.TheVariants.{S1, S4, S5}
 use Rattle.cs_permit.specs.Refusals.{Check}
-use Rattle.cs_permit.specs.Table.{attach_table_rules, is_unknown}
+use Rattle.cs_permit.specs.Table.{attach_table_rules}
 use Rattle.cs_session.specs.Attaches.{find_question}
 use Rattle.cs_session.specs.Calls.{call_question, call_rules}
-use Rattle.cs_session.specs.Decisions.{after_session, opened_at}
+use Rattle.cs_session.specs.Decisions.{after_session}
 use Rattle.cs_session.specs.Questions.{Question}
 use Rattle.cs_session.specs.Removes.{close_question}
 use Rattle.cs_session.specs.Sessions.{SessionState}
 use Rattle.cs_session.specs.Steps.{Step, FindStep, AttachStep, CallStep, CloseStep, Table}
+use Rattle.cs_session.specs.TableSteps.{clunk_rules}
 use Rattle.cs_session.specs.declared.message.TableStep.{TableStep}
 use Rattle.cs_session.specs.declared.message.TableStep.TheVariants as t
 
@@ -26,9 +27,7 @@ abbrev pub change_rules : SessionState → TableStep → List Check
 change_rules session (t.Clunk fid) =
     (S5, is_some session.awaited)
     ∷ (S1, is_none session.msize)
-    ∷ (N1, is_unknown session.fids fid)
-    ∷ (S5, is_some (opened_at session.fids fid))
-    ∷ []
+    ∷ clunk_rules session.fids fid
 change_rules session (t.Version msize version) =
     (S5, is_some session.awaited)
     ∷ (S5, is_some (least_open session.fids))

@@ -1,10 +1,10 @@
 //! What a version and the clunk of a fid that isn't open change and reply (version(5), clunk(5)).
 ghost use Rattle.std.specs.Option.{ForSome};
 ghost use Rattle.std.specs.Prelude.{◌≡◌};
-ghost use Rattle.cs_fids.specs.Tables.{fid_at};
+ghost use Rattle.cs_permit.specs.Refusals.{first_failing};
 ghost use Rattle.cs_session.specs.Ready.{IsAgreed};
 ghost use Rattle.cs_session.specs.Sizes.{IsPlain};
-ghost use Rattle.cs_session.specs.TableSteps.{clunk_left, clunk_reply};
+ghost use Rattle.cs_session.specs.TableSteps.{clunk_left, clunk_reply, clunk_rules};
 ghost use Rattle.cs_session.specs.Versions.{before_period, is_spoken, session_size, version_reply};
 
 use crate::reply::Reply;
@@ -59,9 +59,10 @@ pub(crate) fn session_size(msize: u32, version: &str) -> Option<u32>
 /// Frees the fid of that number if it isn't open, and replies Clunk. S5 if the fid is open, N1 if
 /// there is no such fid; then no fid changes.
 pub(crate) fn clunk_walked(fids: &mut FidTable, fid: u32) -> Reply
-    ensures value { result ≡ clunk_reply (fid_at fids.old fid) }
+    ensures value { result ≡ clunk_reply (first_failing (clunk_rules fids.old.fids fid)) }
     ensures plain { IsPlain result }
-    ensures left { fids.new.fids ≡ clunk_left fids.old.fids fid (fid_at fids.old fid) }
+    ensures left { fids.new.fids
+        ≡ clunk_left fids.old.fids fid (first_failing (clunk_rules fids.old.fids fid)) }
 {
     match fids.take_walked(fid) {
         Ok(_walked) => Reply::Clunk,

@@ -3,3 +3,4 @@ pub mod Keyed
 pub mod Telling
 pub mod Publishing
 pub mod Scenes
+pub mod Widening

@@ -79,3 +79,12 @@ abbrev pub IsLookOf : {T : Type 0} → HasTree → ℕ → (RunOf → T → Type
 IsLookOf serves number may_return (Some found) =
     (run : RunOf) × IsServed serves number run × may_return run found
 IsLookOf serves number may_return None = IsOfAnother serves number
+
+-- which answers the runs of a server gave: to a call for the run of a number, under a pass, at a
+-- moment; the last is the pass that was left
+abbrev pub GivesAnswer : Type 1
+GivesAnswer = ℕ → PassOf → ℕ → Call → Answer → PassOf → Type 0
+
+-- which results they gave for an attach: for the run of a number, at a moment, to a call
+abbrev pub GivesAttach : Type 1
+GivesAttach = ℕ → ℕ → Call → Result (PassOf × Answer) PassFault → Type 0

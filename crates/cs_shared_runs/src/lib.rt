@@ -2,6 +2,7 @@
 //! holds two locks.
 #![tactic(auto)]
 
+mod answering;
 mod by_key;
 mod locked;
 mod look;
@@ -10,6 +11,7 @@ mod served;
 mod shared_registry;
 mod shared_run;
 
+pub use answering::AnswersCalls;
 pub use look::{AuditBy, Look};
 pub use registry::{LoadedUsers, Registry};
 pub use served::{AnyScene, ServerBrand};

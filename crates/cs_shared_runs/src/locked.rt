@@ -2,7 +2,7 @@
 ghost use Rattle.std.specs.Prelude.{◌≡◌, ◌≢◌, ◌↔◌, IsNone, IsSomeAnd, IsTrue};
 ghost use Rattle.cs_permit.specs.declared.call.Call.TheVariants as called;
 ghost use Rattle.cs_run.specs.Laws.{FitsCall};
-ghost use Rattle.cs_shared_runs.specs.Locks.{LockedAttaches, LockedCalls};
+ghost use Rattle.cs_shared_runs.specs.Locks.{IsTreeOf, KeepsTree, LockedAttaches, LockedCalls};
 ghost use Rattle.cs_shared_runs.specs.Answers.{IsAnswerOf, IsAttachOf, IsLookOf};
 
 use crate::look::Look;
@@ -16,16 +16,15 @@ use cs_run::Answer;
 use std::alloc::Global;
 use std::marker::{Model, PhantomData};
 
-/// A run and the number of its state; the run began with the tree that the server has under that
-/// number. Whatever is done under the lock is done by the calls below. Contracts see both.
+/// A run and the number of its state. Contracts see both. Only `Locked::new` makes one, so that it
+/// is under a lock.
 #[derive(Drop)]
-pub(crate) struct Locked<S: ServerBrand> {
+pub struct NumberedRun {
     number: u32,
     run: Run<Built>,
-    of: PhantomData<S>,
 }
 
-impl<S: ServerBrand> Model for Locked<S> {
+impl Model for NumberedRun {
     ghost use Rattle.cs_shared_runs.specs.Locks as model;
 
     ghost Value = { model.Locked };
@@ -33,23 +32,9 @@ impl<S: ServerBrand> Model for Locked<S> {
     ghost coded = { model.locked_code };
 
     ghost view = { λ l. record { number = l.number; run = l.run } };
-
-    ghost invariant = { λ l. S.serves l.number l.run.fresh };
 }
 
-impl<S: ServerBrand> Locked<S> {
-    /// The run of the state of that number, to be put under a lock.
-    pub(crate) fn new(number: u32, run: Run<Built>) -> Locked<S>
-        requires { S.serves number run.fresh }
-        ensures { result ≡ record { number = number; run = run } }
-    {
-        Locked {
-            number,
-            run,
-            of: PhantomData,
-        }
-    }
-
+impl NumberedRun {
     /// Whether the run is over the state of that number. It always is, since `SharedRun::fresh`
     /// makes a handle and what its lock protects with the same number. But contracts see nothing
     /// inside a lock, so no call can be proved to find its own run there: each checks the number,
@@ -73,7 +58,9 @@ impl<S: ServerBrand> Locked<S> {
     ) -> Answer
         ensures calls { LockedCalls self.old number pass.old now call.entry result
             self.new pass.new }
-        ensures answers { IsAnswerOf S.serves number pass.old now call.entry result pass.new }
+        ensures answers { IsAnswerOf (IsTreeOf self.old) number pass.old now call.entry result
+            pass.new }
+        ensures keeps { KeepsTree self.old self.new }
         ensures fits { FitsCall call.entry result }
     {
         // by its contract the journal is legal
@@ -100,8 +87,9 @@ impl<S: ServerBrand> Locked<S> {
     ) -> Result<(Pass, Answer), PassFault>
         ensures attaches { LockedAttaches self.old number now
             (called.Attach (record { user = user })) result self.new }
-        ensures answers { IsAttachOf S.serves number now
+        ensures answers { IsAttachOf (IsTreeOf self.old) number now
             (called.Attach (record { user = user })) result }
+        ensures keeps { KeepsTree self.old self.new }
     {
         // by its contract the journal is legal
         know(self.run.entries());
@@ -125,7 +113,7 @@ impl<S: ServerBrand> Locked<S> {
         ensures looks { self.now.number ≡ number
             → IsSomeAnd result (K.may_return look self.now.run) }
         ensures foreign { self.now.number ≢ number → IsNone result }
-        ensures answers { IsLookOf S.serves number (K.may_return look) result }
+        ensures answers { IsLookOf (IsTreeOf self.now) number (K.may_return look) result }
     {
         // by its contract the journal is legal
         know(self.run.entries());
@@ -133,5 +121,83 @@ impl<S: ServerBrand> Locked<S> {
             return None;
         }
         Some(look.look(&self.run))
+    }
+}
+
+/// A run and the number of its state; the run began with the tree that the server has under that
+/// number. Whatever is done under the lock is done by the calls below. Contracts see both.
+#[derive(Drop)]
+pub(crate) struct Locked<S: ServerBrand> {
+    inside: NumberedRun,
+    of: PhantomData<S>,
+}
+
+impl<S: ServerBrand> Model for Locked<S> {
+    ghost use Rattle.cs_shared_runs.specs.Locks as model;
+
+    ghost Value = { model.Locked };
+
+    ghost coded = { model.locked_code };
+
+    ghost view = { λ l. l.inside };
+
+    ghost invariant = { λ l. S.serves l.inside.number l.inside.run.fresh };
+}
+
+impl<S: ServerBrand> Locked<S> {
+    /// The run of the state of that number, to be put under a lock.
+    pub(crate) fn new(number: u32, run: Run<Built>) -> Locked<S>
+        requires { S.serves number run.fresh }
+        ensures { result ≡ record { number = number; run = run } }
+    {
+        Locked {
+            inside: NumberedRun { number, run },
+            of: PhantomData,
+        }
+    }
+
+    /// Does a call under a pass, as `NumberedRun::call` does.
+    pub(crate) fn call(
+        &mut self,
+        alloc: Global,
+        number: u32,
+        pass: &mut Pass,
+        now: u32,
+        call: Call<'_>,
+    ) -> Answer
+        ensures source { S.answered number pass.old now call.entry result pass.new }
+        ensures calls { LockedCalls self.old number pass.old now call.entry result
+            self.new pass.new }
+        ensures answers { IsAnswerOf S.serves number pass.old now call.entry result pass.new }
+        ensures fits { FitsCall call.entry result }
+    {
+        S::answer(&mut self.inside, alloc, number, pass, now, call)
+    }
+
+    /// Attaches a user under a new pass, as `NumberedRun::attach` does.
+    pub(crate) fn attach(
+        &mut self,
+        alloc: Global,
+        number: u32,
+        now: u32,
+        user: Text,
+    ) -> Result<(Pass, Answer), PassFault>
+        ensures source { S.attached number now (called.Attach (record { user = user })) result }
+        ensures attaches { LockedAttaches self.old number now
+            (called.Attach (record { user = user })) result self.new }
+        ensures answers { IsAttachOf S.serves number now
+            (called.Attach (record { user = user })) result }
+    {
+        S::attach(&mut self.inside, alloc, number, now, user)
+    }
+
+    /// What `look` returns of the run, as `NumberedRun::inspect` says.
+    pub(crate) fn inspect<T, K: Look<T> + Drop>(&self, number: u32, look: K) -> Option<T>
+        ensures looks { self.now.number ≡ number
+            → IsSomeAnd result (K.may_return look self.now.run) }
+        ensures foreign { self.now.number ≢ number → IsNone result }
+        ensures answers { IsLookOf S.serves number (K.may_return look) result }
+    {
+        self.inside.inspect(number, look)
     }
 }

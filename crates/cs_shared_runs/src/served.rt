@@ -3,11 +3,18 @@ ghost use Rattle.std.specs.Prelude.{ℕ};
 ghost use Rattle.cs_plan.specs.Scenes.{Scene};
 ghost use Rattle.cs_tree_model.specs.Tree.{Tree};
 
+use crate::answering::AnswersCalls;
+use crate::locked::NumberedRun;
+use cs_journal::Pass;
+use cs_names::Text;
+use cs_permit::{Call, PassFault};
+use cs_run::Answer;
+use std::alloc::Global;
 use std::marker::Brand;
 
 /// Names a server by a type, so that the type of what a lock protects says whose scene and whose
 /// trees it has.
-pub trait ServerBrand {
+pub trait ServerBrand: AnswersCalls {
     /// The trees that the server has under a number. New runs begin with these.
     ghost serves: { ℕ → Tree → Type 0 };
 
@@ -33,4 +40,62 @@ impl ServerBrand for Brand {
     ghost serves = { IsStateOfSome };
 
     ghost is_scene = { λ scene. Unit {0} };
+}
+
+impl AnswersCalls for AnyScene {
+    ghost answered = { λ number pass now call answer left. Unit {0} };
+
+    ghost attached = { λ number now call result. Unit {0} };
+
+    /// As `NumberedRun::call`.
+    fn answer(
+        run: &mut NumberedRun,
+        alloc: Global,
+        number: u32,
+        pass: &mut Pass,
+        now: u32,
+        call: Call<'_>,
+    ) -> Answer {
+        run.call(alloc, number, pass, now, call)
+    }
+
+    /// As `NumberedRun::attach`.
+    fn attach(
+        run: &mut NumberedRun,
+        alloc: Global,
+        number: u32,
+        now: u32,
+        user: Text,
+    ) -> Result<(Pass, Answer), PassFault> {
+        run.attach(alloc, number, now, user)
+    }
+}
+
+impl AnswersCalls for Brand {
+    ghost answered = { λ number pass now call answer left. Unit {0} };
+
+    ghost attached = { λ number now call result. Unit {0} };
+
+    /// As `NumberedRun::call`.
+    fn answer(
+        run: &mut NumberedRun,
+        alloc: Global,
+        number: u32,
+        pass: &mut Pass,
+        now: u32,
+        call: Call<'_>,
+    ) -> Answer {
+        run.call(alloc, number, pass, now, call)
+    }
+
+    /// As `NumberedRun::attach`.
+    fn attach(
+        run: &mut NumberedRun,
+        alloc: Global,
+        number: u32,
+        now: u32,
+        user: Text,
+    ) -> Result<(Pass, Answer), PassFault> {
+        run.attach(alloc, number, now, user)
+    }
 }

@@ -83,7 +83,9 @@ impl<S: ServerBrand> SharedRun<S> {
         now: u32,
         user: Text,
     ) -> Result<(Pass, Answer), PassFault>
-        ensures { IsAttachOf S.serves self.now.number now
+        ensures source { S.attached self.now.number now
+            (called.Attach (record { user = user })) result }
+        ensures answers { IsAttachOf S.serves self.now.number now
             (called.Attach (record { user = user })) result }
     {
         let number = self.key.number();
@@ -100,6 +102,7 @@ impl<S: ServerBrand> SharedRun<S> {
         now: u32,
         call: Call<'_>,
     ) -> Answer
+        ensures source { S.answered self.now.number pass.old now call.entry result pass.new }
         ensures answers { IsAnswerOf S.serves self.now.number pass.old now call.entry result
             pass.new }
         ensures fits { FitsCall call.entry result }

@@ -279,8 +279,8 @@ pub fn start_bytes<'a>(trace: &'a Trace, _ops: &[MicroOp], tables: &Tables, file
     if file >= starts.len() {
         return &[];
     }
-    let record = &trace.records()[starts[file] as usize].1;
-    record.content.bytes().unwrap_or(&[])
+    let content = trace.records().content(starts[file] as usize);
+    content.bytes().unwrap_or(&[])
 }
 
 /// The places of the micro-operations that change the file; no places if, by `tables`, none does.

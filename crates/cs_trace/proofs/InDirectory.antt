@@ -1,5 +1,5 @@
 -- The entries of one directory, by the names in it and by their whole paths.
-use Rattle.std.proofs.Common.{◌≡◌, ◌≢◌, Bool, true, false, cond, List, [], ◌∷◌, ◌++◌, Option, None, Some, ◌⊎◌, inl, inr, ⊎_elim, refl}
+use Rattle.std.proofs.Common.{◌≡◌, ◌≢◌, true, false, cond, List, [], ◌∷◌, ◌++◌, Option, None, Some, ◌⊎◌, inl, inr, ⊎_elim, refl}
 use Rattle.std.proofs.Common.{sym, ap, ◌∙◌}
 use Rattle.std.proofs.lemmas.Bool.{false≢true}
 use Rattle.std.specs.declared.cmp.Ordering.{Ordering}
@@ -12,7 +12,7 @@ use Rattle.cs_tree_model.specs.Laws.Nexts.{total}
 use Rattle.cs_tree_model.specs.Laws.Paths.{path_cases, path_exact, path_total, snoc_front, snoc_not_nil}
 use Rattle.cs_tree_model.specs.Tree.{NameBytes, Path, name_cmp, path_cmp}
 use Rattle.cs_trace.specs.Entries.{Entries}
-use Rattle.cs_trace.specs.Siblings.{AreIn, IsIn, entry_in, in_directory, siblings_of}
+use Rattle.cs_trace.specs.Siblings.{AreIn, IsIn, in_directory, siblings_of}
 use Rattle.cs_trace.specs.declared.entry.StartEntry.{StartEntry}
 
 -- a path is the root's, or has a last name
@@ -47,40 +47,35 @@ same_test (y ∷ d) n x =
     ap (λ o. is_eq (ordering_then o (path_cmp (d ++ n ∷ []) (d ++ x ∷ [])))) (tied_itself total y) ∙ same_test d n x
 
 abbrev pub Named : Type 0
-Named = List (NameBytes × (Path × StartEntry))
+Named = List (NameBytes × StartEntry)
 
-chosen : (b : Bool) (v : Path × StartEntry) (o : Option (Path × StartEntry)) → cond b (Some v.1) (entry_in o) ≡ entry_in (cond b (Some v) o)
-chosen true v o = refl
-chosen false v o = refl
-
-find_here : (d : Path) (n : NameBytes) (es : Named) → find path_cmp (d ++ n ∷ []) (in_directory d es) ≡ entry_in (find name_cmp n es)
+find_here : (d : Path) (n : NameBytes) (es : Named) → find path_cmp (d ++ n ∷ []) (in_directory d es) ≡ find name_cmp n es
 find_here d n [] = refl
-find_here d n (e ∷ es) =
-    (λ i. cond (same_test d n e.0 i) (Some e.1.1) (find_here d n es i)) ∙ chosen (eq_by_cmp name_cmp n e.0) e.1 (find name_cmp n es)
+find_here d n (e ∷ es) = λ i. cond (same_test d n e.0 i) (Some e.1) (find_here d n es i)
 
 find_elsewhere : (d q : Path) (es : Named) → ((x : NameBytes) → q ≢ d ++ x ∷ []) → find path_cmp q (in_directory d es) ≡ None
 find_elsewhere d q [] other = refl
 find_elsewhere d q (e ∷ es) other = ⊎_elim
     (λ (one : (eq_by_cmp path_cmp q (d ++ e.0 ∷ []) ≡ true) × (q ≡ d ++ e.0 ∷ [])). absurd (other e.0 one.1))
     (λ (two : (eq_by_cmp path_cmp q (d ++ e.0 ∷ []) ≡ false) × (q ≢ d ++ e.0 ∷ [])).
-    ap (λ b. cond b (Some e.1.1) (find path_cmp q (in_directory d es))) two.0 ∙ find_elsewhere d q es other)
+    ap (λ b. cond b (Some e.1) (find path_cmp q (in_directory d es))) two.0 ∙ find_elsewhere d q es other)
     (path_cases q (d ++ e.0 ∷ []))
 
 abbrev pub whole : Path → Named → Entries
 whole d es = from_entries (in_directory d es)
 
-pub get-here : (d : Path) (n : NameBytes) (es : Named) → get (whole d es) (d ++ n ∷ []) ≡ entry_in (find name_cmp n es)
+pub get-here : (d : Path) (n : NameBytes) (es : Named) → get (whole d es) (d ++ n ∷ []) ≡ find name_cmp n es
 get-here d n es = get-from_entries path_total (in_directory d es) (d ++ n ∷ []) ∙ find_here d n es
 
 pub get-elsewhere : (d q : Path) (es : Named) → ((n : NameBytes) → q ≢ d ++ n ∷ []) → get (whole d es) q ≡ None
 get-elsewhere d q es other = get-from_entries path_total (in_directory d es) q ∙ find_elsewhere d q es other
 
-pub get-at : (d p : Path) (n : NameBytes) (es : Named) → p ≡ d ++ n ∷ [] → get (whole d es) p ≡ entry_in (find name_cmp n es)
+pub get-at : (d p : Path) (n : NameBytes) (es : Named) → p ≡ d ++ n ∷ [] → get (whole d es) p ≡ find name_cmp n es
 get-at d p n es is = ap (get (whole d es)) is ∙ get-here d n es
 
 -- the value of one name changes
 change : (d : Path) (n : NameBytes) (w : Option StartEntry) (es fs : Named)
-    → ((x : NameBytes) → entry_in (find name_cmp x fs) ≡ cond (eq_by_cmp name_cmp x n) w (entry_in (find name_cmp x es)))
+    → ((x : NameBytes) → find name_cmp x fs ≡ cond (eq_by_cmp name_cmp x n) w (find name_cmp x es))
     → (q : Path) → get (whole d fs) q ≡ cond (eq_by_cmp path_cmp q (d ++ n ∷ [])) w (get (whole d es) q)
 change d n w es fs each q = ⊎_elim
     (λ (here : IsIn d q).
@@ -97,23 +92,18 @@ change d n w es fs each q = ⊎_elim
     (places d q)
 
 pub whole-insert : (d p : Path) (n : NameBytes) (e : StartEntry) (es fs : Named) → p ≡ d ++ n ∷ []
-    → ((x : NameBytes) → find name_cmp x fs ≡ cond (eq_by_cmp name_cmp x n) (Some (p, e)) (find name_cmp x es))
+    → ((x : NameBytes) → find name_cmp x fs ≡ cond (eq_by_cmp name_cmp x n) (Some e) (find name_cmp x es))
     → whole d fs ≡ insert (whole d es) p e
 whole-insert d p n e es fs is each = same_map path_total path_exact _ _ (λ q.
-    change d n (Some e) es fs
-    (λ x. ap entry_in (each x) ∙ sym (chosen (eq_by_cmp name_cmp x n) (p, e) (find name_cmp x es))) q
+    change d n (Some e) es fs each q
     ∙ ap (λ r. cond (eq_by_cmp path_cmp q r) (Some e) (get (whole d es) q)) (sym is)
     ∙ sym (get-insert path_total (whole d es) p e q))
-
-none_chosen : (b : Bool) (o : Option (Path × StartEntry)) → entry_in (cond b None o) ≡ cond b None (entry_in o)
-none_chosen true o = refl
-none_chosen false o = refl
 
 pub whole-remove : (d p : Path) (n : NameBytes) (es fs : Named) → p ≡ d ++ n ∷ []
     → ((x : NameBytes) → find name_cmp x fs ≡ cond (eq_by_cmp name_cmp x n) None (find name_cmp x es))
     → whole d fs ≡ remove (whole d es) p
 whole-remove d p n es fs is each = same_map path_total path_exact _ _ (λ q.
-    change d n None es fs (λ x. ap entry_in (each x) ∙ none_chosen (eq_by_cmp name_cmp x n) (find name_cmp x es)) q
+    change d n None es fs each q
     ∙ ap (λ r. cond (eq_by_cmp path_cmp q r) None (get (whole d es) q)) (sym is)
     ∙ sym (get-remove path_total (whole d es) p q))
 

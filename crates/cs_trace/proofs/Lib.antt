@@ -1,5 +1,6 @@
 pub mod Around
 pub mod Beneath
+pub mod Claimed
 pub mod FirstFaults
 pub mod InDirectory
 pub mod LineByLine
@@ -8,6 +9,7 @@ pub mod Numbered
 pub mod Owned
 pub mod Past
 pub mod Places
+pub mod Recorded
 pub mod Resolved
 pub mod Sound
 pub mod SoundOperations

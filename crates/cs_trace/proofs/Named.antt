@@ -1,6 +1,6 @@
--- The entries of one directory as `Siblings` keeps them: each with its path, in the order of names.
+-- The entries of one directory as `Siblings` keeps them: by legal names, in the order of names.
 use Rattle.std.proofs.Common.{◌≡◌, ◌||◌, Bool, true, false, cond, List, [], ◌∷◌, ◌++◌, None, Some}
-use Rattle.std.proofs.Common.{length, map, refl, sym, ap, ◌∙◌, arith}
+use Rattle.std.proofs.Common.{length, refl, sym, ap, ◌∙◌, arith}
 use Rattle.std.specs.declared.cmp.Ordering.TheVariants.{Less, Equal, Greater}
 use Rattle.std.specs.BTreeMap.{BTreeMap, UpdatesBy, get_by_text, insert_entry}
 use Rattle.std.specs.Cmp.{tied_itself}
@@ -11,14 +11,15 @@ use Rattle.std.specs.Map.{keys_of, remove_entry}
 use Rattle.std.specs.Ordering.{eq_by_cmp, match_ordering, ordering_then}
 use Rattle.std.specs.String.{string_bytes, string_cmp}
 use Rattle.std.specs.declared.string.String.{String}
-use Rattle.cs_tree_model.specs.Laws.Nexts.{total, exact}
+use Rattle.cs_tree_model.specs.Laws.Nexts.{total}
 use Rattle.cs_tree_model.specs.Maps.Texts.{by_bytes, get_seen, seen, seen_insert, seen_remove}
 use Rattle.cs_tree_model.specs.Tree.{NameBytes, Path, name_cmp, path_cmp}
+use Rattle.cs_names.specs.Legal.{IsLegalName}
 use Rattle.cs_names.specs.Texts.{same_bytes}
 use Rattle.cs_tree_model.specs.Maps.Values.{map_values}
 use Rattle.cs_trace.specs.Below.{has_below, is_below}
 use Rattle.cs_trace.specs.Entries.{node_of}
-use Rattle.cs_trace.specs.Siblings.{AreWithPaths, in_directory}
+use Rattle.cs_trace.specs.Siblings.{HaveLegalNames, in_directory}
 use Rattle.cs_trace.specs.declared.entry.StartEntry.{StartEntry}
 use Rattle.cs_trace.proofs.Beneath.{below-name}
 use Rattle.cs_trace.proofs.InDirectory.{Named, whole}
@@ -61,66 +62,60 @@ name_less [] n x is = ap (λ o. ordering_then o Equal) is
 name_less (y ∷ c) n x is =
     ap (λ o. ordering_then o (path_cmp (c ++ n ∷ []) (c ++ x ∷ []))) (tied_itself total y) ∙ name_less c n x is
 
-any_name : (d q : Path) (e : NameBytes × (Path × StartEntry)) (es : Named)
+any_name : (d q : Path) (e : NameBytes × StartEntry) (es : Named)
     → list_any (λ e. is_below q e.0) (in_directory d (e ∷ es)) ≡ starts_with same_bytes d q
 any_name d q e [] = ap (λ b. b || false) (below-name q d e.0) ∙ or_false (starts_with same_bytes d q)
 any_name d q e (f ∷ es) = (λ i. below-name q d e.0 i || any_name d q f es i) ∙ or_same (starts_with same_bytes d q)
 
--- ---- each entry has its path
+-- ---- each name is legal
 
-module _ {Y : Type 0} (d : Path) where
-  pub with_paths-insert : (k : String Y) (v : Path × StartEntry) (es : List (String Y × (Path × StartEntry)))
-      → v.0 ≡ d ++ string_bytes k ∷ []
-      → AreWithPaths d (by_bytes es) → AreWithPaths d (by_bytes (insert_entry string_cmp es k v))
-  with_paths-insert k v [] is all = (is, tt)
-  with_paths-insert k v (e ∷ es) is all =
+module _ {Y : Type 0} where
+  pub names-insert : (k : String Y) (v : StartEntry) (es : List (String Y × StartEntry)) → IsLegalName (string_bytes k)
+      → HaveLegalNames (by_bytes es) → HaveLegalNames (by_bytes (insert_entry string_cmp es k v))
+  names-insert k v [] legal all = (legal, tt)
+  names-insert k v (e ∷ es) legal all =
       elim (string_cmp k e.0)
-      as (λ o. string_cmp k e.0 ≡ o
-      → AreWithPaths d (by_bytes (match_ordering o ((k, v) ∷ e ∷ es) ((e.0, v) ∷ es) (e ∷ insert_entry string_cmp es k v)))) [
-        | Less ↦ λ o. (is, all)
-        | Equal ↦ λ o. (is ∙ ap (λ n. d ++ n ∷ []) (exact (string_bytes k) (string_bytes e.0) o), all.1)
-        | Greater ↦ λ o. (all.0, with_paths-insert k v es is all.1)
-      ] refl
-
-  pub with_paths-remove : (test : String Y → Bool) (es : List (String Y × (Path × StartEntry)))
-      → AreWithPaths d (by_bytes es) → AreWithPaths d (by_bytes (remove_entry test es))
-  with_paths-remove test [] all = tt
-  with_paths-remove test (e ∷ es) all =
-      elim (test e.0) as (λ b. AreWithPaths d (by_bytes (cond b es (e ∷ remove_entry test es)))) [
-        | true ↦ all.1
-        | false ↦ (all.0, with_paths-remove test es all.1)
+      as (λ o. HaveLegalNames (by_bytes (match_ordering o ((k, v) ∷ e ∷ es) ((e.0, v) ∷ es) (e ∷ insert_entry string_cmp es k v)))) [
+        | Less ↦ (legal, all)
+        | Equal ↦ all
+        | Greater ↦ (all.0, names-insert k v es legal all.1)
       ]
 
+  pub names-remove : (test : String Y → Bool) (es : List (String Y × StartEntry))
+      → HaveLegalNames (by_bytes es) → HaveLegalNames (by_bytes (remove_entry test es))
+  names-remove test [] all = tt
+  names-remove test (e ∷ es) all =
+      elim (test e.0) as (λ b. HaveLegalNames (by_bytes (cond b es (e ∷ remove_entry test es)))) [
+        | true ↦ all.1
+        | false ↦ (all.0, names-remove test es all.1)
+      ]
+
+module _ {Y : Type 0} (d : Path) where
   -- ---- the entries in the order of paths
 
-  all_less : (k : String Y) (es : List (String Y × (Path × StartEntry))) → AllByRecursion (λ l. string_cmp k l ≡ Less) (keys_of es)
+  all_less : (k : String Y) (es : List (String Y × StartEntry)) → AllByRecursion (λ l. string_cmp k l ≡ Less) (keys_of es)
       → AllByRecursion (λ l. path_cmp (d ++ string_bytes k ∷ []) l ≡ Less) (keys_of (in_directory d (by_bytes es)))
   all_less k [] all = tt
   all_less k (e ∷ es) all = (name_less d (string_bytes k) (string_bytes e.0) all.0, all_less k es all.1)
 
-  sorted_paths : (es : List (String Y × (Path × StartEntry))) → IsStrictlySortedBy string_cmp (keys_of es)
+  sorted_paths : (es : List (String Y × StartEntry)) → IsStrictlySortedBy string_cmp (keys_of es)
       → IsStrictlySortedBy path_cmp (keys_of (in_directory d (by_bytes es)))
   unfolding IsStrictlySortedBy
   sorted_paths [] sorted = tt
   sorted_paths (e ∷ es) sorted = (all_less e.0 es sorted.0, sorted_paths es sorted.1)
 
-  kept_paths : (es : List (String Y × (Path × StartEntry))) → AreWithPaths d (by_bytes es)
-      → in_directory d (by_bytes es) ≡ map (λ e. e.1) es
-  kept_paths [] all = refl
-  kept_paths (e ∷ es) all = λ i. (sym all.0 i, e.1.1) ∷ kept_paths es all.1 i
-
-  pub entries-whole : (es : List (String Y × (Path × StartEntry))) → AreWithPaths d (by_bytes es)
-      → IsStrictlySortedBy string_cmp (keys_of es) → entries (whole d (by_bytes es)) ≡ map (λ e. e.1) es
-  entries-whole es all sorted = entries-keyed (in_directory d (by_bytes es)) (sorted_paths es sorted) ∙ kept_paths es all
+  pub entries-whole : (es : List (String Y × StartEntry)) → IsStrictlySortedBy string_cmp (keys_of es)
+      → entries (whole d (by_bytes es)) ≡ in_directory d (by_bytes es)
+  entries-whole es sorted = entries-keyed (in_directory d (by_bytes es)) (sorted_paths es sorted)
 
   -- ---- what is below a path
 
-  pub below-nothing : (q : Path) (es : List (String Y × (Path × StartEntry))) → length es ≡ 0
+  pub below-nothing : (q : Path) (es : List (String Y × StartEntry)) → length es ≡ 0
       → false ≡ has_below (map_values node_of (whole d (by_bytes es))) q
   below-nothing q [] none = sym (any-entries {X = StartEntry} (is_below q) []) ∙ has_below-start q (whole d [])
   below-nothing q (e ∷ es) none = absurd (omega arith)
 
-  pub below-whole : (q : Path) (es : List (String Y × (Path × StartEntry))) → (length es ≡ 0 → ⊥)
+  pub below-whole : (q : Path) (es : List (String Y × StartEntry)) → (length es ≡ 0 → ⊥)
       → starts_with same_bytes d q ≡ has_below (map_values node_of (whole d (by_bytes es))) q
   below-whole q [] some = absurd (some refl)
   below-whole q (e ∷ es) some =

@@ -33,7 +33,7 @@ nodes_append (e ∷ es) fs = ap (λ ns. node_of e.1 ∷ ns) (nodes_append es fs)
 pub nodes-append : (ns : List Node) (es fs : List (Path × StartEntry)) → with_nodes (with_nodes ns es) fs ≡ with_nodes ns (es ++ fs)
 nodes-append ns es fs = append_assoc ns (map (λ e. node_of e.1) es) (map (λ e. node_of e.1) fs) ∙ ap (λ m. ns ++ m) (nodes_append es fs)
 
-numbers_length : (n : ℕ) (es : List (Path × StartEntry)) → length (with_numbers_from n (map_entries record_of es)) ≡ length es
+pub numbers_length : (n : ℕ) (es : List (Path × StartEntry)) → length (with_numbers_from n (map_entries record_of es)) ≡ length es
 numbers_length n [] = refl
 numbers_length n (e ∷ es) = ap suc (numbers_length (n + 1) es)
 

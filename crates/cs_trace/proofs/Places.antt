@@ -1,11 +1,11 @@
 -- The places of the records at the paths that files were made at.
-use Rattle.std.proofs.Common.{◌≡◌, ◌≢◌, ◌<◌, ℕ, zero, suc, ◌+◌, Bool, true, false, List, [], ◌∷◌, ◌++◌, Option, None, Some, get_or, length, map}
+use Rattle.std.proofs.Common.{◌≡◌, ◌≢◌, ◌<◌, ◌≤◌, ⊎_elim, ℕ, zero, suc, ◌+◌, Bool, true, false, List, [], ◌∷◌, ◌++◌, Option, None, Some, get_or, length, map}
 use Rattle.std.proofs.Common.{refl, sym, ap, ◌∙◌, subst, add-zero, option_map, arith}
 use Rattle.std.proofs.lemmas.Bool.{eqb-true, eq-eqb, false≢true}
 use Rattle.std.proofs.lemmas.List.{ext_get_or, get_or-append-add, get_or-map, get_or-replicate, get_or-set_other, get_or-set_same}
 use Rattle.std.proofs.lemmas.List.{get_or_append_left, length-map, length-set}
 use Rattle.std.proofs.lemmas.List.{length-replicate}
-use Rattle.std.proofs.lemmas.Option.{same_Some, slice_get-map}
+use Rattle.std.proofs.lemmas.Option.{same_Some, slice_get-map, slice_get_cases}
 use Rattle.std.specs.FinMap.{entries}
 use Rattle.std.specs.List.{slice_get}
 use Rattle.std.specs.Option.{option_or}
@@ -157,34 +157,29 @@ same-trace s count files whole rs ns ps records nodes places = λ i. record {
 
 -- ---- one path
 
-pub path_past : {X : Type 0} (es : List (Path × X)) (n : ℕ) → slice_get es n ≡ None → path_at es n ≡ []
+path_past : {X : Type 0} (es : List (Path × X)) (n : ℕ) → slice_get es n ≡ None → path_at es n ≡ []
 path_past [] n is = refl
 path_past (e ∷ es) zero is = absurd (cc)
 path_past (e ∷ es) (suc n) is = path_past es n is
 
-pub path_there : {X : Type 0} (es : List (Path × X)) (n : ℕ) (e : Path × X) → slice_get es n ≡ Some e → path_at es n ≡ e.0
-path_there [] n e is = absurd (cc)
-path_there {X} (f ∷ es) zero e is = ap (λ (g : Path × X). g.0) (same_Some f e is)
-path_there (f ∷ es) (suc n) e is = path_there es n e is
-
 module _ (rs : List (Path × Record)) (places : List ℕ) (n : ℕ) where
-  placed_at : (o : Option ℕ) → slice_get places n ≡ o → slice_get (map (path_at rs) places) n ≡ option_map (path_at rs) o
+  pub placed_at : (o : Option ℕ) → slice_get places n ≡ o → slice_get (map (path_at rs) places) n ≡ option_map (path_at rs) o
   placed_at o is = slice_get-map (path_at rs) places n ∙ ap (option_map (path_at rs)) is
-
-  pub no_path : slice_get places n ≡ None → slice_get (map (path_at rs) places) n ≡ None
-  no_path = placed_at None
-
-  pub path_of : (place : ℕ) (r : Path × Record) → slice_get places n ≡ Some place → slice_get rs place ≡ Some r
-      → slice_get (map (path_at rs) places) n ≡ Some r.0
-  path_of place r at there = placed_at (Some place) at ∙ ap Some (path_there rs place r there)
 
   -- the place of a file is that of a record: past the end there is only the root's path, and the root is a directory
   pub is_placed : (t : Trace) → IsTrace t → t.files ≡ map (path_at rs) places → (place : ℕ) → slice_get places n ≡ Some place
-      → slice_get rs place ≡ None → ⊥
-  is_placed t whole files place at past =
-      let root : slice_get t.files n ≡ Some [] =
-      ap (λ ps. slice_get ps n) files ∙ placed_at (Some place) at ∙ ap Some (path_past rs place past) in
-      not_same n (same_Some Directory (File n) (sym whole.nested.root ∙ whole.numbered n [] root))
+      → place < length rs
+  is_placed t whole files place at =
+      ⊎_elim
+      (λ (found : (r : Path × Record) × (place < length rs) × (slice_get rs place ≡ Some r) × (get_or rs place r ≡ r)). found.1)
+      (λ (past : (length rs ≤ place) × (slice_get rs place ≡ None)). absurd (no_record past.1))
+      (slice_get_cases rs place).1
     where
       not_same : (k : ℕ) → Directory ≡ File k → ⊥
       not_same k is = absurd (cc)
+
+      no_record : slice_get rs place ≡ None → ⊥
+      no_record past =
+          let root : slice_get t.files n ≡ Some [] =
+          ap (λ ps. slice_get ps n) files ∙ placed_at (Some place) at ∙ ap Some (path_past rs place past) in
+          not_same n (same_Some Directory (File n) (sym whole.nested.root ∙ whole.numbered n [] root))

@@ -114,3 +114,8 @@ above-push text above name p q is entry legal spells =
 pub if_some : {A : Type 0} (r : Option A) (P : A → Type 0) → ((x : A) → r ≡ Some x → P x) → IfSome r P
 if_some None P holds = tt
 if_some (Some x) P holds = holds x refl
+
+-- what two facts of a value give
+pub if_some_both : {A : Type 0} (r : Option A) (P Q R : A → Type 0) → ((x : A) → P x → Q x → R x) → IfSome r P → IfSome r Q → IfSome r R
+if_some_both None P Q R holds p q = tt
+if_some_both (Some x) P Q R holds p q = holds x p q

@@ -11,7 +11,8 @@ use Rattle.cs_trace.specs.Attributes.{Attributes, rights_at, target_of}
 use Rattle.cs_trace.specs.Below.{has_below}
 use Rattle.cs_trace_lines.specs.Lines as line
 use Rattle.cs_trace_lines.specs.Lines.{Change, Claims, Mode, Owner, OperationLine}
-use Rattle.cs_trace.specs.Names.{entry_path_of, new_path_of, path_of, rights_of, set_path_of}
+use Rattle.cs_trace.specs.Names.{are_user_names, entry_path_of, is_user_name, new_path_of}
+use Rattle.cs_trace.specs.Names.{path_of, rights_of, set_path_of}
 use Rattle.cs_trace.specs.Operations.{Paths}
 use Rattle.cs_trace.specs.declared.fault.TraceFaultKind.{TraceFaultKind}
 use Rattle.cs_trace.specs.declared.fault.TraceFaultKind.TheVariants.{Syntax, UnknownOp, BadName}
@@ -192,6 +193,14 @@ or_bad_name path = option_map_or Ok path (Err BadName)
 abbrev pub with_path : {A : Type 0}
     → Option Path → (Path → Result A TraceFaultKind) → Result A TraceFaultKind
 with_path path f = and_then (or_bad_name path) f
+
+-- the name of a user or a group that a text is; one that isn't legal is BadName
+abbrev pub user_name_or : List ℕ → Result (List ℕ) TraceFaultKind
+user_name_or text = if is_user_name text then Ok text else Err BadName
+
+-- the rights that a line claims; an owner or a group that isn't legal is BadName
+abbrev pub rights_in : Claims → Result Rights TraceFaultKind
+rights_in claims = if are_user_names claims then Ok (rights_of claims) else Err BadName
 
 -- the operation of a line, if these are the paths and the sizes of the files, so many records were
 -- made, and files and directories have these attributes; or its first fault

@@ -10,6 +10,7 @@ pub mod Operations
 pub mod Outcomes
 pub mod Owned
 pub mod Siblings
+pub mod Starts
 pub mod States
 pub mod Traces
 pub mod Trees

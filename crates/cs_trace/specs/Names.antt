@@ -20,6 +20,11 @@ abbrev pub rights_of : Claims → Rights
 rights_of claims =
     record { owner = claims.owner; group = claims.group; permissions = claims.permissions }
 
+-- the claims of a line with these rights
+abbrev pub claims_by : Rights → Claims
+claims_by rights =
+    record { owner = rights.owner; group = rights.group; permissions = rights.permissions }
+
 -- the path that a text spells; None if it is not legal
 abbrev pub path_of : List ℕ → Option Path
 path_of text = result_ok (path_in text)

@@ -1,9 +1,10 @@
 -- The entries of one directory at the start.
-use Rattle.std.specs.Prelude.{T, option_map, ◌≡◌, ◌∷◌, ◌++◌, List, [], Option, None, Some, IsSome, refl}
+use Rattle.std.specs.Prelude.{T, ◌≡◌, ◌∷◌, ◌++◌, List, [], Option, None, Some, IsSome, refl}
 use Rattle.std.specs.Coded.{Coded, code_by, coded×, coded_ℕ, coded_list}
 use Rattle.std.specs.FinMap.{entries, from_entries, get, insert}
 use Rattle.std.specs.FinMap.Entries.{below_all}
 use Rattle.std.specs.List.{AllByRecursion}
+use Rattle.cs_names.specs.Legal.{IsLegalName}
 use Rattle.cs_tree_model.specs.Tree.{NameBytes, Path, path_cmp}
 use Rattle.cs_trace.specs.Entries.{Entries, entries_code}
 use Rattle.cs_trace.specs.Unions.{union}
@@ -23,21 +24,17 @@ siblings_code = code_by
     (λ _. refl)
 
 -- the entries of names, at the paths of these names in the directory
-abbrev pub in_directory : Path → List (NameBytes × (Path × StartEntry)) → List (Path × StartEntry)
+abbrev pub in_directory : Path → List (NameBytes × StartEntry) → List (Path × StartEntry)
 in_directory d [] = []
-in_directory d (e ∷ es) = (d ++ e.0 ∷ [], e.1.1) ∷ in_directory d es
+in_directory d (e ∷ es) = (d ++ e.0 ∷ [], e.1) ∷ in_directory d es
 
-abbrev pub siblings_of : Path → List (NameBytes × (Path × StartEntry)) → Siblings
+abbrev pub siblings_of : Path → List (NameBytes × StartEntry) → Siblings
 siblings_of d es = record { directory = d; entries = from_entries (in_directory d es) }
 
--- each name is kept with its path in the directory
-abbrev pub AreWithPaths : Path → List (NameBytes × (Path × StartEntry)) → Type 0
-AreWithPaths d [] = Unit {0}
-AreWithPaths d (e ∷ es) = (e.1.0 ≡ d ++ e.0 ∷ []) × AreWithPaths d es
-
--- the entry that is kept with a path
-abbrev pub entry_in : Option (Path × StartEntry) → Option StartEntry
-entry_in = option_map (λ e. e.1)
+-- each name is that of a file
+abbrev pub HaveLegalNames : List (NameBytes × StartEntry) → Type 0
+HaveLegalNames [] = Unit {0}
+HaveLegalNames (e ∷ es) = IsLegalName e.0 × HaveLegalNames es
 
 -- the path is that of a name in the directory
 abbrev pub IsIn : Path → Path → Type 0

@@ -8,6 +8,7 @@ ghost use Rattle.cs_trace.specs.Attributes.{with_directory, with_file};
 ghost use Rattle.cs_trace.specs.Kept.{attributes_of, with_node};
 
 use crate::operation::{Node, Operation, Rights, Target};
+use crate::shared_rights::SharedRights;
 use cs_names::Path;
 use std::alloc::{AllocError, Global};
 use std::collections::BTreeMap;
@@ -17,14 +18,14 @@ use std::marker::Model;
 /// the order of paths.
 #[derive(Drop)]
 pub(crate) struct Directories {
-    by_path: BTreeMap<Path, Rights>,
+    by_path: BTreeMap<Path, SharedRights>,
 }
 
 /// Owner, group and permissions of each file and of each directory.
 #[derive(Drop)]
 pub(crate) struct Attributes {
     /// Each file's, by its number.
-    pub(crate) files: Vec<Rights>,
+    pub(crate) files: Vec<SharedRights>,
     /// Each directory's, by its path.
     pub(crate) directories: Directories,
 }
@@ -38,6 +39,17 @@ impl Model for Directories {
     ghost coded = { model.directories_code };
 
     ghost view = { λ directories. map.from_entries directories.by_path.entries };
+}
+
+/// The rights themselves, if there are some.
+fn lend(shared: Option<&SharedRights>) -> Option<&Rights>
+    ensures { option_map (λ rights. rights.now) result
+        ≡ option_map (λ shared. shared.now) shared.entry }
+{
+    match shared {
+        None => None,
+        Some(shared) => Some(shared.get()),
+    }
 }
 
 impl Directories {
@@ -55,11 +67,11 @@ impl Directories {
     fn get(&self, path: &Path) -> Option<&Rights>
         ensures { option_map (λ rights. rights.now) result ≡ map.get self.now path.now }
     {
-        self.by_path.get(path)
+        lend(self.by_path.get(path))
     }
 
     /// Sets the rights of the directory at the path, in place of any that were there.
-    fn insert(&mut self, path: Path, rights: Rights) -> Result<(), AllocError>
+    fn insert(&mut self, path: Path, rights: SharedRights) -> Result<(), AllocError>
         ensures { OnOk result (self.new ≡ map.insert self.old path rights) }
     {
         self.by_path.insert(path, rights)?;
@@ -69,7 +81,7 @@ impl Directories {
 
 /// Sets the rights of the file of that number. If there is no such file, nothing changes;
 /// operations that were checked name only files that there are.
-fn set_file(files: &mut [Rights], file: u32, rights: Rights)
+fn set_file(files: &mut [SharedRights], file: u32, rights: SharedRights)
     ensures { files.new ≡ slice_set files.old file rights }
 {
     let place = file as usize;
@@ -90,7 +102,7 @@ impl Attributes {
     }
 
     /// Adds the rights of a file, which gets the next number.
-    fn add_file(&mut self, rights: Rights) -> Result<(), AllocError>
+    fn add_file(&mut self, rights: SharedRights) -> Result<(), AllocError>
         ensures { OnOk result (attributes_of self.new ≡ with_file (attributes_of self.old) rights) }
     {
         self.files.push(rights)?;
@@ -98,21 +110,21 @@ impl Attributes {
     }
 
     /// Sets the rights of the directory at the path (`Directories::insert`).
-    fn set_directory(&mut self, path: Path, rights: Rights) -> Result<(), AllocError>
+    fn set_directory(&mut self, path: Path, rights: SharedRights) -> Result<(), AllocError>
         ensures { OnOk result
             (attributes_of self.new ≡ with_directory (attributes_of self.old) path rights) }
     {
         self.directories.insert(path, rights)
     }
 
-    /// Adds a copy of the rights of a new entry: of a file, which gets the next number whatever
+    /// Adds the rights of a new entry: of a file, which gets the next number whatever
     /// `node` says, or of a directory at the path.
     pub(crate) fn add(
         &mut self,
         alloc: Global,
         node: Node,
         path: &Path,
-        rights: &Rights,
+        rights: &SharedRights,
     ) -> Result<(), AllocError>
         ensures { OnOk result (attributes_of self.new
             ≡ with_node (attributes_of self.old) node path.now rights.now) }
@@ -132,28 +144,39 @@ impl Attributes {
     {
         match node {
             Node::Directory => self.directories.get(path),
-            Node::File(file) => self.files.get(file as usize),
+            Node::File(file) => lend(self.files.get(file as usize)),
         }
     }
 
     /// Applies an operation. A creat adds the rights of its file; a mkdir, a chmod and a chown set
-    /// rights; any other operation leaves them as they are.
-    pub(crate) fn change(&mut self, alloc: Global, operation: &Operation) -> Result<(), AllocError>
+    /// rights, which `last` shares if they are the same; any other operation leaves them as they
+    /// are.
+    pub(crate) fn change(
+        &mut self,
+        alloc: Global,
+        last: &mut Option<SharedRights>,
+        operation: &Operation,
+    ) -> Result<(), AllocError>
         ensures { OnOk result (attributes_of self.new
             ≡ attributes_after (attributes_of self.old) operation.now) }
     {
         match operation {
-            Operation::Creat { rights, .. } => self.add_file(rights.try_clone()?),
+            Operation::Creat { rights, .. } => {
+                self.add_file(SharedRights::of_rights(alloc, last, rights)?)
+            }
             Operation::Mkdir { path, rights } => {
-                self.set_directory(path.try_clone(alloc)?, rights.try_clone()?)
+                let rights = SharedRights::of_rights(alloc, last, rights)?;
+                self.set_directory(path.try_clone(alloc)?, rights)
             }
             Operation::SetAttr { target, after, .. } => match target {
                 Target::File(file) => {
-                    set_file(&mut self.files, *file, after.try_clone()?);
+                    let after = SharedRights::of_rights(alloc, last, after)?;
+                    set_file(&mut self.files, *file, after);
                     Ok(())
                 }
                 Target::Directory(path) => {
-                    self.set_directory(path.try_clone(alloc)?, after.try_clone()?)
+                    let after = SharedRights::of_rights(alloc, last, after)?;
+                    self.set_directory(path.try_clone(alloc)?, after)
                 }
             },
             Operation::Link { .. }

@@ -1,21 +1,20 @@
 //! The files and directories at the start, by their paths. What operations put at paths, without
 //! bytes and rights, is in `placed`. After an error, the trace is given up; entries may be missing
 //! then, or only some of them appended to the lists of the start.
-ghost use Rattle.std.specs.Prelude.{◌≡◌, ◌++◌, false, IfOk, OnErr, OnOk, length, replicate};
+ghost use Rattle.std.specs.Prelude.{◌≡◌, IfOk, OnOk, length, replicate};
 ghost use Rattle.std.specs.FinMap as map;
-ghost use Rattle.std.specs.List.{list_any};
 ghost use Rattle.std.specs.Option.{is_some, option_map};
 ghost use Rattle.cs_tree_model.specs.Maps.Values.{map_values};
-ghost use Rattle.cs_tree_model.specs.Tree.{path_cmp};
-ghost use Rattle.cs_trace.specs.Below.{has_below, is_below};
+ghost use Rattle.cs_trace.specs.Below.{has_below};
 ghost use Rattle.cs_trace.specs.Entries.{node_of, nodes_in, records_in, with_nodes, with_records};
 ghost use Rattle.cs_trace.specs.Owned.{with_places};
-ghost use Rattle.cs_trace.specs.Siblings.{AreBefore, AreElsewhere, AreIn, with_all};
-ghost use Rattle.cs_trace.specs.Siblings.{with_siblings};
 ghost use Rattle.cs_trace.specs.Unions.{union};
 
+use crate::by_path::{append_both, append_map, has_below, insert_in_map, put_back};
 use crate::entry::StartEntry;
+use crate::last_directory::LastDirectory;
 use crate::operation::Node;
+use crate::path_text::PathText;
 use crate::siblings::Siblings;
 use crate::start_lists::StartLists;
 use cs_names::Path;
@@ -23,7 +22,6 @@ use cs_tree_model::Record;
 use std::alloc::{AllocError, Global};
 use std::collections::BTreeMap;
 use std::marker::Model;
-use std::ops::Bound;
 
 /// The file or directory at each path at the start. Contracts see a finite map, in the order of
 /// paths.
@@ -51,177 +49,6 @@ impl Model for Entries {
 
     ghost invariant = { λ entries.
         AreApart entries.siblings (map.from_entries {R = path_cmp} entries.by_path.entries) };
-}
-
-/// Whether an entry of this map is below the path. In the order of paths, it would come right after
-/// the path, as in `Placed::has_below`. It takes no memory.
-fn has_below(by_path: &BTreeMap<Path, StartEntry>, path: &Path) -> bool
-    ensures value { result ≡ list_any (λ e. is_below path.now e.0) by_path.now.entries }
-    ensures order { map.entries (map.from_entries {R = path_cmp} by_path.now.entries)
-        ≡ by_path.now.entries }
-{
-    match by_path
-        .range((Bound::Excluded(path), Bound::Unbounded))
-        .next()
-    {
-        None => false,
-        Some((next, _)) => next.begins_with(path),
-    }
-}
-
-/// Appends the entries of one map to the lists, in the order of paths.
-fn append_map(by_path: BTreeMap<Path, StartEntry>, lists: &mut StartLists) -> Result<(), AllocError>
-    ensures records { OnOk result (lists.new.records.items ≡ with_records lists.old.records.items
-        (map.entries (map.from_entries {R = path_cmp} by_path.entries))) }
-    ensures nodes { OnOk result (lists.new.nodes.items ≡ with_nodes lists.old.nodes.items
-        (map.entries (map.from_entries {R = path_cmp} by_path.entries))) }
-    ensures places { OnOk result (lists.new.places.items
-        ≡ with_places lists.old.places.items (length lists.old.records.items)
-        (map.entries (map.from_entries {R = path_cmp} by_path.entries))) }
-{
-    for (path, entry) in by_path {
-        lists.append(path, entry)?;
-    }
-    Ok(())
-}
-
-/// Puts the entry at the path in this map, and returns whether it replaced another. An error
-/// changes nothing.
-fn insert_in_map(
-    by_path: &mut BTreeMap<Path, StartEntry>,
-    path: Path,
-    entry: StartEntry,
-) -> Result<bool, AllocError>
-    ensures replaced { IfOk result (λ replaced. replaced
-        ≡ is_some (map.get (map.from_entries {R = path_cmp} by_path.old.entries) path)) }
-    ensures state { OnOk result (map.from_entries by_path.new.entries
-        ≡ map.insert (map.from_entries {R = path_cmp} by_path.old.entries) path entry) }
-    ensures err { OnErr result (by_path.new.entries ≡ by_path.old.entries) }
-{
-    let before = by_path.insert(path, entry)?;
-    Ok(before.is_some())
-}
-
-/// Puts each entry of the list at its path in this map, over any entry that is there.
-fn insert_all(
-    by_path: &mut BTreeMap<Path, StartEntry>,
-    list: Vec<(Path, StartEntry)>,
-) -> Result<(), AllocError>
-    ensures { OnOk result (map.from_entries by_path.new.entries
-        ≡ with_all (map.from_entries by_path.old.entries) list.items) }
-{
-    for (path, entry) in list {
-        insert_in_map(by_path, path, entry)?;
-    }
-    Ok(())
-}
-
-/// Puts the entries that were kept apart back into the map of the others. If none were (None),
-/// nothing changes.
-fn put_back(
-    alloc: Global,
-    by_path: &mut BTreeMap<Path, StartEntry>,
-    siblings: Option<Siblings>,
-) -> Result<(), AllocError>
-    ensures { OnOk result (map.from_entries by_path.new.entries
-        ≡ with_siblings siblings (map.from_entries by_path.old.entries)) }
-{
-    match siblings {
-        None => Ok(()),
-        Some(siblings) => {
-            let mut list = Vec::new(alloc);
-            siblings.push_to(&mut list)?;
-            insert_all(by_path, list)?;
-            Ok(())
-        }
-    }
-}
-
-/// Splits the others at the siblings: those before the siblings stay, and those after them are
-/// returned. The others must have no entry below the directory of the siblings, since such an entry
-/// could come between two siblings. If the directory has no entries, all of the others stay.
-fn split_off_after(
-    alloc: Global,
-    others: &mut BTreeMap<Path, StartEntry>,
-    siblings: &Siblings,
-) -> Result<BTreeMap<Path, StartEntry>, AllocError>
-    requires all { AreIn siblings.now }
-    requires below { list_any (λ e. is_below siblings.now.directory e.0) others.old.entries
-        ≡ false }
-    requires order { map.entries (map.from_entries {R = path_cmp} others.old.entries)
-        ≡ others.old.entries }
-    ensures parts { IfOk result (λ after.
-        map.entries (map.from_entries {R = path_cmp} others.old.entries)
-        ≡ map.entries (map.from_entries {R = path_cmp} others.new.entries)
-        ++ map.entries (map.from_entries {R = path_cmp} after.entries)) }
-    ensures before { OnOk result
-        (AreBefore (map.entries (map.from_entries {R = path_cmp} others.new.entries))
-        (map.entries siblings.now.entries)) }
-    ensures after { IfOk result (λ after.
-        AreBefore (map.entries siblings.now.entries)
-        (map.entries (map.from_entries {R = path_cmp} after.entries))) }
-{
-    match siblings.first() {
-        None => Ok(BTreeMap::new(alloc)),
-        Some(first) => others.split_off(first),
-    }
-}
-
-/// Appends both maps to the lists, in the order of paths: the others before the siblings, the
-/// siblings, and the others after them. As for `split_off_after`, the others must have no entry
-/// below the directory of the siblings.
-fn append_split(
-    alloc: Global,
-    others: BTreeMap<Path, StartEntry>,
-    siblings: Siblings,
-    lists: &mut StartLists,
-) -> Result<(), AllocError>
-    requires all { AreIn siblings }
-    requires apart { AreElsewhere siblings (map.from_entries others.entries) }
-    requires below { list_any (λ e. is_below siblings.directory e.0) others.entries ≡ false }
-    requires order { map.entries (map.from_entries {R = path_cmp} others.entries)
-        ≡ others.entries }
-    ensures records { OnOk result (lists.new.records.items ≡ with_records lists.old.records.items
-        (map.entries (union siblings.entries (map.from_entries others.entries)))) }
-    ensures nodes { OnOk result (lists.new.nodes.items ≡ with_nodes lists.old.nodes.items
-        (map.entries (union siblings.entries (map.from_entries others.entries)))) }
-    ensures places { OnOk result (lists.new.places.items
-        ≡ with_places lists.old.places.items (length lists.old.records.items)
-        (map.entries (union siblings.entries (map.from_entries others.entries)))) }
-{
-    let mut before = others;
-    let after = split_off_after(alloc, &mut before, &siblings)?;
-    append_map(before, lists)?;
-    siblings.append_to(lists)?;
-    append_map(after, lists)?;
-    Ok(())
-}
-
-/// Appends both maps to the lists, in the order of paths. If some of the others are below the
-/// directory of the siblings, they may come between siblings, so the two maps are put together
-/// first; otherwise it is faster to append them one after another (`append_split`).
-fn append_both(
-    alloc: Global,
-    others: BTreeMap<Path, StartEntry>,
-    siblings: Siblings,
-    lists: &mut StartLists,
-) -> Result<(), AllocError>
-    requires apart { AreElsewhere siblings (map.from_entries others.entries) }
-    ensures records { OnOk result (lists.new.records.items ≡ with_records lists.old.records.items
-        (map.entries (union siblings.entries (map.from_entries others.entries)))) }
-    ensures nodes { OnOk result (lists.new.nodes.items ≡ with_nodes lists.old.nodes.items
-        (map.entries (union siblings.entries (map.from_entries others.entries)))) }
-    ensures places { OnOk result (lists.new.places.items
-        ≡ with_places lists.old.places.items (length lists.old.records.items)
-        (map.entries (union siblings.entries (map.from_entries others.entries)))) }
-{
-    if !has_below(&others, siblings.directory()) {
-        return append_split(alloc, others, siblings, lists);
-    }
-    let mut by_path = others;
-    put_back(alloc, &mut by_path, Some(siblings))?;
-    append_map(by_path, lists)?;
-    Ok(())
 }
 
 impl Entries {
@@ -276,12 +103,16 @@ impl Entries {
     /// Puts the entries that were kept apart back among the others. Then, if nothing is below the
     /// directory yet, its entries are kept apart from now on, which makes it faster to insert many;
     /// otherwise none are kept apart. An error may lose those that were kept apart.
-    pub(crate) fn keep_apart(&mut self, alloc: Global, directory: &Path) -> Result<(), AllocError>
+    pub(crate) fn keep_apart(
+        &mut self,
+        alloc: Global,
+        directory: &LastDirectory,
+    ) -> Result<(), AllocError>
         ensures { OnOk result (self.new ≡ self.old) }
     {
         let siblings = self.siblings.take();
         put_back(alloc, &mut self.by_path, siblings)?;
-        if has_below(&self.by_path, directory) {
+        if has_below(&self.by_path, directory.path()) {
             return Ok(());
         }
         self.siblings = Some(Siblings::new(alloc, directory.try_clone(alloc)?));
@@ -303,12 +134,33 @@ impl Entries {
             None => insert_in_map(&mut self.by_path, path, entry),
             Some(siblings) => {
                 if siblings.is_in_directory(&path) {
-                    siblings.insert(alloc, path, entry)
+                    siblings.insert(alloc, &path, entry)
                 } else {
                     insert_in_map(&mut self.by_path, path, entry)
                 }
             }
         }
+    }
+
+    /// As `insert`, of the path that the text spells. If that path is in the directory that is kept
+    /// apart, most often only its last name is copied (`Siblings::name_in_text`).
+    pub(crate) fn insert_spelled(
+        &mut self,
+        alloc: Global,
+        path: &PathText<'_>,
+        entry: StartEntry,
+    ) -> Result<bool, AllocError>
+        ensures replaced { IfOk result (λ replaced. replaced
+            ≡ is_some (map.get self.old path.now)) }
+        ensures state { OnOk result (self.new ≡ map.insert self.old path.now entry) }
+    {
+        if let Some(siblings) = &mut self.siblings {
+            if let Some(name) = siblings.name_in_text(path.text()) {
+                return siblings.insert_named(alloc, name, entry);
+            }
+        }
+        let whole = path.to_path(alloc)?;
+        self.insert(alloc, whole, entry)
     }
 
     /// Removes the entry at the path from the map that `entry` looks in, and returns it; None if
@@ -354,15 +206,24 @@ impl Entries {
         }
     }
 
+    /// The directory of the entries that are kept by name; the root if none are. No clause says so,
+    /// since `Start` decides by it only how it keeps paths.
+    fn named_directory(&self, alloc: Global) -> Result<Path, AllocError> {
+        match &self.siblings {
+            None => Ok(Path::root(alloc)),
+            Some(siblings) => siblings.directory().try_clone(alloc),
+        }
+    }
+
     /// Appends all entries to the lists, in the order of paths, whether or not some of them are
     /// kept apart.
     fn append_to(self, alloc: Global, lists: &mut StartLists) -> Result<(), AllocError>
-        ensures records { OnOk result (lists.new.records.items
-            ≡ with_records lists.old.records.items (map.entries self)) }
+        ensures records { OnOk result (lists.new.records
+            ≡ with_records lists.old.records (map.entries self)) }
         ensures nodes { OnOk result (lists.new.nodes.items
             ≡ with_nodes lists.old.nodes.items (map.entries self)) }
         ensures places { OnOk result (lists.new.places.items ≡ with_places
-            lists.old.places.items (length lists.old.records.items) (map.entries self)) }
+            lists.old.places.items (length lists.old.records) (map.entries self)) }
     {
         let Entries { by_path, siblings } = self;
         match siblings {
@@ -374,12 +235,13 @@ impl Entries {
     /// A record of each entry, in the order of their paths and numbered from 0; and, in the same
     /// order, the node of each: a directory, or a file by its number.
     pub(crate) fn into_lists(self, alloc: Global, files: usize) -> Result<StartLists, AllocError>
-        ensures records { IfOk result (λ lists. lists.records.items ≡ records_in self) }
+        ensures records { IfOk result (λ lists. lists.records ≡ records_in self) }
         ensures nodes { IfOk result (λ lists. lists.nodes.items ≡ nodes_in self) }
         ensures places { IfOk result (λ lists. lists.places.items
             ≡ with_places (replicate files 0) 0 (map.entries self)) }
     {
-        let mut lists = StartLists::with_capacity(alloc, self.count(), files)?;
+        let directory = self.named_directory(alloc)?;
+        let mut lists = StartLists::with_capacity(alloc, directory, self.count(), files)?;
         self.append_to(alloc, &mut lists)?;
         Ok(lists)
     }

@@ -1,10 +1,12 @@
 //! The file or directory at a path at the start.
-ghost use Rattle.std.specs.Prelude.{◌≡◌, ◌≤◌, false, IfOk};
+ghost use Rattle.std.specs.Prelude.{◌≡◌, ◌≤◌, ◌↔◌, false, IfOk, IsTrue};
 ghost use Rattle.cs_tree_model.specs.Fresh.{fresh_record};
+ghost use Rattle.cs_tree_model.specs.Record.{metadata_of, metadata_of_ref};
 ghost use Rattle.cs_trace.specs.Entries.{file_mode, node_of, record_of};
 
-use crate::operation::{Node, Rights};
-use cs_tree_model::{Content, DMDIR, Kind, Record};
+use crate::operation::Node;
+use crate::shared_rights::SharedRights;
+use cs_tree_model::{Content, DMDIR, Kind, Metadata};
 use std::alloc::{AllocError, Global};
 
 /// A file or a directory at the start, without its path.
@@ -14,7 +16,7 @@ pub(crate) struct StartEntry {
     pub(crate) number: u32,
     /// Whether a file was made at this path; further paths of it have entries that are copies.
     pub(crate) own: bool,
-    pub(crate) rights: Rights,
+    pub(crate) rights: SharedRights,
     pub(crate) content: Content,
 }
 
@@ -51,23 +53,30 @@ impl StartEntry {
         })
     }
 
-    /// The entry as a record of that number. Nobody has changed it: its version and times are 0,
-    /// and its owner counts as the user who changed it last.
-    pub(crate) fn into_record(self, number: u64) -> Result<Record, AllocError>
-        ensures { IfOk result (λ fresh. fresh ≡ fresh_record number (record_of self)) }
+    /// The fields of the entry's record, of that number. Nobody has changed it: its version and
+    /// times are 0, and its owner counts as the user who changed it last.
+    pub(crate) fn metadata(&self, number: u64) -> Metadata<'_>
+        ensures { metadata_of_ref result
+            ≡ metadata_of (fresh_record number (record_of self.now)) }
     {
-        let mode = file_mode(&self.content, self.rights.permissions);
-        let muid = self.rights.owner.try_clone()?;
-        Ok(Record {
+        let rights = self.rights.get();
+        Metadata {
             number,
             vers: 0,
-            owner: self.rights.owner,
-            group: self.rights.group,
-            mode,
+            owner: &rights.owner,
+            group: &rights.group,
+            mode: file_mode(&self.content, rights.permissions),
             atime: 0,
             mtime: 0,
-            muid,
-            content: self.content,
-        })
+            muid: &rights.owner,
+            kind: self.content.kind(),
+        }
+    }
+
+    /// Whether the records of both entries are equal but for their numbers. It takes no memory.
+    pub(crate) fn has_same_record(&self, other: &StartEntry) -> bool
+        ensures { IsTrue result ↔ (record_of self.now ≡ record_of other.now) }
+    {
+        self.rights.get() == other.rights.get() && self.content == other.content
     }
 }

@@ -1,6 +1,7 @@
 //! The directory of the last start line, with the text that spells its path. Most often the path of
 //! the next line is in the same directory; then only the last name of that path is checked.
-ghost use Rattle.std.specs.Prelude.{◌≡◌, ◌<◌, ℕ, List, IfOk, IfSome, Some, length};
+ghost use Rattle.std.specs.Prelude.{◌≡◌, ◌<◌, ◌∷◌, ◌++◌, ℕ, List, [], IfOk, IfSome, Some, length};
+ghost use Rattle.cs_names.specs.Legal.{IsLegalName};
 ghost use Rattle.cs_tree_model.specs.Tree.{parent_path};
 ghost use Rattle.cs_trace.specs.Names.{entry_path_of, path_of};
 
@@ -41,6 +42,20 @@ fn text_above<'a>(text: &'a str) -> Option<PathText<'a>>
     let (above, name) = text.rsplit_once('/')?;
     match Name::check(name.as_bytes()) {
         Ok(_) => PathText::of_entry(above),
+        Err(_) => None,
+    }
+}
+
+/// The name that follows `above` and a `/` in the text, if it is a legal name; None for any other
+/// text.
+fn name_after<'a>(text: &'a str, above: &str) -> Option<&'a str>
+    ensures cut { IfSome result (λ name. text.now ≡ above.now ++ 47 ∷ name.now) }
+    ensures legal { IfSome result (λ name. IsLegalName name.now) }
+{
+    let rest = text.as_bytes().strip_prefix(above.as_bytes())?;
+    let last = rest.strip_prefix(b"/".as_slice())?;
+    match Name::check(last) {
+        Ok(name) => Some(name),
         Err(_) => None,
     }
 }
@@ -86,20 +101,52 @@ impl LastDirectory {
         self.text.len() >= 64
     }
 
-    /// The path that the text spells, if it is the text of the directory, a `/` and a legal name;
-    /// only that name is checked. None for any other text, which may still spell a path, and for
-    /// every text if that of the directory isn't known or the directory is the root.
-    pub(crate) fn path_in<'a>(&self, text: &'a str) -> Option<PathText<'a>>
-        ensures { IfSome result (λ path. entry_path_of text.now ≡ Some path) }
+    /// The path of that name in the directory.
+    pub(crate) fn child(&self, alloc: Global, name: &str) -> Result<Path, AllocError>
+        requires { IsLegalName name.now }
+        ensures { IfOk result (λ path. path ≡ self.now ++ name.now ∷ []) }
+    {
+        self.path.child(alloc, name)
+    }
+
+    /// A copy of the directory, with its text.
+    pub(crate) fn try_clone(&self, alloc: Global) -> Result<LastDirectory, AllocError>
+        ensures { IfOk result (λ copy. copy ≡ self.now) }
+    {
+        Ok(LastDirectory {
+            path: self.path.try_clone(alloc)?,
+            text: self.text.clone()?,
+            count: self.count,
+        })
+    }
+
+    /// The last name of the path that the text spells, if the text is that of the directory, a `/`
+    /// and a legal name; only that name is checked. None for any other text, which may still spell a
+    /// path in the directory, and for every text if that of the directory isn't known or the
+    /// directory is the root.
+    pub(crate) fn name_in<'a>(&self, text: &'a str) -> Option<&'a str>
+        ensures entry { IfSome result (λ name.
+            entry_path_of text.now ≡ Some (self.now ++ name.now ∷ [])) }
+        ensures legal { IfSome result (λ name. IsLegalName name.now) }
     {
         if self.count == 0 {
             return None;
         }
-        let rest = text.as_bytes().strip_prefix(self.text.as_bytes())?;
-        let name = rest.strip_prefix(b"/".as_slice())?;
-        match Name::check(name) {
-            Ok(_) => Some(PathText::of_checked(text, self.count + 1)),
-            Err(_) => None,
+        name_after(text, self.text.as_str())
+    }
+
+    /// The path that the text spells, if `name_in` finds its last name; None for any other text,
+    /// which may still spell a path.
+    pub(crate) fn path_in<'a>(&self, text: &'a str) -> Option<PathText<'a>>
+        ensures path { IfSome result (λ path. entry_path_of text.now ≡ Some path) }
+        ensures above { IfSome result (λ path. parent_path path ≡ self.now) }
+    {
+        if self.count == 0 {
+            return None;
+        }
+        match name_after(text, self.text.as_str()) {
+            None => None,
+            Some(_) => Some(PathText::of_checked(text, self.count + 1)),
         }
     }
 }

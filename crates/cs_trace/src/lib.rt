@@ -3,6 +3,7 @@
 #![tactic(auto)]
 
 mod attributes;
+mod by_path;
 mod entries;
 mod entry;
 pub mod fault;
@@ -13,10 +14,13 @@ mod names;
 pub mod operation;
 mod path_text;
 mod placed;
+mod put_start;
 mod resolve;
+mod shared_rights;
 mod siblings;
 mod start;
 mod start_lists;
+pub mod start_records;
 mod state;
 pub mod trace;
 mod tree;
@@ -24,4 +28,5 @@ mod tree;
 pub use cs_trace_lines::{BlockSize, Profile, Version};
 pub use fault::{TraceFault, TraceFaultKind};
 pub use operation::{Covers, Node, Operation, Rights, Target};
+pub use start_records::Start;
 pub use trace::{Trace, read_trace};

@@ -1,11 +1,13 @@
 //! The names of users and groups in a line: checked without taking memory, and then moved or
 //! copied.
 ghost use Rattle.std.specs.Prelude.{◌≡◌, IfOk, string_bytes};
-ghost use Rattle.cs_trace.specs.Names.{are_set_names, are_user_names, is_user_name};
-ghost use Rattle.cs_trace_lines.specs.Said.{change_value, claims_of};
+ghost use Rattle.cs_trace.specs.Judging.{user_name_or};
+ghost use Rattle.cs_trace.specs.Names.{are_set_names, is_user_name};
+ghost use Rattle.cs_trace_lines.specs.Said.{change_value};
 
+use crate::fault::TraceFaultKind;
 use cs_names::UserName;
-use cs_trace_lines::{Change, Claims};
+use cs_trace_lines::Change;
 use std::alloc::{AllocError, Global};
 
 /// Whether the text is the legal name of a user or a group. It takes no memory.
@@ -13,13 +15,6 @@ fn is_user_name(text: &str) -> bool
     ensures { result ≡ is_user_name text.now }
 {
     UserName::check(text.as_bytes()).is_ok()
-}
-
-/// Whether both the owner and the group of a line have legal names.
-pub(crate) fn are_user_names(claims: &Claims) -> bool
-    ensures { result ≡ are_user_names (claims_of claims.now) }
-{
-    is_user_name(&claims.owner) && is_user_name(&claims.group)
 }
 
 /// Whether the owner and the group that a chown sets have legal names. A chmod sets none.
@@ -32,12 +27,12 @@ pub(crate) fn are_set_names(change: &Change) -> bool
     }
 }
 
-/// The text as the name of a user or a group, moved without taking memory. The caller has checked
-/// by `are_user_names` that it is legal, so there is never an error.
-pub(crate) fn user_name(text: String) -> Result<UserName, AllocError>
-    ensures { IfOk result (λ name. name ≡ string_bytes text) }
+/// The text as the name of a user or a group, moved without taking memory. A text that is no legal
+/// name is BadName.
+pub(crate) fn user_name(text: String) -> Result<UserName, TraceFaultKind>
+    ensures { result ≡ user_name_or (string_bytes text) }
 {
-    UserName::from_text(text).map_err(|_| AllocError)
+    UserName::from_text(text).map_err(|_| TraceFaultKind::BadName)
 }
 
 /// The text, copied, as the name of a user or a group. The caller has checked by `are_set_names`

@@ -1,10 +1,10 @@
 //! The operations of a trace. A file is named by its number instead of its path.
 ghost use Rattle.std.specs.Prelude.{◌≡◌, IfOk};
 ghost use Rattle.cs_trace.specs.Attributes.{target_of};
-ghost use Rattle.cs_trace.specs.Judging.{rights_after};
-ghost use Rattle.cs_trace.specs.Names.{rights_of};
+ghost use Rattle.cs_trace.specs.Judging.{rights_after, rights_in};
 ghost use Rattle.cs_trace_lines.specs.Said.{change_value, claims_of};
 
+use crate::fault::TraceFaultKind;
 use crate::names::{copy_user_name, user_name};
 use cs_names::{Bytes, Path, UserName};
 use cs_trace_lines::{Change, Claims};
@@ -121,9 +121,10 @@ pub enum Operation {
 }
 
 impl Rights {
-    /// The rights that a line claims, whose names are moved. The caller has checked the names.
-    pub(crate) fn of_claims(claims: Claims) -> Result<Rights, AllocError>
-        ensures { IfOk result (λ rights. rights ≡ rights_of (claims_of claims)) }
+    /// The rights that a line claims, whose names are moved. An owner or a group that isn't legal
+    /// is BadName. It takes no memory.
+    pub(crate) fn of_claims(claims: Claims) -> Result<Rights, TraceFaultKind>
+        ensures { result ≡ rights_in (claims_of claims) }
     {
         Ok(Rights {
             owner: user_name(claims.owner)?,

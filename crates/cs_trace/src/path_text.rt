@@ -1,6 +1,7 @@
 //! A path that a line spells: checked without taking memory, and then copied.
 ghost use Rattle.std.specs.Prelude.{◌≡◌, ◌≢◌, ◌<◌, ◌+◌, ◌↔◌, IfErr, IfOk, IsTrue, Some, length};
 ghost use Rattle.cs_names.specs.declared.limits.TheConstants.{TRACE_PATH_NAMES};
+ghost use Rattle.cs_trace.specs.Judging.{or_bad_name};
 ghost use Rattle.cs_trace.specs.Names.{entry_path_of, path_of, spelled_path};
 ghost use Rattle.cs_trace.specs.declared.fault.TraceFaultKind.TheVariants.{Memory};
 
@@ -109,4 +110,18 @@ impl<'a> PathText<'a> {
         }
         Ok(self.to_path(alloc)?)
     }
+}
+
+/// The path that the text spells, which may be the root. A text that spells none is BadName.
+pub(crate) fn any_path(text: &str) -> Result<PathText<'_>, TraceFaultKind>
+    ensures { result ≡ or_bad_name (path_of text.now) }
+{
+    PathText::of(text).ok_or(TraceFaultKind::BadName)
+}
+
+/// The path that the text spells. The root, and a text that spells none, are BadName.
+pub(crate) fn entry_path(text: &str) -> Result<PathText<'_>, TraceFaultKind>
+    ensures { result ≡ or_bad_name (entry_path_of text.now) }
+{
+    PathText::of_entry(text).ok_or(TraceFaultKind::BadName)
 }

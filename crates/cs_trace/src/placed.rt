@@ -1,6 +1,6 @@
 //! What operations put at paths, while a trace is read. What was there at the start, with bytes and
 //! rights, is in `entries`.
-ghost use Rattle.std.specs.Prelude.{◌≡◌, IfOk, OnOk};
+ghost use Rattle.std.specs.Prelude.{◌≡◌, IfOk, IsTrue, OnOk};
 ghost use Rattle.std.specs.FinMap as map;
 ghost use Rattle.std.specs.Option.{is_some};
 ghost use Rattle.cs_trace.specs.Below.{has_below};
@@ -42,6 +42,13 @@ impl Placed {
         }
     }
 
+    /// Whether nothing is at any path. It takes no memory.
+    pub(crate) fn is_empty(&self) -> bool
+        ensures { IsTrue result → self.now ≡ map.empty }
+    {
+        self.by_path.is_empty()
+    }
+
     /// What is at the path; None if nothing is. It takes no memory.
     pub(crate) fn get(&self, path: &Path) -> Option<Node>
         ensures { result ≡ map.get self.now path.now }
@@ -50,7 +57,7 @@ impl Placed {
     }
 
     /// Whether something is below the path. In the order of paths, it would come right after the
-    /// path, as in `has_below` of `entries`. It takes no memory.
+    /// path, as in `has_below` of `by_path`. It takes no memory.
     pub(crate) fn has_below(&self, path: &Path) -> bool
         ensures { result ≡ has_below self.now path.now }
     {

@@ -5,9 +5,9 @@
 ghost use Rattle.std.specs.Prelude.{◌≡◌, ◌<◌, ◌^◌, length};
 ghost use Rattle.cs_trace.specs.Judging.{AreShort, IsPastNames, creat, fsync, fsync_range};
 ghost use Rattle.cs_trace.specs.Judging.{or_bad_name, link, mkdir, rename, resolve, rmdir, say};
-ghost use Rattle.cs_trace.specs.Judging.{set_attr, truncate, unlink, write};
+ghost use Rattle.cs_trace.specs.Judging.{set_attr, truncate, unlink, with_path, write};
 ghost use Rattle.cs_trace.specs.Kept.{IsWithin, attributes_of};
-ghost use Rattle.cs_trace.specs.Names.{entry_path_of, new_path_of, path_of, set_path_of};
+ghost use Rattle.cs_trace.specs.Names.{claims_by, new_path_of, set_path_of};
 ghost use Rattle.cs_trace.specs.Outcomes.{Gives};
 ghost use Rattle.cs_trace_lines.specs.Said.{change_value, claims_of, operation_value};
 
@@ -16,41 +16,15 @@ use crate::judge::{
     are_too_many_names, check_emptied, check_free, check_target, ends_above, file_at,
     is_over_limits, is_path_of, size_in,
 };
-use crate::names::{are_set_names, are_user_names};
+use crate::names::are_set_names;
 use crate::operation::{Covers, Node, Operation, Rights, Target};
-use crate::path_text::PathText;
+use crate::path_text::{PathText, any_path, entry_path};
 use crate::state::LinesSoFar;
 use crate::tree::Tree;
 use cs_names::limits::{FILE_BYTES, SAY_BYTES};
 use cs_names::{Bytes, Path};
 use cs_trace_lines::{Change, Claims, OperationLine};
 use std::alloc::Global;
-
-/// The path that the text spells, which may be the root. A text that spells none is BadName.
-fn any_path(text: &str) -> Result<PathText<'_>, TraceFaultKind>
-    ensures { result ≡ or_bad_name (path_of text.now) }
-{
-    PathText::of(text).ok_or(TraceFaultKind::BadName)
-}
-
-/// The path that the text spells. The root, and a text that spells none, are BadName.
-pub(crate) fn entry_path(text: &str) -> Result<PathText<'_>, TraceFaultKind>
-    ensures { result ≡ or_bad_name (entry_path_of text.now) }
-{
-    PathText::of_entry(text).ok_or(TraceFaultKind::BadName)
-}
-
-/// The path of a new entry, read as by `entry_path`. If the path, the owner or the group isn't
-/// legal, it is BadName.
-pub(crate) fn new_path<'a>(text: &'a str, claims: &Claims) -> Result<PathText<'a>, TraceFaultKind>
-    ensures { result ≡ or_bad_name (new_path_of text.now (claims_of claims.now)) }
-{
-    let path = entry_path(text)?;
-    if !are_user_names(claims) {
-        return Err(TraceFaultKind::BadName);
-    }
-    Ok(path)
-}
 
 /// The path of a chmod or a chown, which may be the root. If the path, or the owner or the group
 /// of a chown, isn't legal, it is BadName.
@@ -67,17 +41,17 @@ fn set_path<'a>(text: &'a str, change: &Change) -> Result<PathText<'a>, TraceFau
 /// The creat of a file at the path, with the next number. The path and its parent are checked as
 /// `check_free` does; then a path of too many names, or one record too many, is TooLarge.
 #[tactic(auto, using(crate::proofs::Past::nothing_above, crate::proofs::Past::past_creat))]
-fn creat(
+fn creat_at(
     alloc: Global,
     state: &LinesSoFar,
     path: &PathText<'_>,
-    claims: Claims,
+    rights: Rights,
 ) -> Result<Operation, TraceFaultKind>
     requires short { AreShort state.now.tree.nodes }
     requires few { length state.now.sizes.items < 2 ^ 32 }
     ensures { Gives
         (creat state.now.tree.nodes state.now.made (length state.now.sizes.items)
-        path.now (claims_of claims))
+        path.now (claims_by rights))
         result IsPastNames }
 {
     let path = path.to_path_or(alloc, TraceFaultKind::NoParent)?;
@@ -87,22 +61,42 @@ fn creat(
         return Err(TraceFaultKind::TooLarge);
     }
     let file = state.sizes.len() as u32;
-    let rights = Rights::of_claims(claims)?;
     Ok(Operation::Creat { path, file, rights })
+}
+
+/// The creat of a file at the path that the text spells. If the path, the owner or the group isn't
+/// legal, it is BadName; the other faults are those of `creat_at`.
+fn creat(
+    alloc: Global,
+    state: &LinesSoFar,
+    text: &str,
+    claims: Claims,
+) -> Result<Operation, TraceFaultKind>
+    requires short { AreShort state.now.tree.nodes }
+    requires few { length state.now.sizes.items < 2 ^ 32 }
+    ensures { Gives
+        (with_path (new_path_of text.now (claims_of claims)) (λ p.
+        creat state.now.tree.nodes state.now.made (length state.now.sizes.items)
+        p (claims_of claims)))
+        result IsPastNames }
+{
+    let path = entry_path(text)?;
+    let rights = Rights::of_claims(claims)?;
+    creat_at(alloc, state, &path, rights)
 }
 
 /// The mkdir of a directory at the path, after `made` records. The path and its parent are checked
 /// as `check_free` does; then a path of too many names, or one record too many, is TooLarge.
 #[tactic(auto, using(crate::proofs::Past::nothing_above, crate::proofs::Past::past_mkdir))]
-fn mkdir(
+fn mkdir_at(
     alloc: Global,
     tree: &Tree,
     made: usize,
     path: &PathText<'_>,
-    claims: Claims,
+    rights: Rights,
 ) -> Result<Operation, TraceFaultKind>
     requires { AreShort tree.now.nodes }
-    ensures { Gives (mkdir tree.now.nodes made path.now (claims_of claims)) result IsPastNames }
+    ensures { Gives (mkdir tree.now.nodes made path.now (claims_by rights)) result IsPastNames }
 {
     let path = path.to_path_or(alloc, TraceFaultKind::NoParent)?;
     let above = Path::of(alloc, &path.names().parent())?;
@@ -110,8 +104,27 @@ fn mkdir(
     if is_over_limits(made, path.names().len()) {
         return Err(TraceFaultKind::TooLarge);
     }
-    let rights = Rights::of_claims(claims)?;
     Ok(Operation::Mkdir { path, rights })
+}
+
+/// The mkdir of a directory at the path that the text spells. If the path, the owner or the group
+/// isn't legal, it is BadName; the other faults are those of `mkdir_at`.
+fn mkdir(
+    alloc: Global,
+    tree: &Tree,
+    made: usize,
+    text: &str,
+    claims: Claims,
+) -> Result<Operation, TraceFaultKind>
+    requires { AreShort tree.now.nodes }
+    ensures { Gives
+        (with_path (new_path_of text.now (claims_of claims)) (λ p.
+        mkdir tree.now.nodes made p (claims_of claims)))
+        result IsPastNames }
+{
+    let path = entry_path(text)?;
+    let rights = Rights::of_claims(claims)?;
+    mkdir_at(alloc, tree, made, &path, rights)
 }
 
 /// The link that gives the file at `from` one more path, `to`, after `made` records. Nothing at
@@ -338,12 +351,8 @@ pub(crate) fn resolve(
 {
     let tree = &state.tree;
     match line {
-        OperationLine::Creat { path, claims } => {
-            creat(alloc, state, &new_path(&path, &claims)?, claims)
-        }
-        OperationLine::Mkdir { path, claims } => {
-            mkdir(alloc, tree, state.made, &new_path(&path, &claims)?, claims)
-        }
+        OperationLine::Creat { path, claims } => creat(alloc, state, &path, claims),
+        OperationLine::Mkdir { path, claims } => mkdir(alloc, tree, state.made, &path, claims),
         OperationLine::Link { from, to } => {
             link(
                 alloc,

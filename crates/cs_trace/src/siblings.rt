@@ -2,18 +2,21 @@
 //! whole paths, which are long if the directory is deep. After an error, the trace is given up;
 //! entries may be missing then, or only some of them appended.
 ghost use Rattle.std.specs.Prelude.{◌≡◌, ◌≢◌, ◌∷◌, ◌++◌, [], IfNone, IfOk, IfSome, IsTrue, OnOk};
-ghost use Rattle.std.specs.Prelude.{None, false};
+ghost use Rattle.std.specs.Prelude.{None, Some, false};
 ghost use Rattle.std.specs.Prelude.{length};
 ghost use Rattle.std.specs.FinMap as map;
 ghost use Rattle.std.specs.Option.{is_some, option_map};
+ghost use Rattle.cs_names.specs.Legal.{IsLegalName};
 ghost use Rattle.cs_tree_model.specs.Maps.Values.{map_values};
 ghost use Rattle.cs_tree_model.specs.Tree.{NameBytes};
 ghost use Rattle.cs_trace.specs.Below.{has_below};
 ghost use Rattle.cs_trace.specs.Entries.{node_of, with_nodes, with_records};
+ghost use Rattle.cs_trace.specs.Names.{entry_path_of};
 ghost use Rattle.cs_trace.specs.Owned.{with_places};
-ghost use Rattle.cs_trace.specs.Siblings.{AreIn, BeginsAt, IsIn, entry_in};
+ghost use Rattle.cs_trace.specs.Siblings.{AreIn, BeginsAt, IsIn};
 
 use crate::entry::StartEntry;
+use crate::last_directory::LastDirectory;
 use crate::start_lists::StartLists;
 use cs_names::Path;
 use std::alloc::{AllocError, Global};
@@ -24,10 +27,9 @@ use std::marker::Model;
 /// their whole paths.
 #[derive(Drop)]
 pub(crate) struct Siblings {
-    /// The path of the directory.
-    directory: Path,
-    /// Each entry with its whole path, by the last name of the path.
-    by_name: BTreeMap<String, (Path, StartEntry)>,
+    directory: LastDirectory,
+    /// Each entry by the last name of its path.
+    by_name: BTreeMap<String, StartEntry>,
 }
 
 impl Model for Siblings {
@@ -42,19 +44,20 @@ impl Model for Siblings {
         model.siblings_of siblings.directory (by_bytes siblings.by_name.entries) };
 
     ghost invariant = { λ siblings.
-        model.AreWithPaths siblings.directory (by_bytes siblings.by_name.entries) };
+        model.HaveLegalNames (by_bytes siblings.by_name.entries) };
 }
 
 /// The last name of the path, if the path's parent is the directory. None for a path elsewhere or
 /// further down, and for the root, which has no last name.
-fn name_in<'a>(directory: &Path, path: &'a Path) -> Option<&'a str>
+fn name_in<'a>(directory: &LastDirectory, path: &'a Path) -> Option<&'a str>
     ensures there { IfSome result (λ name. path.now ≡ directory.now ++ name.now ∷ []) }
+    ensures legal { IfSome result (λ name. IsLegalName name.now) }
     ensures elsewhere { IfNone result ((n : NameBytes) → path.now ≢ directory.now ++ n ∷ []) }
 {
     match path.names().split_last() {
         None => None,
         Some((above, name)) => {
-            if above == directory.names() {
+            if above == directory.path().names() {
                 Some(name)
             } else {
                 None
@@ -63,19 +66,9 @@ fn name_in<'a>(directory: &Path, path: &'a Path) -> Option<&'a str>
     }
 }
 
-/// The entry of a sibling, without its path; None if there is no sibling.
-fn entry_in(sibling: Option<(Path, StartEntry)>) -> Option<StartEntry>
-    ensures { result ≡ entry_in sibling }
-{
-    match sibling {
-        None => None,
-        Some((_, entry)) => Some(entry),
-    }
-}
-
 impl Siblings {
-    /// No entries yet, of the directory at that path.
-    pub(crate) fn new(alloc: Global, directory: Path) -> Siblings
+    /// No entries yet, of that directory.
+    pub(crate) fn new(alloc: Global, directory: LastDirectory) -> Siblings
         ensures directory { result.directory ≡ directory }
         ensures entries { result.entries ≡ map.empty }
     {
@@ -90,7 +83,18 @@ impl Siblings {
         ensures value { result.now ≡ self.now.directory }
         ensures all { AreIn self.now }
     {
-        &self.directory
+        self.directory.path()
+    }
+
+    /// The last name of the path that the text spells, if the text is that of the directory, a `/`
+    /// and a legal name (`LastDirectory::name_in`). None for any other text, which may still spell a
+    /// path in the directory.
+    pub(crate) fn name_in_text<'a>(&self, text: &'a str) -> Option<&'a str>
+        ensures entry { IfSome result (λ name.
+            entry_path_of text.now ≡ Some (self.now.directory ++ name.now ∷ [])) }
+        ensures legal { IfSome result (λ name. IsLegalName name.now) }
+    {
+        self.directory.name_in(text)
     }
 
     /// Whether the path's parent is the directory; such a path may or may not have an entry. No
@@ -114,10 +118,7 @@ impl Siblings {
     {
         match name_in(&self.directory, path) {
             None => None,
-            Some(name) => match self.by_name.get(name) {
-                None => None,
-                Some(sibling) => Some(&sibling.1),
-            },
+            Some(name) => self.by_name.get(name),
         }
     }
 
@@ -129,7 +130,27 @@ impl Siblings {
         if self.by_name.is_empty() {
             return false;
         }
-        self.directory.begins_with(path)
+        self.directory.path().begins_with(path)
+    }
+
+    /// Puts the entry at the path of that name in the directory, and returns whether it replaced
+    /// another.
+    pub(crate) fn insert_named(
+        &mut self,
+        alloc: Global,
+        name: &str,
+        entry: StartEntry,
+    ) -> Result<bool, AllocError>
+        requires { IsLegalName name.now }
+        ensures directory { self.new.directory ≡ self.old.directory }
+        ensures replaced { IfOk result (λ replaced. replaced
+            ≡ is_some (map.get self.old.entries (self.old.directory ++ name.now ∷ []))) }
+        ensures state { OnOk result (self.new.entries
+            ≡ map.insert self.old.entries (self.old.directory ++ name.now ∷ []) entry) }
+    {
+        let key = String::from_str(alloc, name)?;
+        let before = self.by_name.insert(key, entry)?;
+        Ok(before.is_some())
     }
 
     /// Puts the entry at the path, which must be in the directory, and returns whether it replaced
@@ -137,22 +158,21 @@ impl Siblings {
     pub(crate) fn insert(
         &mut self,
         alloc: Global,
-        path: Path,
+        path: &Path,
         entry: StartEntry,
     ) -> Result<bool, AllocError>
-        requires { IsIn self.old.directory path }
+        requires { IsIn self.old.directory path.now }
         ensures directory { self.new.directory ≡ self.old.directory }
         ensures replaced { IfOk result (λ replaced. replaced
-            ≡ is_some (map.get self.old.entries path)) }
-        ensures state { OnOk result (self.new.entries ≡ map.insert self.old.entries path entry) }
+            ≡ is_some (map.get self.old.entries path.now)) }
+        ensures state { OnOk result (self.new.entries
+            ≡ map.insert self.old.entries path.now entry) }
     {
-        let Some(name) = name_in(&self.directory, &path) else {
+        match name_in(&self.directory, path) {
             // By `requires`, the path is in the directory.
-            unreachable!()
-        };
-        let key = String::from_str(alloc, name)?;
-        let before = self.by_name.insert(key, (path, entry))?;
-        Ok(before.is_some())
+            None => unreachable!(),
+            Some(name) => self.insert_named(alloc, name, entry),
+        }
     }
 
     /// Removes the entry at the path and returns it. None if nothing is there, and for every path
@@ -164,27 +184,33 @@ impl Siblings {
     {
         match name_in(&self.directory, path) {
             None => None,
-            Some(name) => entry_in(self.by_name.remove(name)),
+            Some(name) => self.by_name.remove(name),
         }
     }
 
     /// The first path, in the order of paths, that has an entry; None if there are no entries.
-    pub(crate) fn first(&self) -> Option<&Path>
-        ensures some { IfSome result (λ path. BeginsAt self.now.entries path.now) }
-        ensures none { IfNone result (self.now.entries ≡ map.empty) }
+    pub(crate) fn first(&self, alloc: Global) -> Result<Option<Path>, AllocError>
+        ensures some { IfOk result (λ first.
+            IfSome first (λ path. BeginsAt self.now.entries path)) }
+        ensures none { IfOk result (λ first. IfNone first (self.now.entries ≡ map.empty)) }
     {
-        match self.by_name.values().next() {
-            None => None,
-            Some(sibling) => Some(&sibling.0),
+        match self.by_name.iter().next() {
+            None => Ok(None),
+            Some((name, _)) => Ok(Some(self.directory.child(alloc, name)?)),
         }
     }
 
     /// Moves the entries, each with its path, to the end of the list, in the order of paths.
-    pub(crate) fn push_to(self, list: &mut Vec<(Path, StartEntry)>) -> Result<(), AllocError>
+    pub(crate) fn push_to(
+        self,
+        alloc: Global,
+        list: &mut Vec<(Path, StartEntry)>,
+    ) -> Result<(), AllocError>
         ensures { OnOk result (list.new.items ≡ list.old.items ++ map.entries self.entries) }
     {
-        for (_, sibling) in self.by_name {
-            list.push(sibling)?;
+        let Siblings { directory, by_name } = self;
+        for (name, entry) in by_name {
+            list.push((directory.child(alloc, &name)?, entry))?;
         }
         Ok(())
     }
@@ -195,17 +221,18 @@ impl Siblings {
     }
 
     /// Appends the record and the node of each of the siblings to the lists, in the order of paths.
-    pub(crate) fn append_to(self, lists: &mut StartLists) -> Result<(), AllocError>
-        ensures records { OnOk result (lists.new.records.items
-            ≡ with_records lists.old.records.items (map.entries self.entries)) }
+    pub(crate) fn append_to(self, alloc: Global, lists: &mut StartLists) -> Result<(), AllocError>
+        ensures records { OnOk result (lists.new.records
+            ≡ with_records lists.old.records (map.entries self.entries)) }
         ensures nodes { OnOk result (lists.new.nodes.items
             ≡ with_nodes lists.old.nodes.items (map.entries self.entries)) }
         ensures places { OnOk result (lists.new.places.items
-            ≡ with_places lists.old.places.items (length lists.old.records.items)
+            ≡ with_places lists.old.places.items (length lists.old.records)
             (map.entries self.entries)) }
     {
-        for (_, (path, entry)) in self.by_name {
-            lists.append(path, entry)?;
+        let Siblings { directory, by_name } = self;
+        for (name, entry) in by_name {
+            lists.append_child(alloc, directory.path(), name, entry)?;
         }
         Ok(())
     }

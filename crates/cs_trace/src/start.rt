@@ -4,39 +4,35 @@
 ghost use Rattle.std.specs.Prelude.{◌≡◌, ◌≢◌, ◌<◌, ◌^◌, IfErr, IfOk, IsOk, OnOk, None, Some, Ok};
 ghost use Rattle.std.specs.Prelude.{Err, false, length};
 ghost use Rattle.std.specs.FinMap as map;
-ghost use Rattle.std.specs.Option.{is_some, option_map};
+ghost use Rattle.std.specs.Option.{option_map};
 ghost use Rattle.cs_tree_model.specs.Tree.{parent_path};
-ghost use Rattle.cs_trace.specs.Attributes.{kept_in};
-ghost use Rattle.cs_trace.specs.Entries.{node_of, size_of};
+ghost use Rattle.cs_trace.specs.Entries.{size_of};
 ghost use Rattle.cs_trace.specs.Judging.{IsPastNames, free_at, or_bad_name};
-ghost use Rattle.cs_trace.specs.Kept.{IsBounded, IsStarting, attributes_of, state_of, with_node};
+ghost use Rattle.cs_trace.specs.Kept.{IsBounded, IsStarting, state_of};
 ghost use Rattle.cs_trace_lines.specs.Lines.{Header};
-ghost use Rattle.cs_trace.specs.Names.{new_path_of};
-ghost use Rattle.cs_trace.specs.Owned.{count_with, sizes_with};
+ghost use Rattle.cs_trace.specs.Names.{claims_by, entry_path_of};
 ghost use Rattle.cs_trace.specs.Outcomes.{Leaves};
 ghost use Rattle.cs_trace_lines.specs.Said.{claims_of, start_of};
 ghost use Rattle.cs_trace.specs.States.{entry_for, first_step, start_at, start_file_at};
-ghost use Rattle.cs_trace.specs.States.{start_link_at, start_link_step, start_step, with_entry};
-ghost use Rattle.cs_trace.specs.States.{number_for, with_link};
+ghost use Rattle.cs_trace.specs.States.{start_link_at, start_link_step, start_step};
 ghost use Rattle.cs_trace.specs.declared.fault.TraceFaultKind.TheVariants.{Memory};
 ghost use Rattle.cs_trace.specs.declared.operation.Node.TheVariants.{Directory};
 
-use crate::attributes::Attributes;
 use crate::entry::StartEntry;
 use crate::fault::TraceFaultKind;
 use crate::judge::{check_free, is_over_limits};
 use crate::last_directory::LastDirectory;
-use crate::names::are_user_names;
-use crate::operation::{Node, Rights};
-use crate::path_text::PathText;
-use crate::resolve::{entry_path, new_path};
+use crate::operation::Node;
+use crate::path_text::{PathText, entry_path};
+use crate::put_start::{put_entry, put_link, put_spelled};
+use crate::shared_rights::SharedRights;
 use crate::state::LinesSoFar;
 use crate::tree::Tree;
 use cs_names::Path;
 use cs_names::limits::FILE_BYTES;
 use cs_trace_lines::{Claims, StartLine, Version};
 use cs_tree_model::{Content, Kind};
-use std::alloc::{AllocError, Global};
+use std::alloc::Global;
 
 /// How many bytes a file with this content has; 0 for a directory, whose content is None.
 fn size_of(content: &Option<Vec<u8>>) -> u64
@@ -49,18 +45,13 @@ fn size_of(content: &Option<Vec<u8>>) -> u64
 }
 
 /// The entry of a new file with this content and the next number, or of a new directory if the
-/// content is None. The names in the claims, which the caller has checked, are moved.
-fn new_entry(
-    state: &LinesSoFar,
-    claims: Claims,
-    content: Option<Vec<u8>>,
-) -> Result<StartEntry, AllocError>
+/// content is None.
+fn new_entry(state: &LinesSoFar, rights: SharedRights, content: Option<Vec<u8>>) -> StartEntry
     requires { length state.now.sizes.items < 2 ^ 32 }
-    ensures { IfOk result (λ entry. entry ≡ entry_for (state_of state.now)
-        (claims_of claims) (option_map (λ bytes. bytes.items) content)) }
+    ensures { result ≡ entry_for (state_of state.now)
+        (claims_by rights) (option_map (λ bytes. bytes.items) content) }
 {
-    let rights = Rights::of_claims(claims)?;
-    Ok(match content {
+    match content {
         None => StartEntry {
             number: 0,
             own: false,
@@ -73,75 +64,7 @@ fn new_entry(
             rights,
             content: Content::file(bytes),
         },
-    })
-}
-
-/// Keeps the size of a new file of the start, and counts the start's files. A directory changes
-/// neither.
-fn add_size(
-    sizes: &mut Vec<u64>,
-    file_count: &mut usize,
-    content: &Content,
-) -> Result<(), AllocError>
-    ensures sizes { OnOk result (sizes.new.items ≡ sizes_with sizes.old.items content.now) }
-    ensures count { OnOk result (file_count.new
-        ≡ count_with file_count.old sizes.old.items content.now) }
-{
-    if let Kind::File { length } = content.kind() {
-        sizes.push(length)?;
-        // Before the first operation, each file is one of the start's.
-        *file_count = sizes.len();
     }
-    Ok(())
-}
-
-/// Keeps the attributes of a new entry at the path, if the version has them.
-fn add_attributes(
-    alloc: Global,
-    version: Version,
-    attributes: &mut Attributes,
-    path: &Path,
-    entry: &StartEntry,
-) -> Result<(), AllocError>
-    ensures { OnOk result (attributes_of attributes.new
-        ≡ kept_in version (attributes_of attributes.old)
-        (with_node (attributes_of attributes.old) (node_of entry.now) path.now entry.now.rights)) }
-{
-    match version {
-        // Version 1 has no operation that changes attributes.
-        Version::First => Ok(()),
-        Version::Second(_) | Version::Third(..) => {
-            attributes.add(alloc, entry.node(), path, &entry.rights)
-        }
-    }
-}
-
-/// Adds the entry of a new file or directory at the path: to the tree, to the sizes and the count
-/// of files if it is a file, and to the attributes if the version has them, as `LinesSoFar::apply`
-/// does. Counts one more record. Returns whether it replaced another entry, which the caller reports
-/// as a fault.
-fn put_entry(
-    alloc: Global,
-    state: &mut LinesSoFar,
-    path: Path,
-    entry: StartEntry,
-) -> Result<bool, AllocError>
-    requires few { state.old.made < 2 ^ 32 }
-    requires starting { IsStarting (state_of state.old) }
-    requires own { entry.own ≡ is_some entry.content }
-    requires number { entry.number ≡ number_for (state_of state.old) entry.content }
-    ensures replaced { IfOk result (λ replaced. replaced
-        ≡ is_some (map.get state.old.tree.nodes path)) }
-    ensures state { IfOk result (λ replaced. replaced ≡ false → state_of state.new
-        ≡ with_entry (state_of state.old) path entry entry.content) }
-    ensures nodes { OnOk result (state.new.tree.nodes
-        ≡ map.insert state.old.tree.nodes path (node_of entry)) }
-{
-    add_size(&mut state.sizes, &mut state.file_count, &entry.content)?;
-    add_attributes(alloc, state.version, &mut state.attributes, &path, &entry)?;
-    let replaced = state.tree.insert_start(alloc, path, entry)?;
-    state.made += 1;
-    Ok(replaced)
 }
 
 /// The directory of a new entry at the path, which `text` spells. As in `check_free`, nothing at
@@ -185,7 +108,7 @@ fn add_entry_in(
     path: Path,
     names: usize,
     above: LastDirectory,
-    claims: Claims,
+    rights: SharedRights,
     content: Option<Vec<u8>>,
 ) -> Result<(), TraceFaultKind>
     requires bounded { IsBounded (state_of state.old) }
@@ -194,7 +117,7 @@ fn add_entry_in(
     requires above { above ≡ parent_path path }
     requires is_there { map.get state.old.tree.nodes above ≡ Some Directory }
     ensures { Leaves
-        (start_at (state_of state.old) path (claims_of claims)
+        (start_at (state_of state.old) path (claims_by rights)
         (option_map (λ bytes. bytes.items) content))
         result (state_of state.new) IsPastNames }
 {
@@ -204,7 +127,7 @@ fn add_entry_in(
             Some(_) => TraceFaultKind::Exists,
         });
     }
-    let entry = new_entry(state, claims, content)?;
+    let entry = new_entry(state, rights, content);
     let replaced = put_entry(alloc, state, path, entry)?;
     if replaced {
         return Err(TraceFaultKind::Exists);
@@ -213,46 +136,79 @@ fn add_entry_in(
     Ok(())
 }
 
-/// The path of a start line of a file or a directory. If the path, the owner or the group isn't
-/// legal, it is BadName, as by `new_path`; but of a path in the directory of the last start line,
-/// only the last name is checked.
-fn start_path<'a>(
-    tree: &Tree,
-    path: &'a str,
-    claims: &Claims,
-) -> Result<PathText<'a>, TraceFaultKind>
-    ensures { result ≡ or_bad_name (new_path_of path.now (claims_of claims.now)) }
+/// As `add_entry_in`, at the path that the text spells: adds a new entry in the directory `above`,
+/// whose text the path's text begins with (`LastDirectory::path_in`). Most often no Path is made.
+#[tactic(auto, using(crate::proofs::Past::past_start_at))]
+fn add_sibling(
+    alloc: Global,
+    state: &mut LinesSoFar,
+    path: &PathText<'_>,
+    above: LastDirectory,
+    rights: SharedRights,
+    content: Option<Vec<u8>>,
+) -> Result<(), TraceFaultKind>
+    requires bounded { IsBounded (state_of state.old) }
+    requires starting { IsStarting (state_of state.old) }
+    requires above { above ≡ parent_path path.now }
+    requires is_there { map.get state.old.tree.nodes above ≡ Some Directory }
+    ensures { Leaves
+        (start_at (state_of state.old) path.now (claims_by rights)
+        (option_map (λ bytes. bytes.items) content))
+        result (state_of state.new) IsPastNames }
 {
-    let Some(entry) = tree.path_in_last_directory(path) else {
-        return new_path(path, claims);
-    };
-    if !are_user_names(claims) {
-        return Err(TraceFaultKind::BadName);
+    if is_over_limits(state.made, path.len()) || size_of(&content) > FILE_BYTES {
+        let path = path.to_path(alloc)?;
+        return Err(match state.tree.get(&path) {
+            None => TraceFaultKind::TooLarge,
+            Some(_) => TraceFaultKind::Exists,
+        });
     }
-    Ok(entry)
+    let entry = new_entry(state, rights, content);
+    let replaced = put_spelled(alloc, state, path, entry)?;
+    if replaced {
+        return Err(TraceFaultKind::Exists);
+    }
+    state.tree.remember_directory(above);
+    Ok(())
+}
+
+/// The path of a start line of a file or a directory. If it isn't legal, it is BadName, as by
+/// `entry_path`; but of a path in the directory of the last start line, only the last name is
+/// checked.
+fn start_path<'a>(tree: &Tree, path: &'a str) -> Result<PathText<'a>, TraceFaultKind>
+    ensures { result ≡ or_bad_name (entry_path_of path.now) }
+{
+    match tree.path_in_last_directory(path) {
+        None => entry_path(path),
+        Some(entry) => Ok(entry),
+    }
 }
 
 /// Adds a file with this content at the path that the text spells, or a directory if the content is
 /// None. The faults are those of `find_above` and then those of `add_entry_in`. A path of so many
-/// names that its directory can't be in the tree is NoParent, too.
+/// names that its directory can't be in the tree is NoParent, too. In the directory of the last
+/// start line, most often no path is made (`add_sibling`).
 #[tactic(auto, using(crate::proofs::Past::nothing_above, crate::proofs::Past::past_start_at))]
 fn add_entry(
     alloc: Global,
     state: &mut LinesSoFar,
     text: &PathText<'_>,
-    claims: Claims,
+    rights: SharedRights,
     content: Option<Vec<u8>>,
 ) -> Result<(), TraceFaultKind>
     requires bounded { IsBounded (state_of state.old) }
     requires starting { IsStarting (state_of state.old) }
     ensures { Leaves
-        (start_at (state_of state.old) text.now (claims_of claims)
+        (start_at (state_of state.old) text.now (claims_by rights)
         (option_map (λ bytes. bytes.items) content))
         result (state_of state.new) IsPastNames }
 {
+    if let Some(above) = state.tree.take_spelled_directory(text) {
+        return add_sibling(alloc, state, text, above, rights, content);
+    }
     let path = text.to_path_or(alloc, TraceFaultKind::NoParent)?;
     let above = find_above(alloc, &mut state.tree, &path, text)?;
-    add_entry_in(alloc, state, path, text.len(), above, claims, content)
+    add_entry_in(alloc, state, path, text.len(), above, rights, content)
 }
 
 /// Applies the start line of a file, or of a directory if its content is None. A path, an owner or
@@ -273,8 +229,9 @@ pub(crate) fn apply_start(
         claims,
         content,
     } = line;
-    let text = start_path(&state.tree, &path, &claims)?;
-    add_entry(alloc, state, &text, claims, content)
+    let text = start_path(&state.tree, &path)?;
+    let rights = SharedRights::of_claims(alloc, &mut state.last_rights, claims)?;
+    add_entry(alloc, state, &text, rights, content)
 }
 
 /// The file that was at the path at the start. As in `file_at`, nothing there is Missing, and a
@@ -292,27 +249,6 @@ fn start_file<'a>(tree: &'a Tree, path: &Path) -> Result<&'a StartEntry, TraceFa
         Kind::Directory => Err(TraceFaultKind::NotFile),
         Kind::File { .. } => Ok(entry),
     }
-}
-
-/// Adds one more path for a file of the start: to the links, and with this copy of the file's entry
-/// to the tree. Counts one more record. The caller has checked that nothing is at the path, so what
-/// `insert_start` returns isn't needed.
-fn put_link(
-    alloc: Global,
-    state: &mut LinesSoFar,
-    path: Path,
-    entry: StartEntry,
-) -> Result<(), AllocError>
-    requires few { state.old.made < 2 ^ 32 }
-    requires starting { IsStarting (state_of state.old) }
-    requires free { map.get state.old.tree.nodes path ≡ None }
-    requires further { entry.own ≡ false }
-    ensures { OnOk result (state_of state.new ≡ with_link (state_of state.old) path entry) }
-{
-    state.links.push((path.try_clone(alloc)?, entry.number))?;
-    state.tree.insert_start(alloc, path, entry)?;
-    state.made += 1;
-    Ok(())
 }
 
 /// Adds one more path, `to`, for the file that was at `from` at the start. Nothing at `from` is
@@ -366,6 +302,7 @@ pub(crate) fn apply_link(
 
 /// Applies the header: it sets the version and adds the root. An owner or a group that isn't legal
 /// is BadName.
+#[tactic(auto, using(crate::proofs::Claimed::legal_claims))]
 pub(crate) fn apply_header(
     alloc: Global,
     state: &mut LinesSoFar,
@@ -378,11 +315,9 @@ pub(crate) fn apply_header(
         (first_step (state_of state.old) (Header version (claims_of claims)))
         result (state_of state.new) IsOk }
 {
-    if !are_user_names(&claims) {
-        return Err(TraceFaultKind::BadName);
-    }
+    let rights = SharedRights::of_claims(alloc, &mut state.last_rights, claims)?;
     state.version = version;
-    let root = new_entry(state, claims, None)?;
+    let root = new_entry(state, rights, None);
     // The header is the first line, so the root replaces nothing.
     put_entry(alloc, state, Path::root(alloc), root)?;
     Ok(())

@@ -10,6 +10,7 @@ ghost use Rattle.cs_trace.specs.States.{empty_state, after_operation};
 
 use crate::attributes::Attributes;
 use crate::operation::{Node, Operation};
+use crate::shared_rights::SharedRights;
 use crate::tree::Tree;
 use cs_names::{Bytes, Path};
 use cs_trace_lines::Version;
@@ -30,6 +31,8 @@ pub(crate) struct LinesSoFar {
     pub(crate) sizes: Vec<u64>,
     /// How many records were ever made, with those that were removed.
     pub(crate) made: usize,
+    /// The rights of the last line that has some, which the next such line may share.
+    pub(crate) last_rights: Option<SharedRights>,
     /// Owner, group and permissions of each file and directory, if the version has chmod and chown.
     pub(crate) attributes: Attributes,
     /// The operations, in the order of their lines.
@@ -154,6 +157,7 @@ impl LinesSoFar {
             links: Vec::new(alloc),
             sizes: Vec::new(alloc),
             made: 0,
+            last_rights: None,
             attributes: Attributes::new(alloc),
             operations: Vec::new(alloc),
         }
@@ -172,7 +176,10 @@ impl LinesSoFar {
         match self.version {
             // Version 1 has no operation that changes attributes.
             Version::First => {}
-            Version::Second(_) | Version::Third(..) => self.attributes.change(alloc, &operation)?,
+            Version::Second(_) | Version::Third(..) => {
+                let last = &mut self.last_rights;
+                self.attributes.change(alloc, last, &operation)?
+            }
         }
         self.operations.push(operation)?;
         Ok(())

@@ -1,6 +1,6 @@
 //! A trace: the tree at its start, and its operations.
-ghost use Rattle.std.specs.Prelude.{◌≡◌, ◌≢◌, ◌≤◌, ℕ, List, Some, IfErr, IfOk, Ok, Err, length};
-ghost use Rattle.std.specs.Prelude.{map, option_map, slice_get};
+ghost use Rattle.std.specs.Prelude.{◌≡◌, ◌≢◌, ◌≤◌, ◌<◌, ℕ, List, Some, IfErr, IfOk, IfSome, Ok, Err};
+ghost use Rattle.std.specs.Prelude.{length, map, option_map, slice_get};
 ghost use Rattle.std.specs.FinMap.{get};
 ghost use Rattle.std.specs.List.{All};
 ghost use Rattle.std.specs.List.Sorted.{IsStrictlySortedBy};
@@ -12,17 +12,17 @@ ghost use Rattle.cs_trace.specs.Kept.{state_of};
 ghost use Rattle.cs_trace.specs.Operations.{AreLegal, AreNested};
 ghost use Rattle.cs_trace.specs.States.{lines_in};
 ghost use Rattle.cs_trace.specs.Traces.{AreLinks, AreNodesOf, AreUnchanged, IsPathOf, IsTrace};
-ghost use Rattle.cs_trace.specs.Traces.{MayWant, StandsAs, record_in, records_made, start_paths};
-ghost use Rattle.cs_trace.specs.Traces.{start_sizes, trace_in, trace_of_state};
+ghost use Rattle.cs_trace.specs.Traces.{MayWant, StandsAs, path_at, record_in, records_made};
+ghost use Rattle.cs_trace.specs.Traces.{start_paths, start_sizes, trace_in, trace_of_state};
 ghost use Rattle.cs_trace.specs.declared.fault.TraceFaultKind.TheVariants.{Memory};
 
 use crate::fault::{TraceFault, TraceFaultKind};
 use crate::lines::{line_count, state_after_lines};
 use crate::operation::{Node, Operation};
+use crate::start_records::Start;
 use crate::state::LinesSoFar;
 use cs_names::Path;
 use cs_trace_lines::Version;
-use cs_tree_model::Record;
 use std::alloc::{AllocError, Global};
 use std::marker::Model;
 
@@ -30,7 +30,7 @@ use std::marker::Model;
 /// legal in what the ones before it leave.
 #[derive(Drop)]
 pub struct Trace {
-    records: Vec<(Path, Record)>,
+    records: Start,
     nodes: Vec<Node>,
     /// The place of the record of the path that each file was made at.
     places: Vec<usize>,
@@ -46,18 +46,18 @@ impl Model for Trace {
     ghost Value = { model.Trace };
 
     ghost view = { λ trace. record {
-      records = trace.records.items;
+      records = trace.records;
       nodes = trace.nodes.items;
-      files = map (model.path_at trace.records.items) trace.places.items;
+      files = map (model.path_at trace.records) trace.places.items;
       links = trace.links.items;
       operations = trace.operations.items;
       version = trace.version;
     } };
 
     ghost invariant = { λ trace. model.IsTrace (record {
-      records = trace.records.items;
+      records = trace.records;
       nodes = trace.nodes.items;
-      files = map (model.path_at trace.records.items) trace.places.items;
+      files = map (model.path_at trace.records) trace.places.items;
       links = trace.links.items;
       operations = trace.operations.items;
       version = trace.version;
@@ -67,7 +67,7 @@ impl Model for Trace {
 impl Trace {
     /// The start tree: its records with their paths, in the order of the paths, each numbered by
     /// its place there, from 0.
-    pub fn records(&self) -> &[(Path, Record)]
+    pub fn records(&self) -> &Start
         ensures value { result.now ≡ self.now.records }
         ensures listing { IsListing self.now.records }
         ensures ascending { IsStrictlySortedBy path_cmp (map (λ e. e.0) self.now.records) }
@@ -100,17 +100,16 @@ impl Trace {
         self.places.len()
     }
 
-    /// The path that the start's file of this number was made at; None if the start has no such
-    /// file. A file with further paths (`links`) has a record at each; these records differ only in
-    /// their numbers.
-    pub fn file_path(&self, file: usize) -> Option<&Path>
-        ensures { option_map (λ path. path.now) result ≡ slice_get self.now.files file }
+    /// The place of the path that the start's file of this number was made at; None if the start
+    /// has no such file. A file with further paths (`links`) has a record at each; these records
+    /// differ only in their numbers.
+    pub fn file_place(&self, file: usize) -> Option<usize>
+        ensures value { option_map (path_at self.now.records) result
+            ≡ slice_get self.now.files file }
+        ensures inside { IfSome result (λ place. place < length self.now.records) }
     {
         let place = *self.places.get(file)?;
-        match self.records.get(place) {
-            Some((path, _)) => Some(path),
-            None => unreachable!(),
-        }
+        Some(place)
     }
 
     /// The further paths of the start's files, in the order of their lines, each with the file's
@@ -137,14 +136,6 @@ impl Trace {
         ensures value { result ≡ self.now.version }
     {
         self.version
-    }
-
-    /// The records of the start tree, moved out, for a store. All else is dropped.
-    pub fn into_records(self) -> Vec<(Path, Record)>
-        ensures value { result.items ≡ self.records }
-        ensures listing { IsListing result.items }
-    {
-        self.records
     }
 }
 

@@ -124,6 +124,24 @@ impl Tree {
         None
     }
 
+    /// As `take_directory`, but by texts, which is faster. The directory is forgotten and returned
+    /// only if the text of the path begins with its text (`LastDirectory::path_in`); otherwise it
+    /// stays remembered.
+    pub(crate) fn take_spelled_directory(&mut self, path: &PathText<'_>) -> Option<LastDirectory>
+        ensures same { self.new ≡ self.old }
+        ensures above { IfSome result (λ above. above ≡ parent_path path.now) }
+        ensures is_there { IfSome result (λ above. map.get self.old.nodes above ≡ Some Directory) }
+    {
+        let directory = self.last_directory.take()?;
+        match directory.path_in(path.text()) {
+            Some(_) => Some(directory),
+            None => {
+                self.last_directory = Some(directory);
+                None
+            }
+        }
+    }
+
     /// Remembers the directory of a start line, which must be in the tree, for the next line:
     /// `path_in_last_directory` and `take_directory` then use it.
     pub(crate) fn remember_directory(&mut self, directory: LastDirectory)
@@ -145,7 +163,7 @@ impl Tree {
     {
         self.last_directory = None;
         if directory.has_long_text() {
-            self.kept.keep_apart(alloc, directory.path())?;
+            self.kept.keep_apart(alloc, directory)?;
         }
         Ok(())
     }
@@ -166,6 +184,26 @@ impl Tree {
         let was_placed = self.placed.remove(&path).is_some();
         let was_kept = self.kept.insert(alloc, path, entry)?;
         Ok(was_placed || was_kept)
+    }
+
+    /// As `insert_start`, of the path that the text spells. During the start, nothing is placed, and
+    /// most often only the last name of the path is copied (`Entries::insert_spelled`).
+    pub(crate) fn insert_start_spelled(
+        &mut self,
+        alloc: Global,
+        path: &PathText<'_>,
+        entry: StartEntry,
+    ) -> Result<bool, AllocError>
+        ensures replaced { IfOk result (λ replaced. replaced
+            ≡ is_some (map.get self.old.nodes path.now)) }
+        ensures state { OnOk result (self.new ≡ with_start self.old path.now entry) }
+    {
+        if self.placed.is_empty() {
+            self.last_directory = None;
+            return self.kept.insert_spelled(alloc, path, entry);
+        }
+        let whole = path.to_path(alloc)?;
+        self.insert_start(alloc, whole, entry)
     }
 
     /// Puts the node at the path now, over anything that is there; the start stays as it is. After
@@ -203,7 +241,7 @@ impl Tree {
     /// A record of each entry of the start, in the order of their paths and numbered from 0; and,
     /// in the same order, the node of each: a directory, or a file by its number.
     pub(crate) fn into_start(self, alloc: Global, files: usize) -> Result<StartLists, AllocError>
-        ensures records { IfOk result (λ lists. lists.records.items ≡ records_in self.start) }
+        ensures records { IfOk result (λ lists. lists.records ≡ records_in self.start) }
         ensures nodes { IfOk result (λ lists. lists.nodes.items ≡ nodes_in self.start) }
         ensures places { IfOk result (λ lists. lists.places.items
             ≡ with_places (replicate files 0) 0 (map.entries self.start)) }

@@ -13,7 +13,7 @@ use Rattle.cs_fids.specs.FidOf.{FidOf}
 use Rattle.cs_fids.specs.Fids.{moved_to, opened_fid, walked_fid, with_place}
 use Rattle.cs_fids.specs.Tables.{FidMap, least_open}
 use Rattle.cs_names.specs.declared.rule_id.RuleId.{RuleId}
-use Rattle.cs_names.specs.declared.rule_id.RuleId.TheVariants.{M1, H1, Q1, S1, S5}
+use Rattle.cs_names.specs.declared.rule_id.RuleId.TheVariants.{M1, N1, H1, Q1, S1, S5}
 use Rattle.cs_permit.specs.declared.call.Call.TheVariants as c
 use Rattle.cs_permit.specs.Refusals.{Check, first_failing}
 use Rattle.cs_permit.specs.TreeNames.{tree_name_in}
@@ -167,22 +167,24 @@ module _ (f : ℕ → ℕ) where
 
   -- ---- the steps of the table
 
-  reply_by : (o : Option FidEntry) → clunk_reply (option_map (entry_with_places f) o) ≡ clunk_reply o
-  reply_by None = refl
-  reply_by (Some (entry.Walked x)) = refl
-  reply_by (Some (entry.Opened x)) = refl
+  abbrev clunk_failing : Option FidEntry → Option RuleId
+  clunk_failing o = first_failing ((N1, is_none o) ∷ (S5, is_some (option_and_then as_opened o)) ∷ [])
 
-  clunk_by : (fids : FidMap) (fid : ℕ) (o : Option FidEntry)
-      → clunk_left (fids_with_places f fids) fid (option_map (entry_with_places f) o) ≡ fids_with_places f (clunk_left fids fid o)
-  clunk_by fids fid None = refl
-  clunk_by fids fid (Some (entry.Walked x)) = sym (remove_moved f fids fid)
-  clunk_by fids fid (Some (entry.Opened x)) = refl
+  failing_by : (o : Option FidEntry) → clunk_failing (option_map (entry_with_places f) o) ≡ clunk_failing o
+  failing_by None = refl
+  failing_by (Some (entry.Walked x)) = refl
+  failing_by (Some (entry.Opened x)) = refl
+
+  clunk_by : (fids : FidMap) (fid : ℕ) (o : Option RuleId)
+      → clunk_left (fids_with_places f fids) fid o ≡ fids_with_places f (clunk_left fids fid o)
+  clunk_by fids fid None = sym (remove_moved f fids fid)
+  clunk_by fids fid (Some rule) = refl
 
   clunk_moved : (s : SessionState) (fid : ℕ) → after_clunk (with_places f s) fid ≡ moved_reply f (after_clunk s fid)
   clunk_moved s fid =
-      ap (λ (o : Option FidEntry). (clunk_reply o, with_fids (clunk_left (fids_with_places f s.fids) fid o) (with_places f s)))
-      (get_moved f s.fids fid)
-      ∙ (λ i. (reply_by (get s.fids fid) i, with_fids (clunk_by s.fids fid (get s.fids fid) i) (with_places f s)))
+      ap (λ (o : Option RuleId). (clunk_reply o, with_fids (clunk_left (fids_with_places f s.fids) fid o) (with_places f s)))
+      (ap clunk_failing (get_moved f s.fids fid) ∙ failing_by (get s.fids fid))
+      ∙ (λ i. (clunk_reply (clunk_failing (get s.fids fid)), with_fids (clunk_by s.fids fid (clunk_failing (get s.fids fid)) i) (with_places f s)))
 
   cond_moved : (b : Bool) (x' y' x y : Reply × SessionState) → x' ≡ moved_reply f x → y' ≡ moved_reply f y
       → cond b x' y' ≡ moved_reply f (cond b x y)

@@ -35,6 +35,7 @@ use Rattle.cs_run.specs.declared.answer.Answer.TheVariants as a
 use Rattle.cs_run.specs.declared.turn.Turn.{Turn}
 use Rattle.cs_run.specs.Effects.{effect_of, close_effect, create_effect, open_effect, remove_effect, write_effect, wstat_effect}
 use Rattle.cs_run.specs.Outcomes.{outcome}
+use Rattle.cs_permit.specs.Refusals.{first_failing}
 use Rattle.cs_session.specs.declared.message.AttachMessage.{AttachMessage}
 use Rattle.cs_session.specs.declared.message.CallMessage.{CallMessage}
 use Rattle.cs_session.specs.declared.message.CallMessage.TheVariants as m
@@ -56,7 +57,7 @@ use Rattle.cs_session.specs.Questions.{Question, AttachTo, CallOn, PortAnswer, A
 use Rattle.cs_session.specs.Sessions.{Awaited, SessionState, entry_at}
 use Rattle.cs_session.specs.Steps.{Step as Taken, FindStep, AttachStep, CallStep, CloseStep, Table, reply_and_session, first_move_by}
 use Rattle.cs_session.specs.Steps.{first_move_of}
-use Rattle.cs_session.specs.TableSteps.{clunk_reply, table_stepped, after_change}
+use Rattle.cs_session.specs.TableSteps.{clunk_reply, clunk_rules, table_stepped, after_change}
 use Rattle.cs_session.specs.Walks.{walk_question}
 use Rattle.cs_world.specs.declared.reply.Reply.{Reply}
 use Rattle.cs_world.specs.declared.reply.Reply.TheVariants.{Connection, Published, NotPublished as Refused}
@@ -258,10 +259,9 @@ module _ (w : World) (conn : ℕ) where
 
   -- ---- a change of the table
 
-  clunk_tells : (o : Option FidEntry) → session_says_out_of_memory (clunk_reply o) ≡ false
+  clunk_tells : (o : Option RuleId) → session_says_out_of_memory (clunk_reply o) ≡ false
   clunk_tells None = refl
-  clunk_tells (Some (entry.Opened f)) = refl
-  clunk_tells (Some (entry.Walked f)) = refl
+  clunk_tells (Some rule) = refl
 
   version_tells : (low spoken : Bool) (msize : ℕ) → session_says_out_of_memory (cond low (r.Error S4) (r.Version msize spoken)) ≡ false
   version_tells true spoken msize = refl
@@ -270,7 +270,7 @@ module _ (w : World) (conn : ℕ) where
   tabled_by : (x : TableStep) (b : Bool) → is_none here.msize ≡ b → (d : Bool) → is_some (least_open here.fids) ≡ d
       → session_says_out_of_memory (after_change here x).0 ≡ false
   tabled_by (t.Clunk fid) true e d g = rw e refl
-  tabled_by (t.Clunk fid) false e d g = rw e (clunk_tells (entry_at here fid))
+  tabled_by (t.Clunk fid) false e d g = rw e (clunk_tells (first_failing (clunk_rules here.fids fid)))
   tabled_by (t.Version msize version) b e true g = rw g refl
   tabled_by (t.Version msize version) b e false g = rw g (version_tells _ _ _)
   tabled_by t.HangUp b e true g = rw g refl

@@ -22,6 +22,7 @@ use Rattle.cs_run.specs.declared.answer.Answer.{Answer}
 use Rattle.cs_run.specs.declared.answer.Answer.TheVariants as a
 use Rattle.cs_run.specs.Outcomes.{closed_open_number}
 use Rattle.cs_run.specs.Walks.{WalkResult}
+use Rattle.cs_permit.specs.Refusals.{first_failing}
 use Rattle.cs_session.specs.declared.message.CallMessage.{CallMessage}
 use Rattle.cs_session.specs.declared.message.CallMessage.TheVariants as m
 use Rattle.cs_session.specs.declared.message.CreateMessage.{CreateMessage}
@@ -36,7 +37,7 @@ use Rattle.cs_session.specs.Questions.{Question, CallOn}
 use Rattle.cs_session.specs.Reads.{read_after, read_left}
 use Rattle.cs_session.specs.Sessions.{SessionState, entry_at}
 use Rattle.cs_session.specs.Steps.{Done, Asks, CallStep, CloseStep, first_move_of, first_move_by}
-use Rattle.cs_session.specs.TableSteps.{clunk_left, table_stepped, after_change}
+use Rattle.cs_session.specs.TableSteps.{clunk_left, clunk_rules, table_stepped, after_change}
 use Rattle.cs_session.specs.Walks.{walk_after, walk_left}
 use Rattle.cs_wire.specs.declared.message.Qid.{Qid}
 
@@ -307,10 +308,9 @@ refused_keeps s (Err told) reply s' e = cc
 refused_keeps s (Ok q) reply s' e = absurd (cc)
 
 module _ (s : SessionState) (k : ℕ) (e : FidEntry) where
-  clunk_keeps : (fid : ℕ) (o : Option FidEntry) → get (clunk_left s.fids fid o) k ≡ Some e → get s.fids k ≡ Some e
-  clunk_keeps fid None there = there
-  clunk_keeps fid (Some (entry.Opened x)) there = there
-  clunk_keeps fid (Some (entry.Walked x)) there = (left s.fids fid k e there).1
+  clunk_keeps : (fid : ℕ) (o : Option RuleId) → get (clunk_left s.fids fid o) k ≡ Some e → get s.fids k ≡ Some e
+  clunk_keeps fid (Some rule) there = there
+  clunk_keeps fid None there = (left s.fids fid k e there).1
 
   nothing : get no_fids k ≡ Some e → get s.fids k ≡ Some e
   nothing there = absurd (let none : get no_fids k ≡ None = none_there k in cc)
@@ -318,7 +318,7 @@ module _ (s : SessionState) (k : ℕ) (e : FidEntry) where
   tabled_keeps : (x : TableStep) (b : Bool) → (is_none s.msize ≡ b) → (c : Bool) → is_some (least_open s.fids) ≡ c
       → get (after_change s x).1.fids k ≡ Some e → get s.fids k ≡ Some e
   tabled_keeps (t.Clunk fid) true n c o there = rw n at there
-  tabled_keeps (t.Clunk fid) false n c o there = clunk_keeps fid (entry_at s fid) (rw n at there)
+  tabled_keeps (t.Clunk fid) false n c o there = clunk_keeps fid (first_failing (clunk_rules s.fids fid)) (rw n at there)
   tabled_keeps (t.Version msize version) b n true o there = rw o at there
   tabled_keeps (t.Version msize version) b n false o there = nothing (rw o at there)
   tabled_keeps t.HangUp b n true o there = rw o at there

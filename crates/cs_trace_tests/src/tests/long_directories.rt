@@ -21,7 +21,9 @@ fn paths_of(rt: &impl Abort, alloc: Global, lines: &[&str]) -> String {
     let text = text_of(alloc, lines).expect(rt, "memory");
     let trace = read_trace(alloc, text.as_str()).expect(rt, "a trace");
     let mut shown = String::new(alloc);
-    for (path, _) in trace.records() {
+    let records = trace.records();
+    for place in 0..records.len() {
+        let path = records.path_of(alloc, place).expect(rt, "memory");
         write!(shown, "{path} ").expect(rt, "memory");
     }
     shown.replace(alloc, LONG, "L").expect(rt, "memory")

@@ -1,6 +1,7 @@
-//! Operations as text.
+//! Operations and records as text.
 use cs_names::Path;
 use cs_trace::{Covers, Operation, Rights, Target};
+use cs_tree_model::{Content, Metadata};
 use std::alloc::AllocError;
 
 fn show_rights(text: &mut String, rights: &Rights) -> Result<(), AllocError> {
@@ -89,4 +90,32 @@ fn show(text: &mut String, operation: &Operation) -> Result<(), AllocError> {
 pub fn show_line(text: &mut String, operation: &Operation) -> Result<(), AllocError> {
     show(text, operation)?;
     text.push_str("\n")
+}
+
+fn show_owners(text: &mut String, record: &Metadata<'_>) -> Result<(), AllocError> {
+    let (owner, group, muid) = (record.owner, record.group, record.muid);
+    write!(text, " {owner} {group} {muid}")
+}
+
+fn show_times(text: &mut String, record: &Metadata<'_>) -> Result<(), AllocError> {
+    let (vers, atime, mtime) = (record.vers, record.atime, record.mtime);
+    write!(text, " {vers} {atime} {mtime}")
+}
+
+fn show_content(text: &mut String, mode: u32, content: &Content) -> Result<(), AllocError> {
+    let bytes = content.bytes();
+    write!(text, " {mode:x} {bytes:?}\n")
+}
+
+/// Appends a line of the record's path, fields and content.
+pub fn show_record(
+    text: &mut String,
+    path: &Path,
+    record: &Metadata<'_>,
+    content: &Content,
+) -> Result<(), AllocError> {
+    write!(text, "{} {path}", record.number)?;
+    show_owners(text, record)?;
+    show_times(text, record)?;
+    show_content(text, record.mode, content)
 }

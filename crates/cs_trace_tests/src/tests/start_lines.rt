@@ -1,9 +1,8 @@
 //! Headers and start lines of traces, and their faults.
 use super::faults::{Faulty, START_FAULTS};
 use super::lines::{DIRECTORY, FILE, HEADER, long_line};
-use cs_names::Path;
+use super::shown::show_record;
 use cs_trace::{TraceFault, TraceFaultKind, read_trace};
-use cs_tree_model::Record;
 use std::alloc::{AllocError, Global};
 use std::process::Abort;
 
@@ -20,37 +19,18 @@ const SHUFFLED: &str = r#"{"trace":1,"owner":"cat","group":"staff","mode":"775"}
 /// How many records the trace's start tree has.
 fn start_len(rt: &impl Abort, alloc: Global, text: &str) -> usize {
     let trace = read_trace(alloc, text).expect(rt, "a trace");
-    trace.into_records().len()
-}
-
-fn show_owners(text: &mut String, record: &Record) -> Result<(), AllocError> {
-    let (owner, group, muid) = (&record.owner, &record.group, &record.muid);
-    write!(text, " {owner} {group} {muid}")
-}
-
-fn show_times(text: &mut String, record: &Record) -> Result<(), AllocError> {
-    let (vers, atime, mtime) = (record.vers, record.atime, record.mtime);
-    write!(text, " {vers} {atime} {mtime}")
-}
-
-fn show_content(text: &mut String, record: &Record) -> Result<(), AllocError> {
-    let bytes = record.content.bytes();
-    write!(text, " {:x} {bytes:?}\n", record.mode)
-}
-
-fn show(text: &mut String, path: &Path, record: &Record) -> Result<(), AllocError> {
-    write!(text, "{} {path}", record.number)?;
-    show_owners(text, record)?;
-    show_times(text, record)?;
-    show_content(text, record)
+    trace.records().len()
 }
 
 /// Looks at the records of the trace's start tree.
 pub fn has_records(rt: &impl Abort, alloc: Global, text: &str, wanted: &str) {
     let trace = read_trace(alloc, text).expect(rt, "a trace");
     let mut shown = String::new(alloc);
-    for (path, record) in trace.records() {
-        show(&mut shown, path, record).expect(rt, "memory");
+    let records = trace.records();
+    for place in 0..records.len() {
+        let path = records.path_of(alloc, place).expect(rt, "memory");
+        let record = records.metadata(place);
+        show_record(&mut shown, &path, &record, records.content(place)).expect(rt, "memory");
     }
     assert_eq!(rt; shown.as_str(), wanted);
 }

@@ -7,11 +7,11 @@ use Rattle.cs_apm.specs.Making.{HasFirst}
 use Rattle.cs_apm.specs.Slots.{AreAscending}
 use Rattle.cs_apm.proofs.places.add_starts.Given as goal
 
-abbrev pub invariant-loop-record : goal.invariant-loop-record
-invariant-loop-record l = record {
+abbrev pub invariant-loop-place : goal.invariant-loop-place
+invariant-loop-place l = record {
   ascending : AreAscending l.paths.items;
-  there : HasFirst l.paths.items l.records l.record-index;
+  there : HasFirst l.paths.items l.records l.place;
   only : (p : Path) → Contains l.paths.items p → Contains l.fn.paths.items p
-      ⊎ ((k : ℕ) × (k < l.record-index) × ((slice_index_or l.records k no_record).0 ≡ p));
-  few : length l.paths.items ≤ length l.fn.paths.items + l.record-index;
+      ⊎ ((k : ℕ) × (k < l.place) × ((slice_index_or l.records k no_record).0 ≡ p));
+  few : length l.paths.items ≤ length l.fn.paths.items + l.place;
 }

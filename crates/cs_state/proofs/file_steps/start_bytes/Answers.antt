@@ -5,6 +5,7 @@ use Rattle.cs_tree_model.specs.declared.record.Record.{Record}
 use Rattle.cs_tree_model.specs.Tree.{Path}
 use Rattle.cs_apm.specs.Atlases.{no_record}
 use Rattle.cs_apm.specs.States.{bytes_of}
+use Rattle.cs_apm.proofs.Fields.{read_at}
 use Rattle.cs_state.proofs.Filing.{made_bytes, start_bytes}
 use Rattle.cs_state.proofs.file_steps.start_bytes.Goals as goal
 
@@ -34,9 +35,11 @@ returns c =
     let inside : c.index.result.now < length c.records.result.now =
     subst (λ (es : List (Path × Record)). c.index.result.now < length es) (sym records)
     (subst (λ n. n < length trace.records) (sym place) (c.requires.each c.args.file low)) in
-    let entry : Path × Record = c.index-records-index.result in
+    let content = c.content-content.result.now in
+    let read =
+    read_at (λ (e : Path × Record). e.1.content) c.records.result.now c.index.result.now no_record content inside
+    c.content-content.ensures in
     lent_or c.bytes.result c.unwrap_or.result _ _ c.unwrap_or.ensures refl c.bytes.ensures
-    ∙ ap (λ (e : Path × Record). bytes_of e.1)
-    (sym c.index-records-index.is ∙ get_or_read c.records.result.now c.index.result.now entry inside c.index-records-index.is
-    no_record ∙ (λ i. get_or (records i) (place i) no_record))
+    ∙ ap (λ v. unwrap_or v []) (sym read)
+    ∙ (λ i. bytes_of (get_or (records i) (place i) no_record).1)
     ∙ start_bytes trace c.args._ops.now starts c.requires c.args.file low

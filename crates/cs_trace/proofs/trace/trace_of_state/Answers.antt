@@ -8,12 +8,12 @@ pub invariant_of-result : goal.invariant_of-result
 invariant_of-result c =
     let made = c.in_ok-lists.ensures in
     let lists = c.in_ok-lists.lists in
-    subst IsTrace (sym (same-trace (state_of c.args.state) c.args.state.file_count refl c.requires lists.records.items lists.nodes.items
+    subst IsTrace (sym (same-trace (state_of c.args.state) c.args.state.file_count refl c.requires lists.records lists.nodes.items
     lists.places.items made.records made.nodes made.places)) c.requires
 
 pub returns : goal.returns
 returns c =
     let made = c.in_ok-lists.ensures in
     let lists = c.in_ok-lists.lists in
-    same-trace (state_of c.args.state) c.args.state.file_count refl c.requires lists.records.items lists.nodes.items lists.places.items
+    same-trace (state_of c.args.state) c.args.state.file_count refl c.requires lists.records lists.nodes.items lists.places.items
     made.records made.nodes made.places

@@ -1,44 +1,8 @@
-use Rattle.std.proofs.Common.{◌≡◌, ◌≢◌, ◌∙◌, ℕ, refl, sym, ap, subst}
-use Rattle.std.specs.Prelude.{Err}
-use Rattle.cs_journal.specs.Runs.{PassOf, fresh_pass}
-use Rattle.cs_journal.specs.Steps.{StepResult}
 use Rattle.cs_permit.specs.declared.call.Call.TheVariants as called
-use Rattle.cs_shared_runs.specs.Answers.{IsStepOfServedRun}
-use Rattle.cs_shared_runs.specs.Locks.{Locked}
-use Rattle.cs_shared_runs.proofs.Telling.{another, refused, served_after, step_numbers, told}
+use Rattle.cs_shared_runs.proofs.Widening.{attach_of_server}
 use Rattle.cs_shared_runs.proofs.locked.Locked.attach.Goals as goal
-
-pub invariant_of-self-2 : goal.invariant_of-self-2
-invariant_of-self-2 g c =
-    served_after g.S.ServerBrand.serves c.self.inside.number c.new_pass.new.self c.step-answer.new.self c.in-Ok.pass c.step-answer.new.pass
-    c.args.now (called.Attach (record { user = c.args.user })) c.step-answer.result
-    (rw c.in-Ok.ensures.run c.self.invariant) c.step-answer.ensures.stepped
-
-pub returns-then-not-is_of-clause-answers : goal.returns-then-not-is_of-clause-answers
-returns-then-not-is_of-clause-answers g c =
-    let differs : c.self.inside.number ≢ c.args.number =
-    λ own. (let no = c.if-not-is_of.ensures.1 (sym (ap (λ (l : Locked). l.number) c.self.view_is) ∙ own) in cc) in
-    another g.S.ServerBrand.serves c.args.number c.self.inside.number c.self.inside.run c.self.invariant c.entries.ensures.legal
-    differs
-
-pub returns-in-Err-clause-answers : goal.returns-in-Err-clause-answers
-returns-in-Err-clause-answers g c =
-    refused g.S.ServerBrand.serves c.args.number c.self.inside.number c.self.inside.run c.self.invariant c.entries.ensures.legal
-    (ap (λ (l : Locked). l.number) c.self.view_is ∙ c.if-not-is_of.ensures.0 refl) c.in-Err.fault
-    (λ foreign. c.in-Err.ensures.own (ap Err foreign)) (λ room. c.in-Err.ensures.room.0 (ap Err room))
 
 pub returns-clause-answers : goal.returns-clause-answers
 returns-clause-answers g c =
-    let call = called.Attach (record { user = c.args.user }) in
-    let s = c.step-answer in
-    let numbers : s.new.pass.number ≡ c.in-Ok.pass.number =
-    ap (λ (x : StepResult). x.pass.number) s.ensures.stepped.1 ∙ step_numbers c.new_pass.new.self c.in-Ok.pass c.args.now call
-    s.ensures.stepped.0 in
-    let pass : c.in-Ok.pass ≡ fresh_pass s.new.pass.number =
-    c.in-Ok.ensures.pass ∙ ap fresh_pass (sym (numbers ∙ ap (λ (p : PassOf). p.number) c.in-Ok.ensures.pass)) in
-    let served =
-    subst (λ (n : ℕ). g.S.ServerBrand.serves n c.new_pass.new.self.fresh)
-    (ap (λ (l : Locked). l.number) c.self.view_is ∙ c.if-not-is_of.ensures.0 refl) (rw c.in-Ok.ensures.run c.self.invariant) in
-    subst (λ (p : PassOf). IsStepOfServedRun g.S.ServerBrand.serves c.args.number p c.args.now call s.result s.new.pass) pass
-    (told g.S.ServerBrand.serves c.args.number c.new_pass.new.self s.new.self c.in-Ok.pass s.new.pass c.args.now call s.result
-    served s.ensures.stepped c.entries-2.ensures.legal c.in-Ok.ensures.fits s.ensures.legal s.ensures.fits)
+    attach_of_server g.S.ServerBrand.serves c.self.inside.inside c.self.invariant c.args.number c.args.now
+    (called.Attach (record { user = c.args.user })) c.attach.result c.attach.ensures.answers

@@ -1,19 +1,7 @@
-use Rattle.std.proofs.Common.{◌≢◌, refl, ◌∙◌, sym, ap}
-use Rattle.cs_shared_runs.specs.Locks.{Locked}
-use Rattle.cs_shared_runs.proofs.Telling.{another, its_own}
+use Rattle.cs_shared_runs.proofs.Widening.{look_of_server}
 use Rattle.cs_shared_runs.proofs.locked.Locked.inspect.Goals as goal
 
-pub returns-then-not-is_of-clause-answers : goal.returns-then-not-is_of-clause-answers
-returns-then-not-is_of-clause-answers g c =
-    let differs : c.self.inside.number ≢ c.args.number =
-    λ own. (let no = c.if-not-is_of.ensures.1 (sym (ap (λ (l : Locked). l.number) c.self.view_is) ∙ own) in cc) in
-    another g.S.ServerBrand.serves c.args.number c.self.inside.number c.self.inside.run c.self.invariant c.entries.ensures.legal
-    differs
-
 pub returns-clause-answers : goal.returns-clause-answers
-returns-clause-answers g c = (
-  c.self.inside.run,
-  its_own g.S.ServerBrand.serves c.args.number c.self.inside.number c.self.inside.run c.self.invariant
-      c.entries.ensures.legal (ap (λ (l : Locked). l.number) c.self.view_is ∙ c.if-not-is_of.ensures.0 refl),
-  c.look.ensures,
-)
+returns-clause-answers g c =
+    look_of_server g.S.ServerBrand.serves c.self.inside.inside c.self.invariant c.args.number (g.K.Look.may_return c.args.look)
+    c.inspect.result c.inspect.ensures.answers

@@ -5,4 +5,7 @@ use Rattle.cs_trace.proofs.attributes.Directories.get.Goals as goal
 
 pub returns : goal.returns
 returns c =
-    c.get.ensures.value ∙ get-keyed c.self.inside.by_path.entries c.args.path.now ∙ ap (λ m. map.get m c.args.path.now) c.self.view_is
+    c.lend.ensures
+    ∙ c.get.ensures.value
+    ∙ get-keyed c.self.inside.by_path.entries c.args.path.now
+    ∙ ap (λ m. map.get m c.args.path.now) c.self.view_is

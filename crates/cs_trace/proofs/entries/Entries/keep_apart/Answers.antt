@@ -20,7 +20,8 @@ returns-then-has_below c =
 pub invariant_of-self-2 : goal.invariant_of-self-2
 invariant_of-self-2 c =
     elsewhere-none c.new.result c.put_back.new.by_path.entries
-    (ap (λ d. list_any (λ e. is_below d e.0) c.put_back.new.by_path.entries) (c.new.ensures.directory ∙ c.in_ok-try_clone.ensures)
+    (ap (λ d. list_any (λ e. is_below d e.0) c.put_back.new.by_path.entries)
+    (c.new.ensures.directory ∙ c.in_ok-try_clone.ensures ∙ sym c.path.ensures)
     ∙ sym c.has_below.ensures.value ∙ c.if-has_below.false)
 
 pub returns : goal.returns

@@ -1,7 +1,7 @@
 use Rattle.std.proofs.Common.{ap, sym, ◌∙◌}
 use Rattle.std.specs.FinMap as map
 use Rattle.cs_tree_model.specs.Maps.Texts.{by_bytes}
-use Rattle.cs_trace.specs.Siblings.{Siblings, entry_in}
+use Rattle.cs_trace.specs.Siblings.{Siblings}
 use Rattle.cs_trace.proofs.InDirectory.{get-at, get-elsewhere}
 use Rattle.cs_trace.proofs.Named.{find-text}
 use Rattle.cs_trace.proofs.siblings.Siblings.entry.Goals as goal
@@ -13,20 +13,11 @@ returns-in-None c =
     sym (get-elsewhere s.directory p (by_bytes s.by_name.entries) c.in-None.ensures.elsewhere)
     ∙ ap (λ (s : Siblings). map.get s.entries p) c.self.view_is
 
-pub returns-in-None-get : goal.returns-in-None-get
-returns-in-None-get c =
+pub returns-in-Some : goal.returns-in-Some
+returns-in-Some c =
     let s = c.self.inside in
     let p = c.args.path.now in
     let n = c.in-Some.name.now in
-    ap entry_in (c.in-None-get.ensures.value ∙ find-text s.by_name n)
-    ∙ sym (get-at s.directory p n (by_bytes s.by_name.entries) c.in-Some.ensures.there)
-    ∙ ap (λ (s : Siblings). map.get s.entries p) c.self.view_is
-
-pub returns-in-Some-get : goal.returns-in-Some-get
-returns-in-Some-get c =
-    let s = c.self.inside in
-    let p = c.args.path.now in
-    let n = c.in-Some.name.now in
-    ap entry_in (c.in-Some-get.ensures.value ∙ find-text s.by_name n)
+    c.get.ensures.value ∙ find-text s.by_name n
     ∙ sym (get-at s.directory p n (by_bytes s.by_name.entries) c.in-Some.ensures.there)
     ∙ ap (λ (s : Siblings). map.get s.entries p) c.self.view_is

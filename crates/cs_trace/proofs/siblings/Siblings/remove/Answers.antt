@@ -1,17 +1,17 @@
 use Rattle.std.proofs.Common.{ap, subst, sym, ◌∙◌}
 use Rattle.std.specs.FinMap as map
 use Rattle.cs_tree_model.specs.Maps.Texts.{by_bytes}
-use Rattle.cs_trace.specs.Siblings.{AreWithPaths, Siblings, entry_in}
+use Rattle.cs_trace.specs.Siblings.{HaveLegalNames, Siblings}
 use Rattle.cs_trace.proofs.InDirectory.{get-at, get-elsewhere, whole-remove}
-use Rattle.cs_trace.proofs.Named.{find-removed, find-text, with_paths-remove}
+use Rattle.cs_trace.proofs.Named.{find-removed, find-text, names-remove}
 use Rattle.cs_trace.proofs.Unions.{remove-absent}
 use Rattle.cs_trace.proofs.siblings.Siblings.remove.Goals as goal
 
 pub invariant_of-self : goal.invariant_of-self
 invariant_of-self c =
     let s = c.self.inside in
-    subst (λ es. AreWithPaths s.directory (by_bytes es)) (sym c.remove.ensures.entries)
-    (with_paths-remove s.directory _ s.by_name.entries c.self.invariant)
+    subst (λ es. HaveLegalNames (by_bytes es)) (sym c.remove.ensures.entries)
+    (names-remove _ s.by_name.entries c.self.invariant)
 
 pub returns-in-None-clause-entry : goal.returns-in-None-clause-entry
 returns-in-None-clause-entry c =
@@ -24,8 +24,7 @@ pub returns-in-Some-clause-entry : goal.returns-in-Some-clause-entry
 returns-in-Some-clause-entry c =
     let s = c.self.inside in
     let p = c.args.path.now in
-    c.entry_in.ensures
-    ∙ ap entry_in (c.remove.ensures.value ∙ find-text s.by_name c.in-Some.name.now)
+    c.remove.ensures.value ∙ find-text s.by_name c.in-Some.name.now
     ∙ sym (get-at s.directory p c.in-Some.name.now (by_bytes s.by_name.entries) c.in-Some.ensures.there)
     ∙ ap (λ (s : Siblings). map.get s.entries p) c.self.view_is
 

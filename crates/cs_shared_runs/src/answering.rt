@@ -1,0 +1,55 @@
+//! The only source of an answer of a shared run.
+ghost use Rattle.cs_permit.specs.declared.call.Call.TheVariants as called;
+ghost use Rattle.cs_run.specs.Laws.{FitsCall};
+ghost use Rattle.cs_shared_runs.specs.Answers.{GivesAnswer, GivesAttach, IsAnswerOf, IsAttachOf};
+ghost use Rattle.cs_shared_runs.specs.Locks.{IsTreeOf, KeepsTree, LockedAttaches, LockedCalls};
+
+use crate::locked::NumberedRun;
+use cs_journal::Pass;
+use cs_names::Text;
+use cs_permit::{Call, PassFault};
+use cs_run::Answer;
+use std::alloc::Global;
+
+/// Answers the calls on the runs of a server. In code over any server, an answer is known to be
+/// `answered` or `attached` only if a function below gave it; each takes the run, which is under
+/// its lock. So no such code can answer without the lock.
+pub trait AnswersCalls {
+    /// The answers that `answer` gave.
+    ghost answered: { GivesAnswer };
+
+    /// The results that `attach` gave.
+    ghost attached: { GivesAttach };
+
+    /// Does a call under a pass, as `NumberedRun::call` does.
+    fn answer(
+        run: &mut NumberedRun,
+        alloc: Global,
+        number: u32,
+        pass: &mut Pass,
+        now: u32,
+        call: Call<'_>,
+    ) -> Answer
+        ensures source { answered number pass.old now call.entry result pass.new }
+        ensures calls { LockedCalls run.old number pass.old now call.entry result
+            run.new pass.new }
+        ensures answers { IsAnswerOf (IsTreeOf run.old) number pass.old now call.entry result
+            pass.new }
+        ensures keeps { KeepsTree run.old run.new }
+        ensures fits { FitsCall call.entry result };
+
+    /// Attaches a user under a new pass, as `NumberedRun::attach` does.
+    fn attach(
+        run: &mut NumberedRun,
+        alloc: Global,
+        number: u32,
+        now: u32,
+        user: Text,
+    ) -> Result<(Pass, Answer), PassFault>
+        ensures source { attached number now (called.Attach (record { user = user })) result }
+        ensures attaches { LockedAttaches run.old number now
+            (called.Attach (record { user = user })) result run.new }
+        ensures answers { IsAttachOf (IsTreeOf run.old) number now
+            (called.Attach (record { user = user })) result }
+        ensures keeps { KeepsTree run.old run.new };
+}
