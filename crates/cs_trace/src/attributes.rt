@@ -8,7 +8,7 @@ ghost use Rattle.cs_trace.specs.Attributes.{with_directory, with_file};
 ghost use Rattle.cs_trace.specs.Kept.{attributes_of, with_node};
 
 use crate::operation::{Node, Operation, Rights, Target};
-use crate::shared_rights::SharedRights;
+use crate::shared::Shared;
 use cs_names::Path;
 use std::alloc::{AllocError, Global};
 use std::collections::BTreeMap;
@@ -18,14 +18,14 @@ use std::marker::Model;
 /// the order of paths.
 #[derive(Drop)]
 pub(crate) struct Directories {
-    by_path: BTreeMap<Path, SharedRights>,
+    by_path: BTreeMap<Path, Shared<Rights>>,
 }
 
 /// Owner, group and permissions of each file and of each directory.
 #[derive(Drop)]
 pub(crate) struct Attributes {
     /// Each file's, by its number.
-    pub(crate) files: Vec<SharedRights>,
+    pub(crate) files: Vec<Shared<Rights>>,
     /// Each directory's, by its path.
     pub(crate) directories: Directories,
 }
@@ -42,7 +42,7 @@ impl Model for Directories {
 }
 
 /// The rights themselves, if there are some.
-fn lend(shared: Option<&SharedRights>) -> Option<&Rights>
+fn lend(shared: Option<&Shared<Rights>>) -> Option<&Rights>
     ensures { option_map (λ rights. rights.now) result
         ≡ option_map (λ shared. shared.now) shared.entry }
 {
@@ -71,7 +71,7 @@ impl Directories {
     }
 
     /// Sets the rights of the directory at the path, in place of any that were there.
-    fn insert(&mut self, path: Path, rights: SharedRights) -> Result<(), AllocError>
+    fn insert(&mut self, path: Path, rights: Shared<Rights>) -> Result<(), AllocError>
         ensures { OnOk result (self.new ≡ map.insert self.old path rights) }
     {
         self.by_path.insert(path, rights)?;
@@ -81,7 +81,7 @@ impl Directories {
 
 /// Sets the rights of the file of that number. If there is no such file, nothing changes;
 /// operations that were checked name only files that there are.
-fn set_file(files: &mut [SharedRights], file: u32, rights: SharedRights)
+fn set_file(files: &mut [Shared<Rights>], file: u32, rights: Shared<Rights>)
     ensures { files.new ≡ slice_set files.old file rights }
 {
     let place = file as usize;
@@ -102,7 +102,7 @@ impl Attributes {
     }
 
     /// Adds the rights of a file, which gets the next number.
-    fn add_file(&mut self, rights: SharedRights) -> Result<(), AllocError>
+    fn add_file(&mut self, rights: Shared<Rights>) -> Result<(), AllocError>
         ensures { OnOk result (attributes_of self.new ≡ with_file (attributes_of self.old) rights) }
     {
         self.files.push(rights)?;
@@ -110,7 +110,7 @@ impl Attributes {
     }
 
     /// Sets the rights of the directory at the path (`Directories::insert`).
-    fn set_directory(&mut self, path: Path, rights: SharedRights) -> Result<(), AllocError>
+    fn set_directory(&mut self, path: Path, rights: Shared<Rights>) -> Result<(), AllocError>
         ensures { OnOk result
             (attributes_of self.new ≡ with_directory (attributes_of self.old) path rights) }
     {
@@ -124,7 +124,7 @@ impl Attributes {
         alloc: Global,
         node: Node,
         path: &Path,
-        rights: &SharedRights,
+        rights: &Shared<Rights>,
     ) -> Result<(), AllocError>
         ensures { OnOk result (attributes_of self.new
             ≡ with_node (attributes_of self.old) node path.now rights.now) }
@@ -154,7 +154,7 @@ impl Attributes {
     pub(crate) fn change(
         &mut self,
         alloc: Global,
-        last: &mut Option<SharedRights>,
+        last: &mut Option<Shared<Rights>>,
         operation: &Operation,
     ) -> Result<(), AllocError>
         ensures { OnOk result (attributes_of self.new
@@ -162,20 +162,20 @@ impl Attributes {
     {
         match operation {
             Operation::Creat { rights, .. } => {
-                self.add_file(SharedRights::of_rights(alloc, last, rights)?)
+                self.add_file(Shared::of_rights(alloc, last, rights)?)
             }
             Operation::Mkdir { path, rights } => {
-                let rights = SharedRights::of_rights(alloc, last, rights)?;
+                let rights = Shared::of_rights(alloc, last, rights)?;
                 self.set_directory(path.try_clone(alloc)?, rights)
             }
             Operation::SetAttr { target, after, .. } => match target {
                 Target::File(file) => {
-                    let after = SharedRights::of_rights(alloc, last, after)?;
+                    let after = Shared::of_rights(alloc, last, after)?;
                     set_file(&mut self.files, *file, after);
                     Ok(())
                 }
                 Target::Directory(path) => {
-                    let after = SharedRights::of_rights(alloc, last, after)?;
+                    let after = Shared::of_rights(alloc, last, after)?;
                     self.set_directory(path.try_clone(alloc)?, after)
                 }
             },

@@ -4,10 +4,10 @@ ghost use Rattle.cs_tree_model.specs.Fresh.{fresh_record};
 ghost use Rattle.cs_tree_model.specs.Record.{metadata_of, metadata_of_ref};
 ghost use Rattle.cs_trace.specs.Entries.{file_mode, node_of, record_of};
 
-use crate::operation::Node;
-use crate::shared_rights::SharedRights;
+use crate::operation::{Node, Rights};
+use crate::shared::Shared;
 use cs_tree_model::{Content, DMDIR, Kind, Metadata};
-use std::alloc::{AllocError, Global};
+use std::alloc::AllocError;
 
 /// A file or a directory at the start, without its path.
 #[derive(Debug, Drop)]
@@ -16,8 +16,8 @@ pub(crate) struct StartEntry {
     pub(crate) number: u32,
     /// Whether a file was made at this path; further paths of it have entries that are copies.
     pub(crate) own: bool,
-    pub(crate) rights: SharedRights,
-    pub(crate) content: Content,
+    pub(crate) rights: Shared<Rights>,
+    pub(crate) content: Shared<Content>,
 }
 
 /// The mode of a record: the permissions, and above them the bit DMDIR for a directory.
@@ -35,21 +35,21 @@ impl StartEntry {
     pub(crate) fn node(&self) -> Node
         ensures { result ≡ node_of self.now }
     {
-        match self.content.kind() {
+        match self.content.get().kind() {
             Kind::Directory => Node::Directory,
             Kind::File { .. } => Node::File(self.number),
         }
     }
 
-    /// A copy of the entry, for another path of its file.
-    pub(crate) fn try_clone(&self, alloc: Global) -> Result<StartEntry, AllocError>
+    /// The entry for another path of its file. It shares the rights and the content.
+    pub(crate) fn try_clone(&self) -> Result<StartEntry, AllocError>
         ensures { IfOk result (λ copy. copy ≡ record self.now { own = false }) }
     {
         Ok(StartEntry {
             number: self.number,
             own: false,
             rights: self.rights.try_clone()?,
-            content: self.content.try_clone(alloc)?,
+            content: self.content.try_clone()?,
         })
     }
 
@@ -60,16 +60,17 @@ impl StartEntry {
             ≡ metadata_of (fresh_record number (record_of self.now)) }
     {
         let rights = self.rights.get();
+        let content = self.content.get();
         Metadata {
             number,
             vers: 0,
             owner: &rights.owner,
             group: &rights.group,
-            mode: file_mode(&self.content, rights.permissions),
+            mode: file_mode(content, rights.permissions),
             atime: 0,
             mtime: 0,
             muid: &rights.owner,
-            kind: self.content.kind(),
+            kind: content.kind(),
         }
     }
 
@@ -77,6 +78,6 @@ impl StartEntry {
     pub(crate) fn has_same_record(&self, other: &StartEntry) -> bool
         ensures { IsTrue result ↔ (record_of self.now ≡ record_of other.now) }
     {
-        self.rights.get() == other.rights.get() && self.content == other.content
+        self.rights.get() == other.rights.get() && self.content.get() == other.content.get()
     }
 }

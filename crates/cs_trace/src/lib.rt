@@ -16,6 +16,7 @@ mod path_text;
 mod placed;
 mod put_start;
 mod resolve;
+mod shared;
 mod shared_rights;
 mod siblings;
 mod start;

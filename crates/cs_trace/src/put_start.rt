@@ -79,7 +79,7 @@ pub(crate) fn put_entry(
     ensures nodes { OnOk result (state.new.tree.nodes
         ≡ map.insert state.old.tree.nodes path (node_of entry)) }
 {
-    add_size(&mut state.sizes, &mut state.file_count, &entry.content)?;
+    add_size(&mut state.sizes, &mut state.file_count, entry.content.get())?;
     add_attributes(alloc, state.version, &mut state.attributes, &path, &entry)?;
     let replaced = state.tree.insert_start(alloc, path, entry)?;
     state.made += 1;
@@ -126,7 +126,7 @@ pub(crate) fn put_spelled(
     ensures nodes { OnOk result (state.new.tree.nodes
         ≡ map.insert state.old.tree.nodes path.now (node_of entry)) }
 {
-    add_size(&mut state.sizes, &mut state.file_count, &entry.content)?;
+    add_size(&mut state.sizes, &mut state.file_count, entry.content.get())?;
     add_spelled_attributes(alloc, state.version, &mut state.attributes, path, &entry)?;
     let replaced = state.tree.insert_start_spelled(alloc, path, entry)?;
     state.made += 1;

@@ -6,25 +6,9 @@ ghost use Rattle.cs_trace_lines.specs.Said.{claims_of};
 
 use crate::fault::TraceFaultKind;
 use crate::operation::Rights;
+use crate::shared::Shared;
 use cs_trace_lines::Claims;
 use std::alloc::{AllocError, Global};
-use std::marker::Model;
-use std::sync::Arc;
-
-/// Rights that several entries may share. Contracts see the rights.
-#[derive(Debug, Drop)]
-pub(crate) struct SharedRights {
-    rights: Arc<Rights>,
-}
-
-impl Model for SharedRights {
-    ghost use Rattle.std.specs.Arc.{arc_value};
-    ghost use Rattle.cs_trace.specs.declared.operation.Rights.{Rights};
-
-    ghost Value = { Rights };
-
-    ghost view = { λ shared. arc_value shared.rights };
-}
 
 /// Whether the claims are these rights. Names are only compared: those of rights are legal.
 fn are_claimed(rights: &Rights, claims: &Claims) -> bool
@@ -35,23 +19,15 @@ fn are_claimed(rights: &Rights, claims: &Claims) -> bool
         && rights.group.as_str() == claims.group.as_str()
 }
 
-impl SharedRights {
-    /// Rights that may be shared.
-    pub(crate) fn new(alloc: Global, rights: Rights) -> Result<SharedRights, AllocError>
-        ensures { IfOk result (λ shared. shared ≡ rights) }
-    {
-        let rights = Arc::new(alloc, rights)?;
-        Ok(SharedRights { rights })
-    }
-
+impl Shared<Rights> {
     /// The rights that a line claims. If they are those of `last`, the line before, the two share
     /// them. `last` becomes the rights of this line. An owner or a group that isn't legal is
     /// BadName.
     pub(crate) fn of_claims(
         alloc: Global,
-        last: &mut Option<SharedRights>,
+        last: &mut Option<Shared<Rights>>,
         claims: Claims,
-    ) -> Result<SharedRights, TraceFaultKind>
+    ) -> Result<Shared<Rights>, TraceFaultKind>
         ensures { Gives (rights_in (claims_of claims)) result IsOk }
     {
         if let Some(shared) = last {
@@ -60,7 +36,7 @@ impl SharedRights {
             }
         }
         let rights = Rights::of_claims(claims)?;
-        let shared = SharedRights::new(alloc, rights)?;
+        let shared = Shared::new(alloc, rights)?;
         *last = Some(shared.try_clone()?);
         Ok(shared)
     }
@@ -69,9 +45,9 @@ impl SharedRights {
     /// else a copy, which become the last rights.
     pub(crate) fn of_rights(
         alloc: Global,
-        last: &mut Option<SharedRights>,
+        last: &mut Option<Shared<Rights>>,
         rights: &Rights,
-    ) -> Result<SharedRights, AllocError>
+    ) -> Result<Shared<Rights>, AllocError>
         ensures { IfOk result (λ shared. shared ≡ rights.now) }
     {
         if let Some(shared) = last {
@@ -79,23 +55,8 @@ impl SharedRights {
                 return shared.try_clone();
             }
         }
-        let shared = SharedRights::new(alloc, rights.try_clone()?)?;
+        let shared = Shared::new(alloc, rights.try_clone()?)?;
         *last = Some(shared.try_clone()?);
         Ok(shared)
-    }
-
-    /// The rights, lent.
-    pub(crate) fn get(&self) -> &Rights
-        ensures { result.now ≡ self.now }
-    {
-        &self.rights
-    }
-
-    /// The same rights, for one more entry. They aren't copied.
-    pub(crate) fn try_clone(&self) -> Result<SharedRights, AllocError>
-        ensures { IfOk result (λ shared. shared ≡ self.now) }
-    {
-        let rights = Arc::try_clone(&self.rights)?;
-        Ok(SharedRights { rights })
     }
 }

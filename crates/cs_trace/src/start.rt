@@ -22,17 +22,17 @@ use crate::entry::StartEntry;
 use crate::fault::TraceFaultKind;
 use crate::judge::{check_free, is_over_limits};
 use crate::last_directory::LastDirectory;
-use crate::operation::Node;
+use crate::operation::{Node, Rights};
 use crate::path_text::{PathText, entry_path};
 use crate::put_start::{put_entry, put_link, put_spelled};
-use crate::shared_rights::SharedRights;
+use crate::shared::Shared;
 use crate::state::LinesSoFar;
 use crate::tree::Tree;
 use cs_names::Path;
 use cs_names::limits::FILE_BYTES;
 use cs_trace_lines::{Claims, StartLine, Version};
 use cs_tree_model::{Content, Kind};
-use std::alloc::Global;
+use std::alloc::{AllocError, Global};
 
 /// How many bytes a file with this content has; 0 for a directory, whose content is None.
 fn size_of(content: &Option<Vec<u8>>) -> u64
@@ -46,25 +46,30 @@ fn size_of(content: &Option<Vec<u8>>) -> u64
 
 /// The entry of a new file with this content and the next number, or of a new directory if the
 /// content is None.
-fn new_entry(state: &LinesSoFar, rights: SharedRights, content: Option<Vec<u8>>) -> StartEntry
+fn new_entry(
+    alloc: Global,
+    state: &LinesSoFar,
+    rights: Shared<Rights>,
+    content: Option<Vec<u8>>,
+) -> Result<StartEntry, AllocError>
     requires { length state.now.sizes.items < 2 ^ 32 }
-    ensures { result ≡ entry_for (state_of state.now)
-        (claims_by rights) (option_map (λ bytes. bytes.items) content) }
+    ensures { IfOk result (λ entry. entry ≡ entry_for (state_of state.now)
+        (claims_by rights) (option_map (λ bytes. bytes.items) content)) }
 {
-    match content {
+    Ok(match content {
         None => StartEntry {
             number: 0,
             own: false,
             rights,
-            content: Content::directory(),
+            content: Shared::new(alloc, Content::directory())?,
         },
         Some(bytes) => StartEntry {
             number: state.sizes.len() as u32,
             own: true,
             rights,
-            content: Content::file(bytes),
+            content: Shared::new(alloc, Content::file(bytes))?,
         },
-    }
+    })
 }
 
 /// The directory of a new entry at the path, which `text` spells. As in `check_free`, nothing at
@@ -108,7 +113,7 @@ fn add_entry_in(
     path: Path,
     names: usize,
     above: LastDirectory,
-    rights: SharedRights,
+    rights: Shared<Rights>,
     content: Option<Vec<u8>>,
 ) -> Result<(), TraceFaultKind>
     requires bounded { IsBounded (state_of state.old) }
@@ -127,7 +132,7 @@ fn add_entry_in(
             Some(_) => TraceFaultKind::Exists,
         });
     }
-    let entry = new_entry(state, rights, content);
+    let entry = new_entry(alloc, state, rights, content)?;
     let replaced = put_entry(alloc, state, path, entry)?;
     if replaced {
         return Err(TraceFaultKind::Exists);
@@ -144,7 +149,7 @@ fn add_sibling(
     state: &mut LinesSoFar,
     path: &PathText<'_>,
     above: LastDirectory,
-    rights: SharedRights,
+    rights: Shared<Rights>,
     content: Option<Vec<u8>>,
 ) -> Result<(), TraceFaultKind>
     requires bounded { IsBounded (state_of state.old) }
@@ -163,7 +168,7 @@ fn add_sibling(
             Some(_) => TraceFaultKind::Exists,
         });
     }
-    let entry = new_entry(state, rights, content);
+    let entry = new_entry(alloc, state, rights, content)?;
     let replaced = put_spelled(alloc, state, path, entry)?;
     if replaced {
         return Err(TraceFaultKind::Exists);
@@ -193,7 +198,7 @@ fn add_entry(
     alloc: Global,
     state: &mut LinesSoFar,
     text: &PathText<'_>,
-    rights: SharedRights,
+    rights: Shared<Rights>,
     content: Option<Vec<u8>>,
 ) -> Result<(), TraceFaultKind>
     requires bounded { IsBounded (state_of state.old) }
@@ -230,7 +235,7 @@ pub(crate) fn apply_start(
         content,
     } = line;
     let text = start_path(&state.tree, &path)?;
-    let rights = SharedRights::of_claims(alloc, &mut state.last_rights, claims)?;
+    let rights = Shared::of_claims(alloc, &mut state.last_rights, claims)?;
     add_entry(alloc, state, &text, rights, content)
 }
 
@@ -245,7 +250,7 @@ fn start_file<'a>(tree: &'a Tree, path: &Path) -> Result<&'a StartEntry, TraceFa
     let Some(entry) = tree.start_entry(path) else {
         return Err(TraceFaultKind::Missing);
     };
-    match entry.content.kind() {
+    match entry.content.get().kind() {
         Kind::Directory => Err(TraceFaultKind::NotFile),
         Kind::File { .. } => Ok(entry),
     }
@@ -275,7 +280,7 @@ fn add_link(
     if is_over_limits(state.made, path.names().len()) {
         return Err(TraceFaultKind::TooLarge);
     }
-    let entry = entry.try_clone(alloc)?;
+    let entry = entry.try_clone()?;
     put_link(alloc, state, path, entry)?;
     Ok(())
 }
@@ -315,9 +320,9 @@ pub(crate) fn apply_header(
         (first_step (state_of state.old) (Header version (claims_of claims)))
         result (state_of state.new) IsOk }
 {
-    let rights = SharedRights::of_claims(alloc, &mut state.last_rights, claims)?;
+    let rights = Shared::of_claims(alloc, &mut state.last_rights, claims)?;
     state.version = version;
-    let root = new_entry(state, rights, None);
+    let root = new_entry(alloc, state, rights, None)?;
     // The header is the first line, so the root replaces nothing.
     put_entry(alloc, state, Path::root(alloc), root)?;
     Ok(())

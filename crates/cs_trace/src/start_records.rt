@@ -190,7 +190,7 @@ impl Start {
         ensures { option_map (λ e. e.1.content) (slice_get self.now place) ≡ Some result.now }
     {
         let (_, _, entry) = self.entry(place);
-        &entry.content
+        entry.content.get()
     }
 
     /// Whether the path at this place is that at a place of the other start. It takes no memory.

@@ -9,8 +9,8 @@ ghost use Rattle.cs_trace.specs.Operations.{made_by, paths_after, sizes_after, w
 ghost use Rattle.cs_trace.specs.States.{empty_state, after_operation};
 
 use crate::attributes::Attributes;
-use crate::operation::{Node, Operation};
-use crate::shared_rights::SharedRights;
+use crate::operation::{Node, Operation, Rights};
+use crate::shared::Shared;
 use crate::tree::Tree;
 use cs_names::{Bytes, Path};
 use cs_trace_lines::Version;
@@ -32,7 +32,7 @@ pub(crate) struct LinesSoFar {
     /// How many records were ever made, with those that were removed.
     pub(crate) made: usize,
     /// The rights of the last line that has some, which the next such line may share.
-    pub(crate) last_rights: Option<SharedRights>,
+    pub(crate) last_rights: Option<Shared<Rights>>,
     /// Owner, group and permissions of each file and directory, if the version has chmod and chown.
     pub(crate) attributes: Attributes,
     /// The operations, in the order of their lines.

@@ -1,7 +1,7 @@
-use Rattle.std.proofs.Common.{◌≡◌, ◌+◌, None, refl, sym, ◌∙◌}
+use Rattle.std.proofs.Common.{◌≡◌, ◌+◌, None, refl, ap, sym, ◌∙◌}
 use Rattle.std.specs.FinMap as map
 use Rattle.cs_trace.specs.Kept.{state_of}
-use Rattle.cs_trace.specs.Owned.{own_paths}
+use Rattle.cs_trace.specs.Owned.{count_with, own_paths, sizes_with}
 use Rattle.cs_trace.proofs.Starting.{nothing, put-entry}
 use Rattle.cs_trace.proofs.put_start.put_entry.Goals as goal
 
@@ -9,11 +9,13 @@ pub returns-clause-state : goal.returns-clause-state
 returns-clause-state c = λ kept.
     let s = state_of c.args.state.now in
     let free : map.get s.paths c.args.path ≡ None = nothing _ (sym c.in_ok-replaced.ensures.replaced ∙ kept) in
+    let count = c.in_ok-add_size.ensures.count ∙ ap (count_with c.args.state.now.file_count s.sizes) c.get.ensures in
+    let sizes = c.in_ok-add_size.ensures.sizes ∙ ap (sizes_with s.sizes) c.get.ensures in
     (λ i. record s {
       start = (c.in_ok-replaced.ensures.state i).start;
-      files = own_paths (c.in_ok-replaced.ensures.state i).start (c.in_ok-add_size.ensures.count i);
+      files = own_paths (c.in_ok-replaced.ensures.state i).start (count i);
       paths = (c.in_ok-replaced.ensures.state i).nodes;
-      sizes = c.in_ok-add_size.ensures.sizes i;
+      sizes = sizes i;
       made = s.made + 1;
       attributes = c.in_ok-add_attributes.ensures i;
     })

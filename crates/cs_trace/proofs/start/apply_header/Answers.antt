@@ -19,7 +19,7 @@ returns c =
     ap is_some (nothing-first s c.requires.bounded c.requires.first c.root.result) in
     let put = c.in_ok-put_entry.ensures.state (c.in_ok-put_entry.ensures.replaced ∙ free) in
     let named : are_user_names claims ≡ true = legal_claims claims _ c.in_ok-rights.ensures in
-    let entry = c.new_entry-root.ensures ∙ ap (λ k. entry_for begun k None) (sym (same_claims claims _ c.in_ok-rights.ensures)) in
+    let entry = c.in_ok-root.ensures ∙ ap (λ k. entry_for begun k None) (sym (same_claims claims _ c.in_ok-rights.ensures)) in
     rw named (ap Ok (sym (put ∙ (λ i. with_entry begun (c.root.ensures i) (entry i) (entry i).content))))
 
 pub returns-in_err-rights : goal.returns-in_err-rights
