@@ -5,6 +5,7 @@ mod fixture;
 mod line_ends;
 mod linux;
 mod loopback;
+mod meanwhile;
 mod printing;
 mod refusals;
 mod reloads;
