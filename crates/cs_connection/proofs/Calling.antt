@@ -10,18 +10,18 @@ use Rattle.cs_registry.specs.Keys.{Key}
 use Rattle.cs_run.specs.declared.answer.Answer.{Answer}
 use Rattle.cs_run.specs.declared.answer.Answer.TheVariants.{Denied}
 use Rattle.cs_shared_runs.specs.Serving.{HasTree}
-use Rattle.cs_shared_runs.specs.Answers.{IsAnswerOf}
+use Rattle.cs_shared_runs.specs.Answers.{GivesAnswer, GivesAttach, IsAnswerOf}
 use Rattle.cs_connection.specs.declared.kept.GivenPass.{GivenPass}
 use Rattle.cs_connection.specs.Asking.{KeptCalls}
 use Rattle.cs_connection.specs.Kept.{AreInside, given_by}
 
-module _ (serves : HasTree) (runs : List Key) (passes : List GivenPass) (run place : ℕ) (given : GivenPass) (low : place < length passes)
-    (at : given ≡ get_or passes place given) where
+module _ (serves : HasTree) (answered : GivesAnswer) (attached : GivesAttach) (runs : List Key) (passes : List GivenPass) (run place : ℕ)
+    (given : GivenPass) (low : place < length passes) (at : given ≡ get_or passes place given) where
   there : slice_get passes place ≡ Some given
   there = slice_get-get_or passes place given low ∙ ap Some (sym at)
 
   -- a pass of another run
-  pub stray : (now : ℕ) (call : Call) → (given.run ≡ run → ⊥) → KeptCalls serves (record {
+  pub stray : (now : ℕ) (call : Call) → (given.run ≡ run → ⊥) → KeptCalls serves answered attached (record {
     runs = runs;
     passes = passes;
   }) now run place call (Denied S5) (record { runs = runs; passes = slice_set passes place given })
@@ -38,12 +38,12 @@ module _ (serves : HasTree) (runs : List Key) (passes : List GivenPass) (run pla
 
   -- one of this run
   pub called : AreInside runs passes → (key : Key) (number : ℕ) → key ≡ get_or runs run key → number ≡ key.number → given.run ≡ run
-      → (now : ℕ) (call : Call) (answer : Answer) (pass : PassOf) → IsAnswerOf serves number given.pass now call answer pass
-      → KeptCalls serves (record {
+      → (now : ℕ) (call : Call) (answer : Answer) (pass : PassOf) → answered number given.pass now call answer pass
+      → IsAnswerOf serves number given.pass now call answer pass → KeptCalls serves answered attached (record {
         runs = runs;
         passes = passes;
       }) now run place call answer (record { runs = runs; passes = slice_set passes place (given_by given.run pass) })
-  called inside key number key_is number_is own now call answer pass told =
+  called inside key number key_is number_is own now call answer pass source told =
       let low_run : run < length runs =
       subst (λ (n : ℕ). n < length runs) (ap (λ (x : GivenPass). x.run) (sym at) ∙ own) (inside place given low) in
       inl (record {
@@ -52,6 +52,7 @@ module _ (serves : HasTree) (runs : List Key) (passes : List GivenPass) (run pla
         pass = pass;
         run_is = slice_get-get_or runs run key low_run ∙ ap Some (sym key_is);
         pass_is = there ∙ ap (λ (n : ℕ). Some (given_by n given.pass)) own;
+        source = subst (λ (n : ℕ). answered n given.pass now call answer pass) number_is source;
         told = subst (λ (n : ℕ). IsAnswerOf serves n given.pass now call answer pass) number_is told;
         kept = ap (λ (n : ℕ). record { runs = runs; passes = slice_set passes place (given_by n pass) }) own;
       })

@@ -17,7 +17,7 @@ use Rattle.cs_run.specs.declared.answer.Answer.TheVariants.{Denied}
 use Rattle.cs_session.specs.Questions.{Question, FindRun, AttachTo, CallOn}
 use Rattle.cs_session.specs.Questions.{PortAnswer, FindAnswer, AttachAnswer, CallAnswer}
 use Rattle.cs_shared_runs.specs.Serving.{HasTree}
-use Rattle.cs_shared_runs.specs.Answers.{IsStepOfServedRun, IsAnswerOf}
+use Rattle.cs_shared_runs.specs.Answers.{GivesAnswer, GivesAttach, IsStepOfServedRun, IsAnswerOf}
 use Rattle.cs_connection.specs.Kept.{FoundRuns, given_by, kept_with_pass, put_pass, with_run}
 
 -- the run of that key is found, and comes last among those kept. Else nothing changes; the fault is
@@ -27,13 +27,15 @@ KeptFinds old None answer new = (answer ≡ Err Unpublished) × (new ≡ old)
 KeptFinds old (Some key) (Ok place) new = (place ≡ length old.runs) × (new ≡ with_run old key)
 KeptFinds old (Some key) (Err fault) new = new ≡ old
 
-module _ (serves : HasTree) where
+module _ (serves : HasTree) (answered : GivesAnswer) (attached : GivesAttach) where
   -- A user is attached under a new pass: the run of the key gave the answer, and the pass comes
   -- last.
   pub record IsAttached (old : FoundRuns) (now place : ℕ) (call : AttachCall) (key : Key)
       (pass_place : ℕ) (answer : Answer) (new : FoundRuns) : Type 0 where
     pub pass : PassOf
     pub place_is : pass_place ≡ length old.passes
+    -- only the attach to the run under its lock gives this
+    pub source : attached key.number now (Attach call) (Ok (pass, answer))
     pub told :
         IsStepOfServedRun serves key.number (fresh_pass pass.number) now (Attach call) answer pass
     pub kept : new ≡ kept_with_pass old place pass
@@ -54,6 +56,8 @@ module _ (serves : HasTree) where
     pub pass : PassOf
     pub run_is : slice_get old.runs place ≡ Some key
     pub pass_is : slice_get old.passes pass_place ≡ Some (given_by place before)
+    -- only the call on the run under its lock gives this
+    pub source : answered key.number before now call answer pass
     pub told : IsAnswerOf serves key.number before now call answer pass
     pub kept : new ≡ put_pass old pass_place place pass
 

@@ -29,7 +29,7 @@ impl<S: ServerBrand> Model for Connection<S> {
 
     ghost view = { λ c. record { result = c.result; kept = c.kept } };
 
-    ghost invariant = { λ c. model.HasEnded S.serves
+    ghost invariant = { λ c. model.HasEnded S.serves S.answered S.attached
         (record { result = c.result; kept = c.kept }) };
 }
 
@@ -49,7 +49,7 @@ impl<S: ServerBrand> Connection<S> {
     /// the fault.
     pub fn result(&self) -> Result<(), ServeFault>
         ensures value { result ≡ self.now.result }
-        ensures ended { HasEnded S.serves self.now }
+        ensures ended { HasEnded S.serves S.answered S.attached self.now }
     {
         self.result
     }
@@ -80,8 +80,9 @@ pub fn serve_connection<S: ServerBrand, R: Wait, T: Stream, C: Clock>(
     stream: &mut T,
     clock: &mut C,
 ) -> Connection<S>
-    ensures serves { ConversationOf S.serves result (T.remaining stream.old)
-        (T.remaining stream.new) (T.contents stream.old) (T.contents stream.new) }
+    ensures serves { ConversationOf S.serves S.answered S.attached result
+        (T.remaining stream.old) (T.remaining stream.new)
+        (T.contents stream.old) (T.contents stream.new) }
     ensures faults { FaultsHaveCauses result.result (T.counts stream.old) (T.counts stream.new) }
 {
     let mut port = SharedPort::new(rt, alloc, server.registry());

@@ -56,7 +56,8 @@ impl<'r, S: ServerBrand, R: Wait> SharedPort<'r, S, R> {
 impl<'r, S: ServerBrand, R: Wait> Port for SharedPort<'r, S, R> {
     ghost use Rattle.cs_connection.specs.Asking.{Gives};
 
-    ghost gives = { λ old question answer new. Gives S.serves old question answer new };
+    ghost gives = { λ old question answer new. Gives S.serves S.answered S.attached
+        old question answer new };
 
     /// Finds the run of that name in the registry, keeps it, and returns its place. The error is
     /// Unpublished if the name can't be a run's, Full if the port has 2^32 runs already, Memory if
