@@ -16,13 +16,12 @@ MAY_BE_LONG = re.compile(r'"|^\s*(//|--|(ghost )?use |pub use |#\[tactic)|\\$')
 # Lines that are still too long, by file: none may be added.
 TOO_LONG = {
     'cs_apm/specs/Laws/Pairs.antt': 2,
+    'cs_session/proofs/OwnRules.antt': 1,
     'cs_session/specs/Serving.antt': 1,
-    'cs_fids/src/fid_table.rt': 1,
     'cs_overlay/src/overlay.rt': 1,
-    'cs_archive/src/command.rt': 1,
-    'cs_archive/proofs/states/write_run/Answers.antt': 1,
     'cs_serve_tests/src/tests/steps.rt': 3,
     'cs_world/proofs/Alone.antt': 2,
+    'cs_world/proofs/MovedSteps.antt': 1,
     'cs_world/proofs/NoWant.antt': 1,
     'cs_world/proofs/OpenFids.antt': 1,
     'cs_world/proofs/Projected.antt': 1,
