@@ -2,6 +2,7 @@
 //! before it, is checked in cs_trace.
 #![tactic(auto)]
 
+mod digits;
 pub mod fault;
 mod fields;
 mod header;

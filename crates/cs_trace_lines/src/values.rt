@@ -8,11 +8,11 @@ ghost use Rattle.cs_trace_lines.specs.Lines.{whole_number_in};
 ghost use Rattle.cs_trace_lines.specs.Reading.{field_value, field_values};
 ghost use Rattle.cs_trace_lines.specs.Said.{claims_of};
 
+use crate::digits;
 use crate::fault::LineFault;
 use crate::fields::{Field, Fields};
 use crate::line::Claims;
 use crate::version::Version;
-use hex::FromHexError;
 use std::alloc::Global;
 
 /// The text in a field, borrowed. A value that isn't a text, or no value, is Syntax.
@@ -91,12 +91,7 @@ pub(crate) fn take_claims(fields: &mut Fields) -> Result<Claims, LineFault>
 fn bytes_in(alloc: Global, field: &Option<Field>) -> Result<Vec<u8>, LineFault>
     ensures { IsRead (λ bytes. bytes.items) (bytes_in (option_map field_value field.now)) result }
 {
-    let digits = text_of(field)?;
-    match hex::decode(alloc, digits) {
-        Ok(bytes) => Ok(bytes),
-        Err(FromHexError::OutOfMemory) => Err(LineFault::Memory),
-        Err(_) => Err(LineFault::Syntax),
-    }
+    digits::decode(alloc, text_of(field)?)
 }
 
 /// The bytes of a file or a write. If the field `digits` is there, it spells them in hexadecimal,
