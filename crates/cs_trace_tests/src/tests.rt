@@ -2,6 +2,7 @@
 
 mod faults;
 mod lines;
+mod long_digits;
 mod long_directories;
 mod micro_operations;
 mod operations;
