@@ -1,6 +1,7 @@
 -- What the runs that threads share answer to a connection's questions. The runs may change between
 -- two questions; what the connection keeps doesn't.
-use Rattle.std.specs.Prelude.{◌≡◌, ℕ, ◌⊎◌, length, slice_get, Option, None, Some, Result, Ok, Err}
+use Rattle.std.specs.Prelude.{◌≡◌, ◌≤◌, ◌^◌, ℕ, ◌⊎◌, length, slice_get}
+use Rattle.std.specs.Prelude.{Option, None, Some, Result, Ok, Err}
 use Rattle.cs_names.specs.declared.rule_id.RuleId.TheVariants.{S5}
 use Rattle.cs_journal.specs.Runs.{PassOf, fresh_pass}
 use Rattle.cs_permit.specs.declared.call.AttachCall.{AttachCall}
@@ -9,7 +10,7 @@ use Rattle.cs_permit.specs.declared.call.Call.TheVariants.{Attach}
 use Rattle.cs_permit.specs.declared.fault.FindFault.{FindFault}
 use Rattle.cs_permit.specs.declared.fault.FindFault.TheVariants.{Unpublished}
 use Rattle.cs_permit.specs.declared.fault.PassFault.{PassFault}
-use Rattle.cs_permit.specs.declared.fault.PassFault.TheVariants.{Foreign}
+use Rattle.cs_permit.specs.declared.fault.PassFault.TheVariants.{Foreign, Memory, Room}
 use Rattle.cs_registry.specs.Keys.{Key}
 use Rattle.cs_registry.specs.Naming.{key_in}
 use Rattle.cs_run.specs.declared.answer.Answer.{Answer}
@@ -40,13 +41,25 @@ module _ (serves : HasTree) (answered : GivesAnswer) (attached : GivesAttach) wh
         IsStepOfServedRun serves key.number (fresh_pass pass.number) now (Attach call) answer pass
     pub kept : new ≡ kept_with_pass old place pass
 
+  -- Why an attach to the run of the key gives no pass.
+  pub data IsNotAttached (old : FoundRuns) (now : ℕ) (call : AttachCall) (key : Key)
+      (fault : PassFault) : Type 0 where
+    -- the run's fault: only the attach to the run under its lock gives this
+    RefusedByRun : attached key.number now (Attach call) (Err fault)
+        → IsNotAttached old now call key fault
+    -- the port has as many passes as it can have
+    PortIsFull : 2 ^ 32 ≤ length old.passes → fault ≡ Room → IsNotAttached old now call key fault
+    -- no memory to keep the pass
+    NoMemory : fault ≡ Memory → IsNotAttached old now call key fault
+
   -- by the key of the run at the place; Foreign if there is no run. Without a pass nothing changes
   abbrev pub KeptAttaches : FoundRuns → ℕ → ℕ → AttachCall → Option Key
       → Result (ℕ × Answer) PassFault → FoundRuns → Type 0
   KeptAttaches old now place call None answer new = (answer ≡ Err Foreign) × (new ≡ old)
   KeptAttaches old now place call (Some key) (Ok x) new =
       IsAttached old now place call key x.0 x.1 new
-  KeptAttaches old now place call (Some key) (Err fault) new = new ≡ old
+  KeptAttaches old now place call (Some key) (Err fault) new =
+      IsNotAttached old now call key fault × (new ≡ old)
 
   -- The run at a place gave the pass at a place: it gave the answer, and no other pass changes.
   pub record IsCalled (old : FoundRuns) (now place pass_place : ℕ) (call : Call) (answer : Answer)
