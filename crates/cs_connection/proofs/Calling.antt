@@ -38,7 +38,7 @@ module _ (serves : HasTree) (answered : GivesAnswer) (attached : GivesAttach) (r
 
   -- one of this run
   pub called : AreInside runs passes → (key : Key) (number : ℕ) → key ≡ get_or runs run key → number ≡ key.number → given.run ≡ run
-      → (now : ℕ) (call : Call) (answer : Answer) (pass : PassOf) → answered number given.pass now call answer pass
+      → (now : ℕ) (call : Call) (answer : Answer) (pass : PassOf) → answered key given.pass now call answer pass
       → IsAnswerOf serves number given.pass now call answer pass → KeptCalls serves answered attached (record {
         runs = runs;
         passes = passes;
@@ -52,7 +52,7 @@ module _ (serves : HasTree) (answered : GivesAnswer) (attached : GivesAttach) (r
         pass = pass;
         run_is = slice_get-get_or runs run key low_run ∙ ap Some (sym key_is);
         pass_is = there ∙ ap (λ (n : ℕ). Some (given_by n given.pass)) own;
-        source = subst (λ (n : ℕ). answered n given.pass now call answer pass) number_is source;
+        source = source;
         told = subst (λ (n : ℕ). IsAnswerOf serves n given.pass now call answer pass) number_is told;
         kept = ap (λ (n : ℕ). record { runs = runs; passes = slice_set passes place (given_by n pass) }) own;
       })

@@ -36,7 +36,7 @@ module _ (serves : HasTree) (answered : GivesAnswer) (attached : GivesAttach) wh
     pub pass : PassOf
     pub place_is : pass_place ≡ length old.passes
     -- only the attach to the run under its lock gives this
-    pub source : attached key.number now (Attach call) (Ok (pass, answer))
+    pub source : attached key now (Attach call) (Ok (pass, answer))
     pub told :
         IsStepOfServedRun serves key.number (fresh_pass pass.number) now (Attach call) answer pass
     pub kept : new ≡ kept_with_pass old place pass
@@ -45,7 +45,7 @@ module _ (serves : HasTree) (answered : GivesAnswer) (attached : GivesAttach) wh
   pub data IsNotAttached (old : FoundRuns) (now : ℕ) (call : AttachCall) (key : Key)
       (fault : PassFault) : Type 0 where
     -- the run's fault: only the attach to the run under its lock gives this
-    RefusedByRun : attached key.number now (Attach call) (Err fault)
+    RefusedByRun : attached key now (Attach call) (Err fault)
         → IsNotAttached old now call key fault
     -- the port has as many passes as it can have
     PortIsFull : 2 ^ 32 ≤ length old.passes → fault ≡ Room → IsNotAttached old now call key fault
@@ -70,7 +70,7 @@ module _ (serves : HasTree) (answered : GivesAnswer) (attached : GivesAttach) wh
     pub run_is : slice_get old.runs place ≡ Some key
     pub pass_is : slice_get old.passes pass_place ≡ Some (given_by place before)
     -- only the call on the run under its lock gives this
-    pub source : answered key.number before now call answer pass
+    pub source : answered key before now call answer pass
     pub told : IsAnswerOf serves key.number before now call answer pass
     pub kept : new ≡ put_pass old pass_place place pass
 

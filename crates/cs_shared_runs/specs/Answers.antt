@@ -11,6 +11,7 @@ use Rattle.cs_journal.specs.Journals.{IsLegal}
 use Rattle.cs_journal.specs.Marks.{StepMark}
 use Rattle.cs_journal.specs.Runs.{Fits, PassOf, RunOf, first_state, fresh_pass}
 use Rattle.cs_journal.specs.Steps.{step}
+use Rattle.cs_registry.specs.Keys.{Key}
 use Rattle.cs_shared_runs.specs.Serving.{HasTree}
 
 -- A run that the server has under the number, with a legal journal. Only a run's lock gives one.
@@ -80,11 +81,11 @@ IsLookOf serves number may_return (Some found) =
     (run : RunOf) × IsServed serves number run × may_return run found
 IsLookOf serves number may_return None = IsOfAnother serves number
 
--- which answers the runs of a server gave: to a call for the run of a number, under a pass, at a
+-- which answers the runs of a server gave: to a call for the run of a key, under a pass, at a
 -- moment; the last is the pass that was left
 abbrev pub GivesAnswer : Type 1
-GivesAnswer = ℕ → PassOf → ℕ → Call → Answer → PassOf → Type 0
+GivesAnswer = Key → PassOf → ℕ → Call → Answer → PassOf → Type 0
 
--- which results they gave for an attach: for the run of a number, at a moment, to a call
+-- which results they gave for an attach: for the run of a key, at a moment, to a call
 abbrev pub GivesAttach : Type 1
-GivesAttach = ℕ → ℕ → Call → Result (PassOf × Answer) PassFault → Type 0
+GivesAttach = Key → ℕ → Call → Result (PassOf × Answer) PassFault → Type 0

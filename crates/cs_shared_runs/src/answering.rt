@@ -8,6 +8,7 @@ use crate::locked::NumberedRun;
 use cs_journal::Pass;
 use cs_names::Text;
 use cs_permit::{Call, PassFault};
+use cs_registry::RunKey;
 use cs_run::Answer;
 use std::alloc::Global;
 
@@ -21,35 +22,35 @@ pub trait AnswersCalls {
     /// The results that `attach` gave.
     ghost attached: { GivesAttach };
 
-    /// Does a call under a pass, as `NumberedRun::call` does.
+    /// Does a call for the run of that key under a pass, as `NumberedRun::call` does.
     fn answer(
         run: &mut NumberedRun,
         alloc: Global,
-        number: u32,
+        key: &RunKey,
         pass: &mut Pass,
         now: u32,
         call: Call<'_>,
     ) -> Answer
-        ensures source { answered number pass.old now call.entry result pass.new }
-        ensures calls { LockedCalls run.old number pass.old now call.entry result
+        ensures source { answered key.now pass.old now call.entry result pass.new }
+        ensures calls { LockedCalls run.old key.now.number pass.old now call.entry result
             run.new pass.new }
-        ensures answers { IsAnswerOf (IsTreeOf run.old) number pass.old now call.entry result
-            pass.new }
+        ensures answers { IsAnswerOf (IsTreeOf run.old) key.now.number pass.old now call.entry
+            result pass.new }
         ensures keeps { KeepsTree run.old run.new }
         ensures fits { FitsCall call.entry result };
 
-    /// Attaches a user under a new pass, as `NumberedRun::attach` does.
+    /// Attaches a user to the run of that key, as `NumberedRun::attach` does.
     fn attach(
         run: &mut NumberedRun,
         alloc: Global,
-        number: u32,
+        key: &RunKey,
         now: u32,
         user: Text,
     ) -> Result<(Pass, Answer), PassFault>
-        ensures source { attached number now (called.Attach (record { user = user })) result }
-        ensures attaches { LockedAttaches run.old number now
+        ensures source { attached key.now now (called.Attach (record { user = user })) result }
+        ensures attaches { LockedAttaches run.old key.now.number now
             (called.Attach (record { user = user })) result run.new }
-        ensures answers { IsAttachOf (IsTreeOf run.old) number now
+        ensures answers { IsAttachOf (IsTreeOf run.old) key.now.number now
             (called.Attach (record { user = user })) result }
         ensures keeps { KeepsTree run.old run.new };
 }

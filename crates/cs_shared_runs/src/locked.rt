@@ -12,6 +12,7 @@ use cs_names::laws::know;
 use cs_names::{RuleId, Text};
 use cs_permit::{AttachCall, Call, PassFault};
 use cs_plan::Built;
+use cs_registry::RunKey;
 use cs_run::Answer;
 use std::alloc::Global;
 use std::marker::{Model, PhantomData};
@@ -156,39 +157,40 @@ impl<S: ServerBrand> Locked<S> {
         }
     }
 
-    /// Does a call under a pass, as `NumberedRun::call` does.
+    /// Does a call under a pass, as `NumberedRun::call` does. The key is the handle's.
     pub(crate) fn call(
         &mut self,
         alloc: Global,
-        number: u32,
+        key: &RunKey,
         pass: &mut Pass,
         now: u32,
         call: Call<'_>,
     ) -> Answer
-        ensures source { S.answered number pass.old now call.entry result pass.new }
-        ensures calls { LockedCalls self.old number pass.old now call.entry result
+        ensures source { S.answered key.now pass.old now call.entry result pass.new }
+        ensures calls { LockedCalls self.old key.now.number pass.old now call.entry result
             self.new pass.new }
-        ensures answers { IsAnswerOf S.serves number pass.old now call.entry result pass.new }
+        ensures answers { IsAnswerOf S.serves key.now.number pass.old now call.entry result
+            pass.new }
         ensures fits { FitsCall call.entry result }
     {
-        S::answer(&mut self.inside, alloc, number, pass, now, call)
+        S::answer(&mut self.inside, alloc, key, pass, now, call)
     }
 
-    /// Attaches a user under a new pass, as `NumberedRun::attach` does.
+    /// Attaches a user under a new pass, as `NumberedRun::attach` does. The key is the handle's.
     pub(crate) fn attach(
         &mut self,
         alloc: Global,
-        number: u32,
+        key: &RunKey,
         now: u32,
         user: Text,
     ) -> Result<(Pass, Answer), PassFault>
-        ensures source { S.attached number now (called.Attach (record { user = user })) result }
-        ensures attaches { LockedAttaches self.old number now
+        ensures source { S.attached key.now now (called.Attach (record { user = user })) result }
+        ensures attaches { LockedAttaches self.old key.now.number now
             (called.Attach (record { user = user })) result self.new }
-        ensures answers { IsAttachOf S.serves number now
+        ensures answers { IsAttachOf S.serves key.now.number now
             (called.Attach (record { user = user })) result }
     {
-        S::attach(&mut self.inside, alloc, number, now, user)
+        S::attach(&mut self.inside, alloc, key, now, user)
     }
 
     /// What `look` returns of the run, as `NumberedRun::inspect` says.

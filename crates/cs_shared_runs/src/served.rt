@@ -8,6 +8,7 @@ use crate::locked::NumberedRun;
 use cs_journal::Pass;
 use cs_names::Text;
 use cs_permit::{Call, PassFault};
+use cs_registry::RunKey;
 use cs_run::Answer;
 use std::alloc::Global;
 use std::marker::Brand;
@@ -43,59 +44,59 @@ impl ServerBrand for Brand {
 }
 
 impl AnswersCalls for AnyScene {
-    ghost answered = { λ number pass now call answer left. Unit {0} };
+    ghost answered = { λ key pass now call answer left. Unit {0} };
 
-    ghost attached = { λ number now call result. Unit {0} };
+    ghost attached = { λ key now call result. Unit {0} };
 
     /// As `NumberedRun::call`.
     fn answer(
         run: &mut NumberedRun,
         alloc: Global,
-        number: u32,
+        key: &RunKey,
         pass: &mut Pass,
         now: u32,
         call: Call<'_>,
     ) -> Answer {
-        run.call(alloc, number, pass, now, call)
+        run.call(alloc, key.number(), pass, now, call)
     }
 
     /// As `NumberedRun::attach`.
     fn attach(
         run: &mut NumberedRun,
         alloc: Global,
-        number: u32,
+        key: &RunKey,
         now: u32,
         user: Text,
     ) -> Result<(Pass, Answer), PassFault> {
-        run.attach(alloc, number, now, user)
+        run.attach(alloc, key.number(), now, user)
     }
 }
 
 impl AnswersCalls for Brand {
-    ghost answered = { λ number pass now call answer left. Unit {0} };
+    ghost answered = { λ key pass now call answer left. Unit {0} };
 
-    ghost attached = { λ number now call result. Unit {0} };
+    ghost attached = { λ key now call result. Unit {0} };
 
     /// As `NumberedRun::call`.
     fn answer(
         run: &mut NumberedRun,
         alloc: Global,
-        number: u32,
+        key: &RunKey,
         pass: &mut Pass,
         now: u32,
         call: Call<'_>,
     ) -> Answer {
-        run.call(alloc, number, pass, now, call)
+        run.call(alloc, key.number(), pass, now, call)
     }
 
     /// As `NumberedRun::attach`.
     fn attach(
         run: &mut NumberedRun,
         alloc: Global,
-        number: u32,
+        key: &RunKey,
         now: u32,
         user: Text,
     ) -> Result<(Pass, Answer), PassFault> {
-        run.attach(alloc, number, now, user)
+        run.attach(alloc, key.number(), now, user)
     }
 }

@@ -83,13 +83,11 @@ impl<S: ServerBrand> SharedRun<S> {
         now: u32,
         user: Text,
     ) -> Result<(Pass, Answer), PassFault>
-        ensures source { S.attached self.now.number now
-            (called.Attach (record { user = user })) result }
+        ensures source { S.attached self.now now (called.Attach (record { user = user })) result }
         ensures answers { IsAttachOf S.serves self.now.number now
             (called.Attach (record { user = user })) result }
     {
-        let number = self.key.number();
-        self.run.lock(rt).attach(alloc, number, now, user)
+        self.run.lock(rt).attach(alloc, &self.key, now, user)
     }
 
     /// Does a call under a pass at the moment `now`, in seconds since 1970, by `Run::step`. Denied
@@ -102,13 +100,12 @@ impl<S: ServerBrand> SharedRun<S> {
         now: u32,
         call: Call<'_>,
     ) -> Answer
-        ensures source { S.answered self.now.number pass.old now call.entry result pass.new }
+        ensures source { S.answered self.now pass.old now call.entry result pass.new }
         ensures answers { IsAnswerOf S.serves self.now.number pass.old now call.entry result
             pass.new }
         ensures fits { FitsCall call.entry result }
     {
-        let number = self.key.number();
-        self.run.lock(rt).call(alloc, number, pass, now, call)
+        self.run.lock(rt).call(alloc, &self.key, pass, now, call)
     }
 
     /// What `look` returns of the run, under the lock. (None, for a run of another number under the

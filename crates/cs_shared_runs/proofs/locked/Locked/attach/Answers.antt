@@ -4,5 +4,5 @@ use Rattle.cs_shared_runs.proofs.locked.Locked.attach.Goals as goal
 
 pub returns-clause-answers : goal.returns-clause-answers
 returns-clause-answers g c =
-    attach_of_server g.S.ServerBrand.serves c.self.inside.inside c.self.invariant c.args.number c.args.now
+    attach_of_server g.S.ServerBrand.serves c.self.inside.inside c.self.invariant c.args.key.now.number c.args.now
     (called.Attach (record { user = c.args.user })) c.attach.result c.attach.ensures.answers
