@@ -8,12 +8,12 @@ use Rattle.cs_tree_model.specs.declared.record.Record.{Record}
 use Rattle.cs_trace.specs.Entries.{record_of}
 use Rattle.cs_trace.specs.declared.entry.StartEntry.{StartEntry}
 use Rattle.cs_trace.specs.declared.start_records.StartPath.{StartPath}
-use Rattle.cs_trace.specs.declared.start_records.StartPath.TheVariants.{Whole, In}
+use Rattle.cs_trace.specs.declared.start_records.StartPath.TheVariants.{Whole, Child}
 
 -- the path itself, or that of a name in the directory
 abbrev pub whole_path : Path → StartPath → Path
 whole_path d (Whole p) = p
-whole_path d (In name) = d ++ string_bytes name ∷ []
+whole_path d (Child name) = d ++ string_bytes name ∷ []
 
 -- the path and the record of an entry at that place
 abbrev pub record_at : ℕ → Path → StartPath → StartEntry → Path × Record
@@ -30,7 +30,7 @@ start_records d es = with_numbers_from 0 (map_entries record_of (with_whole_path
 -- a path that is kept by its name has a legal one
 abbrev pub IsLegalPath : StartPath → Type 0
 IsLegalPath (Whole p) = Unit {0}
-IsLegalPath (In name) = IsLegalName (string_bytes name)
+IsLegalPath (Child name) = IsLegalName (string_bytes name)
 
 abbrev pub AreLegalEntries : List (StartPath × StartEntry) → Type 0
 AreLegalEntries [] = Unit {0}

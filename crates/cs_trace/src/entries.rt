@@ -18,7 +18,6 @@ use crate::path_text::PathText;
 use crate::siblings::Siblings;
 use crate::start_lists::StartLists;
 use cs_names::Path;
-use cs_tree_model::Record;
 use std::alloc::{AllocError, Global};
 use std::collections::BTreeMap;
 use std::marker::Model;

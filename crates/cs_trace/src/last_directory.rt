@@ -124,7 +124,7 @@ impl LastDirectory {
     /// and a legal name; only that name is checked. None for any other text, which may still spell a
     /// path in the directory, and for every text if that of the directory isn't known or the
     /// directory is the root.
-    pub(crate) fn name_in<'a>(&self, text: &'a str) -> Option<&'a str>
+    pub(crate) fn name_in_text<'a>(&self, text: &'a str) -> Option<&'a str>
         ensures entry { IfSome result (λ name.
             entry_path_of text.now ≡ Some (self.now ++ name.now ∷ [])) }
         ensures legal { IfSome result (λ name. IsLegalName name.now) }
@@ -135,8 +135,8 @@ impl LastDirectory {
         name_after(text, self.text.as_str())
     }
 
-    /// The path that the text spells, if `name_in` finds its last name; None for any other text,
-    /// which may still spell a path.
+    /// The path that the text spells, if `name_in_text` finds its last name; None for any other
+    /// text, which may still spell a path.
     pub(crate) fn path_in<'a>(&self, text: &'a str) -> Option<PathText<'a>>
         ensures path { IfSome result (λ path. entry_path_of text.now ≡ Some path) }
         ensures above { IfSome result (λ path. parent_path path ≡ self.now) }

@@ -1,4 +1,4 @@
-//! A value that entries share, so that one more of them takes no copy.
+//! A value that entries share, so that one more of them needs no copy.
 ghost use Rattle.std.specs.Prelude.{◌≡◌, IfOk};
 
 use std::alloc::{AllocError, Global};

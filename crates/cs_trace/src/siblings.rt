@@ -87,14 +87,14 @@ impl Siblings {
     }
 
     /// The last name of the path that the text spells, if the text is that of the directory, a `/`
-    /// and a legal name (`LastDirectory::name_in`). None for any other text, which may still spell a
-    /// path in the directory.
+    /// and a legal name (`LastDirectory::name_in_text`). None for any other text, which may still
+    /// spell a path in the directory.
     pub(crate) fn name_in_text<'a>(&self, text: &'a str) -> Option<&'a str>
         ensures entry { IfSome result (λ name.
             entry_path_of text.now ≡ Some (self.now.directory ++ name.now ∷ [])) }
         ensures legal { IfSome result (λ name. IsLegalName name.now) }
     {
-        self.directory.name_in(text)
+        self.directory.name_in_text(text)
     }
 
     /// Whether the path's parent is the directory; such a path may or may not have an entry. No

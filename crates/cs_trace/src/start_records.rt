@@ -18,7 +18,7 @@ use std::marker::Model;
 pub(crate) enum StartPath {
     Whole(Path),
     /// The path of that name in the directory of the `Start`.
-    In(String),
+    Child(String),
 }
 
 /// The files and directories at the start, in the order of their paths. Contracts see the list of
@@ -58,7 +58,7 @@ fn is_path(path: &Path, directory: &Path, other: &StartPath) -> bool
 {
     match other {
         StartPath::Whole(whole) => path == whole,
-        StartPath::In(name) => is_child(path, directory, name),
+        StartPath::Child(name) => is_child(path, directory, name),
     }
 }
 
@@ -77,8 +77,8 @@ fn are_same_paths(directory: &Path, path: &StartPath, other: &Path, other_path: 
 {
     match (path, other_path) {
         (StartPath::Whole(whole), _) => is_path(whole, other, other_path),
-        (StartPath::In(_), StartPath::Whole(whole)) => is_path(whole, directory, path),
-        (StartPath::In(name), StartPath::In(other_name)) => {
+        (StartPath::Child(_), StartPath::Whole(whole)) => is_path(whole, directory, path),
+        (StartPath::Child(name), StartPath::Child(other_name)) => {
             are_same_children(directory, name, other, other_name)
         }
     }
@@ -97,7 +97,7 @@ fn child_path(
     ensures legal { IfOk result (λ path. IsLegalPath path) }
 {
     if own == directory {
-        return Ok(StartPath::In(name));
+        return Ok(StartPath::Child(name));
     }
     Ok(StartPath::Whole(directory.child(alloc, &name)?))
 }
@@ -169,7 +169,7 @@ impl Start {
         let (directory, path, _) = self.entry(place);
         match path {
             StartPath::Whole(path) => path.try_clone(alloc),
-            StartPath::In(name) => directory.child(alloc, name),
+            StartPath::Child(name) => directory.child(alloc, name),
         }
     }
 

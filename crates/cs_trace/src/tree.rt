@@ -20,7 +20,6 @@ use crate::path_text::PathText;
 use crate::placed::Placed;
 use crate::start_lists::StartLists;
 use cs_names::Path;
-use cs_tree_model::Record;
 use std::alloc::{AllocError, Global};
 use std::marker::Model;
 

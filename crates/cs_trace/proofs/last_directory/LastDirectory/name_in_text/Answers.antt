@@ -1,7 +1,7 @@
 use Rattle.std.proofs.Common.{◌++◌, ◌∷◌, [], Some, ap, ◌∙◌, arith}
 use Rattle.std.specs.String.{string_bytes}
 use Rattle.cs_trace.proofs.Spelling.{if_some_both, pushed}
-use Rattle.cs_trace.proofs.last_directory.LastDirectory.name_in.Goals as goal
+use Rattle.cs_trace.proofs.last_directory.LastDirectory.name_in_text.Goals as goal
 
 pub returns-clause-entry : goal.returns-clause-entry
 returns-clause-entry c = if_some_both c.name_after.result _ _ _ (λ name cut legal.
