@@ -12,7 +12,7 @@ use cs_registry::RunKey;
 use cs_run::Answer;
 use std::alloc::Global;
 
-/// Answers the calls on the runs of a server. In code over any server, an answer is known to be
+/// Answers the calls on the runs of a server. In code for any server, an answer is known to be
 /// `answered` or `attached` only if a function below gave it; each takes the run, which is under
 /// its lock. So no such code can answer without the lock.
 pub trait AnswersCalls {

@@ -17,8 +17,8 @@ use cs_run::Answer;
 use std::alloc::Global;
 use std::marker::{Model, PhantomData};
 
-/// A run and the number of its state. Contracts see both. Only `Locked::new` makes one, so that it
-/// is under a lock.
+/// A run and the number of its state. Contracts see both. Only `Locked::new` makes one, and
+/// `SharedRun::fresh` puts it under a lock.
 #[derive(Drop)]
 pub struct NumberedRun {
     number: u32,
