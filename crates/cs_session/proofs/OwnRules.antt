@@ -107,8 +107,9 @@ of_failing None rule is = absurd cc
 of_failing (Some first) rule is = cc
 
 clunk_first : (awaits none : Bool) (rules : List Check) (session left : SessionState) (rule : RuleId)
-    → replied (if awaits then (r.Error S5, session) else (if none then (r.Error S1, session) else (clunk_reply (first_failing rules), left)))
-    ≡ r.Error rule
+    → replied
+    (if awaits then (r.Error S5, session)
+    else (if none then (r.Error S1, session) else (clunk_reply (first_failing rules), left))) ≡ r.Error rule
     → first_failing ((S5, awaits) ∷ (S1, none) ∷ rules) ≡ Some rule
 clunk_first true none rules session left rule is = cc
 clunk_first false true rules session left rule is = cc
