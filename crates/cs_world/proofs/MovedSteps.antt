@@ -184,7 +184,8 @@ module _ (f : ℕ → ℕ) where
   clunk_moved s fid =
       ap (λ (o : Option RuleId). (clunk_reply o, with_fids (clunk_left (fids_with_places f s.fids) fid o) (with_places f s)))
       (ap clunk_failing (get_moved f s.fids fid) ∙ failing_by (get s.fids fid))
-      ∙ (λ i. (clunk_reply (clunk_failing (get s.fids fid)), with_fids (clunk_by s.fids fid (clunk_failing (get s.fids fid)) i) (with_places f s)))
+      ∙ (λ i.
+      (clunk_reply (clunk_failing (get s.fids fid)), with_fids (clunk_by s.fids fid (clunk_failing (get s.fids fid)) i) (with_places f s)))
 
   cond_moved : (b : Bool) (x' y' x y : Reply × SessionState) → x' ≡ moved_reply f x → y' ≡ moved_reply f y
       → cond b x' y' ≡ moved_reply f (cond b x y)

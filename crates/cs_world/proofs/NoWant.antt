@@ -282,7 +282,8 @@ module _ (w : World) (conn : ℕ) where
 
   -- ---- each step
 
-  on_goes : AllGiven → (now : ℕ) (x : Taken) → says_out_of_memory (from_front w conn x (InRun Ample) (first_move_by now here x false)).0 ≡ false
+  on_goes : AllGiven → (now : ℕ) (x : Taken)
+      → says_out_of_memory (from_front w conn x (InRun Ample) (first_move_by now here x false)).0 ≡ false
   on_goes given now (FindStep x) =
       goes (FindStep x) _ (find_question x)
       (λ p e. made_of (FindStep x) _ (tree_name_in x.aname) p e (λ (name : List ℕ × List ℕ). find_asked given x (key_in name.0 name.1)))

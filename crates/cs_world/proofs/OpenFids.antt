@@ -69,8 +69,8 @@ pub record KeepsOpens (w : World) (conn at : ℕ) (freed : Option ℕ) (s' : Ses
   pub source : (fid : ℕ) (f : FidOf Opened) → entry_at s' fid ≡ Some (entry.Opened f) → Was w conn freed conn fid f
       ⊎ Made w conn at r' conn fid f
 
-module _ (w : World) (ok : HaveTheirOpens w) (conn : ℕ) (inside : conn < length w.connections) (at : ℕ) (freed : Option ℕ) (s' : SessionState)
-    (r' : Registry RunOf) (k : KeepsOpens w conn at freed s' r') where
+module _ (w : World) (ok : HaveTheirOpens w) (conn : ℕ) (inside : conn < length w.connections) (at : ℕ) (freed : Option ℕ)
+    (s' : SessionState) (r' : Registry RunOf) (k : KeepsOpens w conn at freed s' r') where
   abbrev next : World
   next = with_both w conn s' r'
 

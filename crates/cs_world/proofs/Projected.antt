@@ -60,8 +60,9 @@ module _ (w : World) (key : Key) where
   on_calls conn now x mark false told = refl
   on_calls conn now x mark true told = elim (front_alike now (session_at w conn) x (refuses_own mark)) [
     | inl short ↦ absurd
-        (let said : says_out_of_memory (from_front w conn x (run_mark_of mark) (first_move_by now (session_at w conn) x (refuses_own mark))).0
-        ≡ true = ap (λ (f : FirstMove). says_out_of_memory (from_front w conn x (run_mark_of mark) f).0) short in cc)
+        (let move = first_move_by now (session_at w conn) x (refuses_own mark) in
+        let said : says_out_of_memory (from_front w conn x (run_mark_of mark) move).0 ≡ true =
+        ap (λ (f : FirstMove). says_out_of_memory (from_front w conn x (run_mark_of mark) f).0) short in cc)
     | inr same ↦ ap (λ (f : FirstMove). calls_of (option_map_or (puts (run_mark_of mark)) (question_of_move f) [])) same ∙ asked_calls
         (question_of_move (first_move_by now (session_at w conn) x false)) (run_mark_of mark) (InRun Ample)
   ]
