@@ -128,8 +128,8 @@ place_says (ChangeFileSize file to) (ChangeFileSize other size) h =
     inr (file, (to, refl), (size, ap (λ w. ChangeFileSize w size) (sym (eqb-true file other h))))
 place_says a b h = absurd (false≢true h)
 
-pub block_place : (a b : MicroOp) (file block : ℕ) → WritesBlock a file block → WritesBlock b file block
-    → same_block_or_size a b ≡ true
+pub block_place : (a b : MicroOp) (file block : ℕ) → WritesBlock a file block
+    → WritesBlock b file block → same_block_or_size a b ≡ true
 block_place a b file block x y =
     (λ w. same_block_or_size (x.3 w) (y.3 w)) ∙ and_from (file == file) (block == block)
     (eq-eqb file file refl) (eq-eqb block block refl)
@@ -189,8 +189,8 @@ order_says profiles.Ordered a b h =
     let parts = and_parts (is_entry_operation a) (is_entry_operation b) h in
     (refl, entry_operation_says a parts.0, entry_operation_says b parts.1)
 
-pub says_order : (profile : Profile) (a b : MicroOp) → profile ≡ profiles.Ordered → IsEntryOperation a
-    → IsEntryOperation b → keeps_order profile a b ≡ true
+pub says_order : (profile : Profile) (a b : MicroOp) → profile ≡ profiles.Ordered
+    → IsEntryOperation a → IsEntryOperation b → keeps_order profile a b ≡ true
 says_order profile a b is x y =
     ap (λ w. keeps_order w a b) is
     ∙ and_from (is_entry_operation a) (is_entry_operation b) (says_entry_operation a x)
