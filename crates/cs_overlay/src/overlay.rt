@@ -50,8 +50,8 @@ impl<L: TreeRead> Model for Overlay<L> {
     ghost view = { λ a. tree_of (layers (L.tree (arc_value a.lower)) (hash.get nat_eq a.nodes))
         (a.greatest + 1) };
 
-    ghost invariant = { λ a. IsOver (L.tree (arc_value a.lower)) (hash.get nat_eq a.nodes) (a.greatest + 1)
-        a.count };
+    ghost invariant = { λ a. IsOver (L.tree (arc_value a.lower)) (hash.get nat_eq a.nodes)
+        (a.greatest + 1) a.count };
 }
 
 impl<L: TreeRead> Overlay<L> {
