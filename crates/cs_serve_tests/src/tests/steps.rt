@@ -340,9 +340,12 @@ find 1 0 bob 0/b => Connection(Found)
 attach 1 7 => Connection(Attach(Qid { kind: 128, vers: 0, path: 0 }))
 find 2 0 cat 0/a => Connection(Found)
 attach 2 7 => Connection(Attach(Qid { kind: 128, vers: 0, path: 0 }))
-walk 0 => Connection(Walk(Walk { qids: [Qid { kind: 0, vers: 0, path: 1 }], stopped: None, last: 1 }))
-walk 1 => Connection(Walk(Walk { qids: [Qid { kind: 0, vers: 0, path: 1 }], stopped: None, last: 1 }))
-walk 2 => Connection(Walk(Walk { qids: [Qid { kind: 0, vers: 0, path: 1 }], stopped: None, last: 1 }))
+walk 0 => Connection(Walk(Walk { qids: [Qid { kind: 0, vers: 0, path: 1 }], \
+stopped: None, last: 1 }))
+walk 1 => Connection(Walk(Walk { qids: [Qid { kind: 0, vers: 0, path: 1 }], \
+stopped: None, last: 1 }))
+walk 2 => Connection(Walk(Walk { qids: [Qid { kind: 0, vers: 0, path: 1 }], \
+stopped: None, last: 1 }))
 open 0 => Connection(Open(Qid { kind: 0, vers: 0, path: 1 }))
 open 1 => Connection(Open(Qid { kind: 0, vers: 0, path: 1 }))
 open 2 => Connection(Open(Qid { kind: 0, vers: 0, path: 1 }))
