@@ -4,7 +4,6 @@ from __future__ import annotations
 
 import re
 import unittest
-from collections import Counter
 from pathlib import Path
 
 from inventory.sources import CRATES, TOP
@@ -13,19 +12,6 @@ MOST_LINES = 400
 CODE_COLUMNS, PROOF_COLUMNS = 100, 140
 # Lines that a program's text, a list of names or a path in an attribute makes long.
 MAY_BE_LONG = re.compile(r'"|^\s*(//|--|(ghost )?use |pub use |#\[tactic)|\\$')
-# Lines that are still too long, by file: none may be added.
-TOO_LONG = {
-    'cs_apm/specs/Laws/Pairs.antt': 2,
-    'cs_session/proofs/OwnRules.antt': 1,
-    'cs_session/specs/Serving.antt': 1,
-    'cs_overlay/src/overlay.rt': 1,
-    'cs_serve_tests/src/tests/steps.rt': 3,
-    'cs_world/proofs/Alone.antt': 2,
-    'cs_world/proofs/MovedSteps.antt': 1,
-    'cs_world/proofs/NoWant.antt': 1,
-    'cs_world/proofs/OpenFids.antt': 1,
-    'cs_world/proofs/Projected.antt': 1,
-}
 
 
 def long_lines(text: str, columns: int) -> list[str]:
@@ -48,15 +34,10 @@ class Layout(unittest.TestCase):
         self.assertEqual(long_lines('    let text = "' + 'a ' * 50 + '";', CODE_COLUMNS), [])
 
     def test_no_clause_or_definition_is_too_long(self) -> None:
-        found: Counter[str] = Counter()
         for path in sources():
-            is_proof = path.relative_to(CRATES).parts[1] == 'proofs'
-            columns = PROOF_COLUMNS if is_proof else CODE_COLUMNS
-            count = len(long_lines(path.read_text('utf-8'), columns))
-            if count:
-                found[str(path.relative_to(CRATES))] = count
-        for name, count in found.items():
-            self.assertLessEqual(count, TOO_LONG.get(name, 0), name)
+            name = path.relative_to(CRATES)
+            columns = PROOF_COLUMNS if name.parts[1] == 'proofs' else CODE_COLUMNS
+            self.assertEqual(long_lines(path.read_text('utf-8'), columns), [], str(name))
 
     def test_no_file_is_too_long(self) -> None:
         files = [*sources(), *TOP.glob('tools/**/*.py')]
