@@ -28,6 +28,7 @@ KeptFinds old None answer new = (answer ≡ Err Unpublished) × (new ≡ old)
 KeptFinds old (Some key) (Ok place) new = (place ≡ length old.runs) × (new ≡ with_run old key)
 KeptFinds old (Some key) (Err fault) new = new ≡ old
 
+-- In code over any shared runs, `answered` and `attached` are had from a run under its lock alone.
 module _ (serves : HasTree) (answered : GivesAnswer) (attached : GivesAttach) where
   -- A user is attached under a new pass: the run of the key gave the answer, and the pass comes
   -- last.
@@ -35,7 +36,7 @@ module _ (serves : HasTree) (answered : GivesAnswer) (attached : GivesAttach) wh
       (pass_place : ℕ) (answer : Answer) (new : FoundRuns) : Type 0 where
     pub pass : PassOf
     pub place_is : pass_place ≡ length old.passes
-    -- only the attach to the run under its lock gives this
+    -- the attach to the run under its lock gives this
     pub source : attached key now (Attach call) (Ok (pass, answer))
     pub told :
         IsStepOfServedRun serves key.number (fresh_pass pass.number) now (Attach call) answer pass
@@ -44,7 +45,7 @@ module _ (serves : HasTree) (answered : GivesAnswer) (attached : GivesAttach) wh
   -- Why an attach to the run of the key gives no pass.
   pub data IsNotAttached (old : FoundRuns) (now : ℕ) (call : AttachCall) (key : Key)
       (fault : PassFault) : Type 0 where
-    -- the run's fault: only the attach to the run under its lock gives this
+    -- the run's fault, which the attach to the run under its lock gives
     RefusedByRun : attached key now (Attach call) (Err fault)
         → IsNotAttached old now call key fault
     -- the port has as many passes as it can have
@@ -69,7 +70,7 @@ module _ (serves : HasTree) (answered : GivesAnswer) (attached : GivesAttach) wh
     pub pass : PassOf
     pub run_is : slice_get old.runs place ≡ Some key
     pub pass_is : slice_get old.passes pass_place ≡ Some (given_by place before)
-    -- only the call on the run under its lock gives this
+    -- the call on the run under its lock gives this
     pub source : answered key before now call answer pass
     pub told : IsAnswerOf serves key.number before now call answer pass
     pub kept : new ≡ put_pass old pass_place place pass
