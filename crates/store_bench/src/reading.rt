@@ -229,7 +229,7 @@ fn read(rt: &(impl Clock + Print + AllocGlobal), sort: Sort, timed: bool) -> io:
         what: sort.what,
         beside: "as values",
         most: sort.most,
-        rounds: 3,
+        rounds: 8,
     };
     let kept = Row {
         beside: "as values, kept",
