@@ -49,8 +49,8 @@ fn insert_path(paths: &mut Vec<Path>, path: Path) -> Result<(), AllocError>
     Ok(())
 }
 
-/// Inserts the paths of the records at the start, each in its order. An error keeps the paths that
-/// were there; some of the records' may have been inserted.
+/// Inserts the path of each record of the start, unless it is there already. After an error some of
+/// them may have been inserted.
 fn add_starts(alloc: Global, paths: &mut Vec<Path>, records: &Start) -> Result<(), AllocError>
     requires { AreAscending paths.old.items }
     ensures ascending { OnOk result (AreAscending paths.new.items) }

@@ -124,8 +124,8 @@ fn after_directory(
 }
 
 /// The step after a walk to the new name with these qids. A single qid is that of what has the
-/// name: a file is removed, and of a directory only `OWN_FID` is clunked, before the rename ends
-/// with its refusal. With any other number of qids it ends so at once.
+/// name: a file is removed, and the client's request is sent again; for a directory, `OWN_FID` is
+/// clunked, and the rename is refused. With any other number of qids it is refused at once.
 fn free_target(rename: Rename, wqid: &[Qid]) -> Step
     ensures { FreesTarget result rename wqid.now }
 {

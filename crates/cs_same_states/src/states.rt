@@ -111,6 +111,7 @@ fn place_among(
         ≡ state_at (arc_value scene.now) number)) }
 {
     for (place, other) in numbers.iter().enumerate() {
+        // `first_of` has smaller numbers only; its proof takes that from here
         if *other < number && have_equal_trees(alloc, scene, parts, *other, number)? {
             return Ok(Some(place));
         }

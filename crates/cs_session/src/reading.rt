@@ -31,7 +31,8 @@ fn read_count(msize: Option<u32>, count: u32) -> u32
     count.min(msize.unwrap_or(0).saturating_sub(READ_OVERHEAD))
 }
 
-/// A copy of the place. It takes memory only if the place has a name.
+/// A copy of the place. It takes memory only if the place has a name; the contract of cs_fids'
+/// `Place::try_clone` doesn't say that.
 fn try_clone_place(place: &Place) -> Result<Place, AllocError>
     ensures ok { IfOk result (λ copy. copy ≡ place.now) }
     ensures memory { OnErr result (is_some place.now.last ≡ true) }

@@ -205,7 +205,7 @@ impl Session {
     }
 
     /// Whether a run that was found awaits its attach.
-    pub fn awaits(&self) -> bool
+    pub fn awaits_attach(&self) -> bool
         ensures { result ≡ is_some self.now.awaited }
     {
         self.awaited.is_some()

@@ -59,7 +59,7 @@ impl World {
         ensures fits { FitsWithin (room_of (session_at self.old conn).msize) (r_view result) }
     {
         let session = &mut self.sessions[conn as usize];
-        if session.awaits() {
+        if session.awaits_attach() {
             // the session's size is one that S5 fits
             know(session.msize());
             return out_of_turn_reply(bytes);
@@ -84,7 +84,7 @@ impl World {
         ensures consistent { IsConsistent self.old → IsConsistent self.new }
     {
         let session = &mut self.sessions[conn as usize];
-        if session.awaits() {
+        if session.awaits_attach() {
             return Reply::Error(RuleId::S5);
         }
         session.hang_up(alloc, &mut self.runs, now);

@@ -104,7 +104,7 @@ impl Alone {
 
     /// Sends a message, and encodes its reply in a buffer that is reused. None if it is denied.
     pub fn send(&mut self, alloc: Global, bytes: &[u8], out: &mut Vec<u8>) -> Option<()> {
-        if bytes.len() < 7 || self.session.awaits() {
+        if bytes.len() < 7 || self.session.awaits_attach() {
             return None;
         }
         let reply = self.session.reply(alloc, &mut self.port, 1, bytes);

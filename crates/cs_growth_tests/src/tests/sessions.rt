@@ -121,7 +121,7 @@ const WALK: &[u8] = b"\x11\0\0\0n\x01\0\0\0\0\0\x02\0\0\0\0\0";
 
 impl Kept {
     fn answer(&mut self, alloc: Global, message: Message<'_>) -> Option<Reply> {
-        if self.session.awaits() {
+        if self.session.awaits_attach() {
             return None;
         }
         Some(self.session.answer(alloc, &mut self.port, 7, message))
@@ -146,7 +146,7 @@ impl Kept {
 
     /// The reply to bytes: whether it says out of memory.
     fn read_bytes(&mut self, alloc: Global) -> Option<End<Told>> {
-        if self.session.awaits() {
+        if self.session.awaits_attach() {
             return None;
         }
         let reply = self.session.reply(alloc, &mut self.port, 7, WALK);
@@ -160,7 +160,7 @@ impl Kept {
     }
 
     fn hang_up(&mut self, alloc: Global) -> Option<End<Told>> {
-        if self.session.awaits() {
+        if self.session.awaits_attach() {
             return None;
         }
         self.session.hang_up(alloc, &mut self.port, 7);

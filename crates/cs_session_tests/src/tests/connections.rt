@@ -9,7 +9,7 @@ use std::process::Abort;
 
 /// The reply to a message, of a connection that awaits no attach.
 fn ask(alloc: Global, session: &mut Session, port: &mut Fake, message: Message<'_>) -> Reply {
-    if session.awaits() {
+    if session.awaits_attach() {
         return Reply::Error(RuleId::S5);
     }
     session.answer(alloc, port, 1, message)
@@ -144,7 +144,7 @@ attach 9 => Attach(Qid { kind: 0, vers: 4, path: 3 })
 open 9 => Open(Qid { kind: 0, vers: 4, path: 3 })
 ",
     );
-    assert!(rt; !session.awaits());
+    assert!(rt; !session.awaits_attach());
     session.hang_up(rt.alloc(), &mut port, 1);
     assert!(rt; port.closed.as_slice() == [1, 0, 2].as_slice());
     expect(&rt, &mut session, &mut port, "clunk 8 => Error(S1)\n");
@@ -283,7 +283,7 @@ fn expect_pair(
     port: &mut Fake,
     pair: &Pair,
 ) {
-    assert!(rt; !session.awaits());
+    assert!(rt; !session.awaits_attach());
     assert!(rt; pair.0.len() >= 7);
     let reply = session.reply(rt.alloc(), port, 1, pair.0);
     let mut out = Vec::new(rt.alloc());

@@ -49,7 +49,7 @@ fn told(
     port: &mut Alone,
     bytes: &[u8],
 ) -> String {
-    assert!(rt; !session.awaits() && bytes.len() >= 7);
+    assert!(rt; !session.awaits_attach() && bytes.len() >= 7);
     let reply = session.reply(alloc, port, 7, bytes);
     let mut told = String::new(alloc);
     write!(told, "{reply}").expect(rt, "memory");
