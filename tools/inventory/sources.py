@@ -12,7 +12,8 @@ TOP = Path(__file__).resolve().parent.parent.parent
 CRATES = TOP / 'crates'
 TOOLS_TESTS = TOP / 'tools' / 'tests'
 
-WORD = re.compile(r"(?:abbrev pub|unfoldable pub|opaque pub|pub record|pub data) ([^\s:({]+)")
+# inside a module with parameters a word is indented
+WORD = re.compile(r" *(?:abbrev pub|unfoldable pub|opaque pub|pub record|pub data) ([^\s:({]+)")
 IMPL = re.compile(r'(?:impl|trait|pub trait)\b(?:<[^>]*>)? (?:[\w:<>, ]+ for )?(\w+)')
 FUNCTION = re.compile(r'(\s*)(pub )?(?:const )?fn (\w+)')
 IDENTIFIER = re.compile(r"[A-Za-z_][\w']*")
@@ -94,18 +95,18 @@ def edits_of(crate: str) -> List[str]:
     return [path.stem for path in files_of(crate, 'must-fail', '.edit')]
 
 
+def words_in(path: Path, name: str) -> List[Word]:
+    """The public words of a file of this name in `specs/`, in the order in which they stand."""
+    lines = path.read_text(encoding='utf-8').splitlines()
+    heads = ((at, WORD.match(line)) for at, line in enumerate(lines))
+    return [Word(head.group(1), name, comment_above(lines, at, '--')) for at, head in heads if head]
+
+
 def words_of(crate: str) -> List[Word]:
     """The public words of a crate's `specs/`, by file, in the order in which they stand."""
     folder = CRATES / crate / 'specs'
-    found: List[Word] = []
-    for path in files_of(crate, 'specs', '.antt'):
-        lines = path.read_text(encoding='utf-8').splitlines()
-        name = str(path.relative_to(folder))[:-len('.antt')]
-        for at, line in enumerate(lines):
-            match = WORD.match(line)
-            if match:
-                found.append(Word(match.group(1), name, comment_above(lines, at, '--')))
-    return found
+    return [word for path in files_of(crate, 'specs', '.antt')
+            for word in words_in(path, str(path.relative_to(folder))[:-len('.antt')])]
 
 
 def contracts_in(path: Path) -> Iterator[Tuple[str, str]]:

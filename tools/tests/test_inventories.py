@@ -6,7 +6,8 @@ import unittest
 
 from inventory.completions import completions
 from inventory.pages import BEGIN, END, calls_shown, cell, page_with, pages
-from inventory.sources import TOP, contracts_in, crate_names, edits_of, examples_in, tools_tests
+from inventory.sources import (TOP, Word, contracts_in, crate_names, edits_of, examples_in,
+                               tools_tests, words_in)
 
 TESTS = '''\
 //! Lists.
@@ -21,6 +22,21 @@ fn a_longer_list_is_longer() {
 #[test]
 fn nothing_is_said() {
 }
+'''
+
+WORDS = '''\
+-- the first two
+abbrev pub first_two : List Nat
+first_two = []
+
+module _ (serves : HasTree) where
+  -- What is given,
+  -- and kept.
+  pub record IsGiven (old : List Nat) : Type 0 where
+    -- a field
+    pub kept : Nat
+
+  abbrev hidden : Nat
 '''
 
 CALLS = '''\
@@ -62,6 +78,11 @@ class Inventories(unittest.TestCase):
         self.assertEqual(found, [
             ('a_longer_list_is_longer', 'A list of two is longer than one of one.'),
             ('nothing_is_said', '')])
+
+    def test_a_word_in_a_module_with_parameters_is_found(self):
+        self.assertEqual(words_in(self.written(WORDS), 'Given'), [
+            Word('first_two', 'Given', 'the first two'),
+            Word('IsGiven', 'Given', 'What is given, and kept.')])
 
     def test_contracts_are_those_of_public_calls_without_their_bodies(self):
         found = dict(contracts_in(self.written(CALLS)))

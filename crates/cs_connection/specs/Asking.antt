@@ -28,7 +28,7 @@ KeptFinds old None answer new = (answer ≡ Err Unpublished) × (new ≡ old)
 KeptFinds old (Some key) (Ok place) new = (place ≡ length old.runs) × (new ≡ with_run old key)
 KeptFinds old (Some key) (Err fault) new = new ≡ old
 
--- In code over any shared runs, `answered` and `attached` are had from a run under its lock alone.
+-- Code for any server has `answered` and `attached` only from a run under its lock.
 module _ (serves : HasTree) (answered : GivesAnswer) (attached : GivesAttach) where
   -- A user is attached under a new pass: the run of the key gave the answer, and the pass comes
   -- last.

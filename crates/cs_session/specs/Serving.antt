@@ -77,8 +77,8 @@ EndsAt (Err Memory) came left unsent rest = (came ≡ []) × (unsent ≡ [])
 
 -- Each fault has its cause in the stream's counts, before and after: reads failed or gave up for a
 -- read fault, writes for a write fault, and one end was met for Ok and Cut. No more reads were made
--- than a connection has. At most the last 1,000 of its reads, and of its writes, were interrupted in
--- a row; no clause bounds a row that another read or write ended.
+-- than a connection has. At most the last 1,000 of its reads, and of its writes, were interrupted
+-- in a row; no clause bounds a row that another read or write ended.
 pub record FaultsHaveCauses (result : Result (Unit {0}) ServeFault)
     (old new : Counts) : Type 0 where
   pub read_fault : result ≡ Err ReadFault → BlamesReads old new

@@ -29,7 +29,10 @@ pub const OPEN_TO_WRITE: &[u8] = b"\x0c\0\0\0p\x01\0\x01\0\0\0\x01";
 pub const READ: &[u8] = b"\x17\0\0\0t\x01\0\x01\0\0\0\0\0\0\0\0\0\0\0\x40\0\0\0";
 
 /// A write of `HI` at the front.
-const WRITE: &[u8] = b"\x19\0\0\0v\x01\0\x01\0\0\0\0\0\0\0\0\0\0\0\x02\0\0\0HI";
+pub const WRITE: &[u8] = b"\x19\0\0\0v\x01\0\x01\0\0\0\0\0\0\0\0\0\0\0\x02\0\0\0HI";
+
+/// A stat of the fid 1.
+pub const STAT: &[u8] = b"\x0b\0\0\0|\x01\0\x01\0\0\0";
 
 const CLUNK: &[u8] = b"\x0b\0\0\0x\x01\0\x01\0\0\0";
 
@@ -173,9 +176,11 @@ pub fn asks<R: Net<Stream = TcpStream> + Abort>(
     (types, last)
 }
 
-/// Sends three bytes of a message and no more, and waits for the end.
-pub fn hang_up_early<R: Net<Stream = TcpStream> + Abort>(rt: &R, port: &AtomicU64) {
-    let mut stream = connect(rt, port);
+/// Attaches ann to `0/x` as soon as the state is published, sends three bytes of a message and no
+/// more, and waits for the end.
+pub fn hang_up_early<R: Net<Stream = TcpStream> + Abort>(rt: &R, alloc: Global, port: &AtomicU64) {
+    let mut stream = session(rt, alloc, port);
+    attach_at_last(rt, alloc, &mut stream, ATTACH_ANN);
     stream.write_all(&VERSION[..3]).expect(rt, "a write");
     stream.shutdown(Shutdown::Write).expect(rt, "a shutdown");
     let mut none = [0u8; 1];

@@ -56,17 +56,18 @@ const VERSIONS: &str =
     "1 <- Tversion tag 65535 msize 8192 version \"9P2000\"\n1 -> Rversion tag 65535 msize 8192 version \"9P2000\"\n";
 
 /// What is printed of two clients, the first of which hangs up.
-const PRINTED: [&str; 5] = [
+const PRINTED: [&str; 6] = [
     "published 2 states\n",
     "0 accepted from 127.0.0.1:",
+    "0 attached ann to 0/x\n",
     "0 ended: the stream ended inside a message\n",
     VERSIONS,
     "1 attached ann to 0/x\n1 ended\n",
 ];
 
-/// A client that hangs up after three bytes of a message: the command still ends with status 0, and
-/// says why that connection ended. The next one's messages are printed, and its attach once it is
-/// granted.
+/// A client that is attached hangs up after three bytes of a message: the command still ends with
+/// status 0, and says why that connection ended. The next one's messages are printed, and its attach
+/// once it is granted. The audit at the end is of the passes of both.
 #[test]
 fn a_client_that_hangs_up_inside_a_message(rt: HostRuntime) {
     let alloc = rt.alloc();
@@ -79,11 +80,11 @@ fn a_client_that_hangs_up_inside_a_message(rt: HostRuntime) {
         &rt,
         || served(&rt, alloc, TRACE, meanwhile, &port),
         || {
-            hang_up_early(&rt, &port);
+            hang_up_early(&rt, alloc, &port);
             attached_at_last(&rt, alloc, &port);
         },
     );
-    expect_ended(&rt, &printed, b"\nrun 0/x entries 1 audit ok\n");
+    expect_ended(&rt, &printed, b"\nrun 0/x entries 2 audit ok\n");
     for text in &PRINTED {
         expect_printed(&rt, &printed, text);
     }

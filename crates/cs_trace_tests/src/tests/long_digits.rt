@@ -20,7 +20,7 @@ fn digits_of(alloc: Global, count: usize) -> Result<String, AllocError> {
 }
 
 /// The bytes of the digits are those that they were made of.
-fn is_read(rt: &impl Abort, alloc: Global, count: usize) {
+fn expect_read(rt: &impl Abort, alloc: Global, count: usize) {
     let digits = digits_of(alloc, count).expect(rt, "memory");
     let text = file(alloc, digits.as_str()).expect(rt, "memory");
     let trace = read_trace(alloc, text.as_str()).expect(rt, "a trace");
@@ -37,7 +37,7 @@ fn is_read(rt: &impl Abort, alloc: Global, count: usize) {
 }
 
 /// The digits of so many bytes, and these after them, are Syntax.
-fn is_syntax(rt: &impl Abort, alloc: Global, count: usize, more: &str) {
+fn expect_syntax(rt: &impl Abort, alloc: Global, count: usize, more: &str) {
     let mut digits = digits_of(alloc, count).expect(rt, "memory");
     digits.push_str(more).expect(rt, "memory");
     let text = file(alloc, digits.as_str()).expect(rt, "memory");
@@ -49,25 +49,25 @@ fn is_syntax(rt: &impl Abort, alloc: Global, count: usize, more: &str) {
     assert!(rt; found == Some(wanted), "{count} {more}: {found:?}");
 }
 
-/// 4,096, 4,098 and 8,192 digits.
+/// 4,096, 4,098 and 8,192 digits are read as the bytes that they spell.
 #[test]
 fn an_even_number_of_digits_is_read(rt: HostRuntime) {
     for count in [2_048, 2_049, 4_096] {
-        is_read(&rt, rt.alloc(), count);
+        expect_read(&rt, rt.alloc(), count);
     }
 }
 
-/// 4,095, 4,097 and 8,193 digits.
+/// 4,095, 4,097 and 8,193 digits are Syntax.
 #[test]
 fn an_odd_number_of_digits_is_syntax(rt: HostRuntime) {
     for count in [2_047, 2_048, 4_096] {
-        is_syntax(&rt, rt.alloc(), count, "0");
+        expect_syntax(&rt, rt.alloc(), count, "0");
     }
 }
 
-/// Another character after 4,096 digits, as the first digit of a byte and as the second.
+/// After 4,096 digits a `g` is Syntax, as the first digit of a byte and as the second.
 #[test]
 fn a_bad_digit_after_many_is_syntax(rt: HostRuntime) {
-    is_syntax(&rt, rt.alloc(), 2_048, "g0");
-    is_syntax(&rt, rt.alloc(), 2_048, "0g");
+    expect_syntax(&rt, rt.alloc(), 2_048, "g0");
+    expect_syntax(&rt, rt.alloc(), 2_048, "0g");
 }
