@@ -5,8 +5,8 @@ use Rattle.cs_world.proofs.Keeping.{replied}
 use Rattle.cs_world.proofs.Listing.{by_message}
 use Rattle.cs_world.proofs.world.World.message.Goals as goal
 
-pub returns-then-awaits-clause-fits : goal.returns-then-awaits-clause-fits
-returns-then-awaits-clause-fits c =
+pub returns-then-awaits_attach-clause-fits : goal.returns-then-awaits_attach-clause-fits
+returns-then-awaits_attach-clause-fits c =
     rw (
       ← c.self.view_is,
       get_or_default c.self.inside.sessions.items c.args.conn (empty_session None) c.index_mut-session.result.now
