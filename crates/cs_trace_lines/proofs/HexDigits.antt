@@ -1,13 +1,14 @@
 -- The bytes that hexadecimal digits spell, without the places of the errors: those of one part, and then those of the rest.
 use Rattle.std.proofs.Common.{◌≡◌, ℕ, ◌+◌, ◌*◌, ◌/◌, ◌%◌, min, true, false, if◌then◌else◌, List, [], ◌∷◌, ◌++◌, length, inl, inr}
 use Rattle.std.proofs.Common.{Option, Some, None, Result, Ok, Err, is_err, MatchResult, option_and_then, option_map}
-use Rattle.std.proofs.Common.{refl, sym, ap, ◌∙◌, arith, append_assoc, append-nil, length-append}
-use Rattle.std.proofs.lemmas.List.{nil_from_length}
+use Rattle.std.proofs.Common.{◌-◌, ◌≤◌, take, drop, refl, sym, ap, ◌∙◌, arith, append_assoc, append-nil, length-append, length-drop}
+use Rattle.std.proofs.lemmas.List.{drop-drop, drop_all, length-take, nil_from_length, take-append-drop, take_at}
+use Rattle.std.proofs.lemmas.Slice.{drop-put_mid, take-put_mid}
 use Rattle.std.proofs.lemmas.Bool.{cases_eq}
 use Rattle.std.specs.Result.{result_ok}
 use Rattle.hex.specs.Hex.{decode_of, decode_pairs, decode_sized, digit_or_error, hex_digit_value, pair_value, ◌>>=◌}
 use Rattle.hex.specs.declared.error.FromHexError.{FromHexError}
-use Rattle.hex.proofs.HexLemmas.{decode_of-even, decode_of-odd, decode_sized-odd, decode_sized-twice}
+use Rattle.hex.proofs.HexLemmas.{decode_of-even, decode_of-odd, decode_sized-odd, decode_sized-ok, decode_sized-twice}
 
 -- the byte of two digits
 abbrev pub byte_of : Option ℕ → Option ℕ → Option ℕ
@@ -121,16 +122,17 @@ spelled-decode_sized s n half =
       | inr even ↦ ap result_ok (decode_sized-twice s n (omega arith)) ∙ spelled-decode_of s
     ]
 
--- before the first part
-pub none_decoded : (all rest bytes : List ℕ) → bytes ≡ [] → rest ≡ all → spelled all ≡ followed_by (Some bytes) (spelled rest)
-none_decoded all rest bytes none whole = rw (none, whole) (nothing_followed (spelled all))
+-- `now` is what the digits `all` are after `n` bytes are decoded in their memory: those bytes, and at the end the digits that are left
+pub record IsDecoded (all now : List ℕ) (n : ℕ) : Type 0 where
+  pub same_length : length now ≡ length all
+  pub within : 2 * n ≤ length now
+  pub so_far : spelled all ≡ followed_by (Some (take n now)) (spelled (drop (2 * n) now))
 
 -- after the last part
-pub all_decoded : (all rest bytes : List ℕ) → spelled all ≡ followed_by (Some bytes) (spelled rest) → length rest ≡ 0
-    → result_ok (decode_of all) ≡ Some bytes
-all_decoded all rest bytes so_far none =
-    spelled-decode_of all ∙ so_far ∙ ap (λ s. followed_by (Some bytes) (spelled s)) (nil_from_length rest none)
-    ∙ ap (followed_by (Some bytes)) spelled-nil ∙ sym (followed_by_nothing (Some bytes))
+pub all_decoded : (all now : List ℕ) (n : ℕ) → IsDecoded all now n → length now ≤ 2 * n → result_ok (decode_of all) ≡ Some (take n now)
+all_decoded all now n decoded end =
+    spelled-decode_of all ∙ decoded.so_far ∙ ap (λ s. followed_by (Some (take n now)) (spelled s)) (drop_all (2 * n) now end)
+    ∙ ap (followed_by (Some (take n now))) spelled-nil ∙ sym (followed_by_nothing (Some (take n now)))
 
 -- a slice's decoding, by whether it fails
 given_by : (d : Result (List ℕ) FromHexError) (r : Result Unit FromHexError) (out : List ℕ)
@@ -139,21 +141,63 @@ given_by : (d : Result (List ℕ) FromHexError) (r : Result Unit FromHexError) (
 given_by (Ok bytes) r out h = rw (h.0, h.1) refl
 given_by (Err e) r out h = rw h refl
 
--- one part more
-module _ (size : ℕ) (all part left rest bytes room : List ℕ) (n : ℕ) (r : Result Unit FromHexError)
-    (so_far : spelled all ≡ followed_by (Some bytes) (spelled rest)) (parts : rest ≡ part ++ left)
-    (cut : length part ≡ min (2 * size) (length rest)) (half : length part / 2 ≡ n)
-    (given : MatchResult (decode_sized part n) (λ bytes. (r ≡ Ok tt) × (room ≡ bytes)) (λ e. r ≡ Err e)) where
-  next_part : (first : Option (List ℕ)) → (if is_err r then None else Some room) ≡ first
-      → spelled all ≡ followed_by (Some bytes) (followed_by first (spelled left))
-  next_part first is =
-      let part_is : spelled part ≡ first = sym (spelled-decode_sized part n half) ∙ given_by (decode_sized part n) r room given ∙ is in
-      so_far ∙ ap (followed_by (Some bytes)) (ap spelled parts ∙ spelled-part size part left (rw parts at cut))
-      ∙ ap (λ first. followed_by (Some bytes) (followed_by first (spelled left))) part_is
+-- a slice's decoding that doesn't fail
+given_ok : (d : Result (List ℕ) FromHexError) (r : Result Unit FromHexError) (out : List ℕ)
+    → MatchResult d (λ bytes. (r ≡ Ok tt) × (out ≡ bytes)) (λ e. r ≡ Err e) → is_err r ≡ false → d ≡ Ok out
+given_ok (Ok bytes) r out h is = ap Ok (sym h.1)
+given_ok (Err e) r out h is = let e : true ≡ false = ap is_err (sym h) ∙ is in cc
 
-  pub part_decoded : is_err r ≡ false → spelled all ≡ followed_by (Some (bytes ++ room)) (spelled left)
-  part_decoded is =
-      next_part (Some room) (ap (λ b. if b then None else Some room) is) ∙ followed_twice (Some bytes) (Some room) (spelled left)
+-- one part more: the first `m` of the digits that are left, with room for `size` bytes
+module _ (most size n m : ℕ) (all now rest room : List ℕ) (r : Result Unit FromHexError)
+    (decoded : IsDecoded all now n) (rest_is : rest ≡ drop (2 * n) now) (cut : m ≡ min (length rest) (2 * most))
+    (half : length (take m rest) / 2 ≡ size)
+    (given : MatchResult (decode_sized (take m rest) size) (λ bytes. (r ≡ Ok tt) × (room ≡ bytes)) (λ e. r ≡ Err e)) where
+  next_part : (first : Option (List ℕ)) → (if is_err r then None else Some room) ≡ first
+      → spelled all ≡ followed_by (Some (take n now)) (followed_by first (spelled (drop m rest)))
+  next_part first is =
+      let parts : take m rest ++ drop m rest ≡ rest = take-append-drop m rest in
+      let long : length (take m rest) ≡ min (2 * most) (length (take m rest ++ drop m rest)) =
+      rw parts (omega (arith, length-take m rest)) in
+      let part_is : spelled (take m rest) ≡ first =
+      sym (spelled-decode_sized (take m rest) size half) ∙ given_by (decode_sized (take m rest) size) r room given ∙ is in
+      decoded.so_far ∙ ap (λ s. followed_by (Some (take n now)) (spelled s)) (sym rest_is ∙ sym parts)
+      ∙ ap (followed_by (Some (take n now))) (spelled-part most (take m rest) (drop m rest) long)
+      ∙ ap (λ first. followed_by (Some (take n now)) (followed_by first (spelled (drop m rest)))) part_is
 
   pub part_refused : is_err r ≡ true → result_ok (decode_of all) ≡ None
   part_refused is = spelled-decode_of all ∙ next_part None (ap (λ b. if b then None else Some room) is)
+
+  -- a part that isn't refused has two digits for each byte
+  part_even : is_err r ≡ false → m ≡ 2 * size
+  part_even is =
+      let even = decode_sized-ok (take m rest) size room (given_ok (decode_sized (take m rest) size) r room given is) in
+      omega (arith, length-take m rest)
+
+  part_decoded : is_err r ≡ false → length room ≡ size
+      → spelled all ≡ followed_by (Some (take n now ++ room)) (spelled (drop (2 * (n + length room)) now))
+  part_decoded is room_is =
+      let even = part_even is in
+      let sum : 2 * n + m ≡ 2 * (n + length room) = omega arith in
+      next_part (Some room) (ap (λ b. if b then None else Some room) is) ∙ followed_twice (Some (take n now)) (Some room) (spelled (drop m rest))
+      ∙ ap (λ s. followed_by (Some (take n now ++ room)) (spelled s))
+      (ap (drop m) rest_is ∙ drop-drop m (2 * n) now ∙ ap (λ i. drop i now) sum)
+
+  -- the part's bytes are written after those of the parts before it, into a vector of this length
+  pub part_written : {written : List ℕ} (len : ℕ) → is_err r ≡ false → length room ≡ size → length now ≡ len
+      → let placed = take n now ++ (room ++ drop (length room) (drop n now)) in written ≡ take len (placed ++ drop (length placed) now)
+      → IsDecoded all written (n + length room)
+  part_written {written} len is room_is len_is written_is =
+      let even = part_even is in
+      let rest_long : length rest ≡ length now - 2 * n = ap length rest_is ∙ length-drop (2 * n) now in
+      let placed = take n now ++ (room ++ drop (length room) (drop n now)) in
+      let long : length placed ≡ len = omega (arith, length-append {A = ℕ}, length-take {A = ℕ}, length-drop {A = ℕ}) in
+      let placed_is : written ≡ placed = written_is ∙ take_at placed (drop (length placed) now) len long in
+      let front : take (n + length room) placed ≡ take n now ++ room =
+      take-put_mid n (length room) now room (n + length room) refl (omega arith) in
+      let left : drop (2 * (n + length room)) placed ≡ drop (2 * (n + length room)) now =
+      drop-put_mid n (length room) now room (2 * (n + length room)) (omega arith) (omega arith) refl in
+      rw placed_is (record {
+        same_length = long ∙ sym len_is ∙ decoded.same_length;
+        within = omega arith;
+        so_far = rw (front, left) (part_decoded is room_is);
+      })

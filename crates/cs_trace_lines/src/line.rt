@@ -149,13 +149,13 @@ fn members_in(alloc: Global, text: &str) -> Result<Map<String, Value>, LineFault
 /// The line that these fields make: a header if they have `trace`, a start line if `start`, an
 /// operation if `op`. None of these three keys, or more than one, is Syntax; the other faults are
 /// those of the reader of its kind. Texts are moved out of the fields, some perhaps before a fault.
-fn line_of(alloc: Global, version: Version, fields: &mut Fields) -> Result<Line, LineFault>
+fn line_of(version: Version, fields: &mut Fields) -> Result<Line, LineFault>
     ensures { IsRead line_value (line_of version (field_values fields.old)) result }
 {
     match (&fields.trace, &fields.start, &fields.op) {
         (Some(_), None, None) => header_in(fields),
-        (None, Some(_), None) => start_line_in(alloc, version, fields),
-        (None, None, Some(_)) => operation_in(alloc, version, fields),
+        (None, Some(_), None) => start_line_in(version, fields),
+        (None, None, Some(_)) => operation_in(version, fields),
         _ => Err(LineFault::Syntax),
     }
 }
@@ -171,5 +171,5 @@ pub fn read_line(alloc: Global, version: Version, text: &str) -> Result<Line, Li
     let members = members_in(alloc, text)?;
     let mut fields = Fields::new();
     fields.put_members(members);
-    line_of(alloc, version, &mut fields)
+    line_of(version, &mut fields)
 }

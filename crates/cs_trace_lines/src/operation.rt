@@ -18,7 +18,6 @@ use crate::values::{
 };
 use crate::verb::Verb;
 use crate::version::Version;
-use std::alloc::Global;
 
 /// Reads a creat: the path, the owner, the group and the mode of a new file.
 fn read_creat(fields: &mut Fields) -> Result<OperationLine, LineFault>
@@ -86,18 +85,14 @@ fn read_link(fields: &mut Fields) -> Result<OperationLine, LineFault>
 
 /// Reads a write: the path, the offset, and the bytes under the key `bytes` or, in the third
 /// version, `text`.
-fn read_write(
-    alloc: Global,
-    version: Version,
-    fields: &mut Fields,
-) -> Result<OperationLine, LineFault>
+fn read_write(version: Version, fields: &mut Fields) -> Result<OperationLine, LineFault>
     ensures { IsRead operation_value
         (operation_of version verb.Write (field_values fields.old)) result }
 {
     Ok(OperationLine::Write {
         path: take_text(&mut fields.path)?,
         offset: whole_number_in(&fields.offset)?,
-        bytes: take_content(alloc, version, &fields.bytes, &mut fields.text)?,
+        bytes: take_content(version, &mut fields.bytes, &mut fields.text)?,
     })
 }
 
@@ -173,7 +168,6 @@ fn read_say(fields: &mut Fields) -> Result<OperationLine, LineFault>
 /// caller has checked that there are no other keys. `Verb::key_count` counts the keys that are read
 /// here, and `op`.
 fn operation_of(
-    alloc: Global,
     version: Version,
     verb: Verb,
     fields: &mut Fields,
@@ -187,7 +181,7 @@ fn operation_of(
         Verb::Rmdir => read_rmdir(fields),
         Verb::Rename => read_rename(fields),
         Verb::Link => read_link(fields),
-        Verb::Write => read_write(alloc, version, fields),
+        Verb::Write => read_write(version, fields),
         Verb::Truncate => read_truncate(fields),
         Verb::Chmod => read_chmod(fields),
         Verb::Chown => read_chown(fields),
@@ -201,11 +195,7 @@ fn operation_of(
 /// The operation that these fields make. If the version has no operation of the name under `op`, it
 /// is UnknownOperation, whatever the other keys are. A key too many or too few, or a value that its
 /// key can't have, is Syntax.
-pub(crate) fn operation_in(
-    alloc: Global,
-    version: Version,
-    fields: &mut Fields,
-) -> Result<Line, LineFault>
+pub(crate) fn operation_in(version: Version, fields: &mut Fields) -> Result<Line, LineFault>
     ensures { IsRead line_value (operation_in version (field_values fields.old)) result }
 {
     let Some(verb) = Verb::of(version, text_of(&fields.op)?) else {
@@ -214,5 +204,5 @@ pub(crate) fn operation_in(
     if !has_only(version, verb.key_count(), fields) {
         return Err(LineFault::Syntax);
     }
-    Ok(Line::Operation(operation_of(alloc, version, verb, fields)?))
+    Ok(Line::Operation(operation_of(version, verb, fields)?))
 }

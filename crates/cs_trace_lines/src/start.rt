@@ -15,7 +15,6 @@ use crate::fields::Fields;
 use crate::line::{Line, StartLine};
 use crate::values::{has_only, take_claims, take_content, take_text, text_of};
 use crate::version::Version;
-use std::alloc::Global;
 
 /// What a start line adds, by the name under `start`.
 #[derive(Clone, Copy, Debug, PartialEq, Eq)]
@@ -67,10 +66,10 @@ fn read_start_entry(fields: &mut Fields, content: Option<Vec<u8>>) -> Result<Lin
 
 /// Reads the start line of a file, whose content is under the key `bytes` or, in the third version,
 /// `text`. A field that is missing or has another value is Syntax.
-fn read_start_file(alloc: Global, version: Version, fields: &mut Fields) -> Result<Line, LineFault>
+fn read_start_file(version: Version, fields: &mut Fields) -> Result<Line, LineFault>
     ensures { IsRead line_value (start_under version (field_values fields.old) File) result }
 {
-    let bytes = take_content(alloc, version, &fields.bytes, &mut fields.text)?;
+    let bytes = take_content(version, &mut fields.bytes, &mut fields.text)?;
     read_start_entry(fields, Some(bytes))
 }
 
@@ -89,17 +88,12 @@ fn read_start_link(fields: &mut Fields) -> Result<Line, LineFault>
 /// Reads the start line of this kind. A field that is missing or has another value is Syntax. The
 /// caller has checked that there are no other keys. `StartKind::key_count` counts the keys that are
 /// read here, and `start`.
-fn read_start(
-    alloc: Global,
-    version: Version,
-    kind: StartKind,
-    fields: &mut Fields,
-) -> Result<Line, LineFault>
+fn read_start(version: Version, kind: StartKind, fields: &mut Fields) -> Result<Line, LineFault>
     ensures { IsRead line_value (start_under version (field_values fields.old) kind) result }
 {
     match kind {
         StartKind::Directory => read_start_entry(fields, None),
-        StartKind::File => read_start_file(alloc, version, fields),
+        StartKind::File => read_start_file(version, fields),
         StartKind::Link => read_start_link(fields),
     }
 }
@@ -107,11 +101,7 @@ fn read_start(
 /// The start line that these fields make. If the version has no kind of the name under `start`, it
 /// is UnknownStart, whatever the other keys are. A key too many or too few, or a value that its key
 /// can't have, is Syntax.
-pub(crate) fn start_line_in(
-    alloc: Global,
-    version: Version,
-    fields: &mut Fields,
-) -> Result<Line, LineFault>
+pub(crate) fn start_line_in(version: Version, fields: &mut Fields) -> Result<Line, LineFault>
     ensures { IsRead line_value (start_line_in version (field_values fields.old)) result }
 {
     let Some(kind) = StartKind::of(version, text_of(&fields.start)?) else {
@@ -120,5 +110,5 @@ pub(crate) fn start_line_in(
     if !has_only(version, kind.key_count(), fields) {
         return Err(LineFault::Syntax);
     }
-    read_start(alloc, version, kind, fields)
+    read_start(version, kind, fields)
 }

@@ -13,7 +13,6 @@ use crate::fault::LineFault;
 use crate::fields::{Field, Fields};
 use crate::line::Claims;
 use crate::version::Version;
-use std::alloc::Global;
 
 /// The text in a field, borrowed. A value that isn't a text, or no value, is Syntax.
 pub(crate) fn text_of(field: &Option<Field>) -> Result<&str, LineFault>
@@ -88,27 +87,26 @@ pub(crate) fn take_claims(fields: &mut Fields) -> Result<Claims, LineFault>
 
 /// The bytes that the hexadecimal digits of a field spell, in upper or lower case; an empty text
 /// spells none. Another text, such as an odd number of digits, another value or no value is Syntax.
-fn bytes_in(alloc: Global, field: &Option<Field>) -> Result<Vec<u8>, LineFault>
-    ensures { IsRead (λ bytes. bytes.items) (bytes_in (option_map field_value field.now)) result }
+fn bytes_in(field: &mut Option<Field>) -> Result<Vec<u8>, LineFault>
+    ensures { IsRead (λ bytes. bytes.items) (bytes_in (option_map field_value field.old)) result }
 {
-    digits::decode(alloc, text_of(field)?)
+    digits::decode(take_text(field)?.into_bytes())
 }
 
 /// The bytes of a file or a write. If the field `digits` is there, it spells them in hexadecimal,
 /// and `text` stays as it is. If not, they are those of `text`, which is moved out, and which only
 /// the third version has. A field that is missing or has another value is Syntax.
 pub(crate) fn take_content(
-    alloc: Global,
     version: Version,
-    digits: &Option<Field>,
+    digits: &mut Option<Field>,
     text: &mut Option<Field>,
 ) -> Result<Vec<u8>, LineFault>
     ensures { IsRead (λ bytes. bytes.items)
-        (content_by version (option_map field_value digits.now) (option_map field_value text.old))
+        (content_by version (option_map field_value digits.old) (option_map field_value text.old))
         result }
 {
     if digits.is_some() {
-        return bytes_in(alloc, digits);
+        return bytes_in(digits);
     }
     if !version.is_third() {
         return Err(LineFault::Syntax);
