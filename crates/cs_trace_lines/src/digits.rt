@@ -1,4 +1,4 @@
-//! Decodes hexadecimal digits.
+//! Decodes hexadecimal digits in their own memory.
 ghost use Rattle.std.specs.Prelude.{◌≡◌, IfErr};
 ghost use Rattle.std.specs.Result.{result_ok};
 ghost use Rattle.hex.specs.Hex.{decode_of};

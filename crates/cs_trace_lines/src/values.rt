@@ -87,15 +87,16 @@ pub(crate) fn take_claims(fields: &mut Fields) -> Result<Claims, LineFault>
 
 /// The bytes that the hexadecimal digits of a field spell, in upper or lower case; an empty text
 /// spells none. Another text, such as an odd number of digits, another value or no value is Syntax.
-fn bytes_in(field: &mut Option<Field>) -> Result<Vec<u8>, LineFault>
+/// The field is None afterwards in any case.
+fn take_bytes(field: &mut Option<Field>) -> Result<Vec<u8>, LineFault>
     ensures { IsRead (λ bytes. bytes.items) (bytes_in (option_map field_value field.old)) result }
 {
     digits::decode(take_text(field)?.into_bytes())
 }
 
 /// The bytes of a file or a write. If the field `digits` is there, it spells them in hexadecimal,
-/// and `text` stays as it is. If not, they are those of `text`, which is moved out, and which only
-/// the third version has. A field that is missing or has another value is Syntax.
+/// and `text` stays as it is. If not, they are those of `text`, which only the third version has.
+/// The value that is read is moved out. A field that is missing or has another value is Syntax.
 pub(crate) fn take_content(
     version: Version,
     digits: &mut Option<Field>,
@@ -106,7 +107,7 @@ pub(crate) fn take_content(
         result }
 {
     if digits.is_some() {
-        return bytes_in(digits);
+        return take_bytes(digits);
     }
     if !version.is_third() {
         return Err(LineFault::Syntax);
