@@ -67,7 +67,7 @@ spelled-odd (high ∷ low ∷ rest) odd =
     ∙ before_none (byte_of (hex_digit_value high) (hex_digit_value low))
 
 -- what digits spell is what decode_of gives for them
-pub spelled-decode_of : (s : List ℕ) → result_ok (decode_of s) ≡ spelled s
+spelled-decode_of : (s : List ℕ) → result_ok (decode_of s) ≡ spelled s
 spelled-decode_of s =
     elim (cases_eq (length s % 2) 1) [
       | inl odd ↦ ap result_ok (decode_of-odd s odd) ∙ sym (spelled-odd s odd)
@@ -122,7 +122,7 @@ spelled-decode_sized s n half =
       | inr even ↦ ap result_ok (decode_sized-twice s n (omega arith)) ∙ spelled-decode_of s
     ]
 
--- `now` is what the digits `all` are after `n` bytes are decoded in their memory: those bytes, and at the end the digits that are left
+-- `now` is what is in the memory of the digits `all` after `n` bytes are decoded: first those bytes, and last the digits that are left
 pub record IsDecoded (all now : List ℕ) (n : ℕ) : Type 0 where
   pub same_length : length now ≡ length all
   pub within : 2 * n ≤ length now
@@ -147,7 +147,7 @@ given_ok : (d : Result (List ℕ) FromHexError) (r : Result Unit FromHexError) (
 given_ok (Ok bytes) r out h is = ap Ok (sym h.1)
 given_ok (Err e) r out h is = let e : true ≡ false = ap is_err (sym h) ∙ is in cc
 
--- one part more: the first `m` of the digits that are left, with room for `size` bytes
+-- one part more: the first `m` of the digits that are left, at most `2 * most` of them, into room for `size` bytes
 module _ (most size n m : ℕ) (all now rest room : List ℕ) (r : Result Unit FromHexError)
     (decoded : IsDecoded all now n) (rest_is : rest ≡ drop (2 * n) now) (cut : m ≡ min (length rest) (2 * most))
     (half : length (take m rest) / 2 ≡ size)
@@ -178,7 +178,8 @@ module _ (most size n m : ℕ) (all now rest room : List ℕ) (r : Result Unit F
   part_decoded is room_is =
       let even = part_even is in
       let sum : 2 * n + m ≡ 2 * (n + length room) = omega arith in
-      next_part (Some room) (ap (λ b. if b then None else Some room) is) ∙ followed_twice (Some (take n now)) (Some room) (spelled (drop m rest))
+      next_part (Some room) (ap (λ b. if b then None else Some room) is)
+      ∙ followed_twice (Some (take n now)) (Some room) (spelled (drop m rest))
       ∙ ap (λ s. followed_by (Some (take n now ++ room)) (spelled s))
       (ap (drop m) rest_is ∙ drop-drop m (2 * n) now ∙ ap (λ i. drop i now) sum)
 
