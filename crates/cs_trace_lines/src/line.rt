@@ -126,8 +126,8 @@ pub fn is_blank(line: &str) -> bool
         .all(|byte| *byte == b' ' || *byte == b'\t' || *byte == b'\r')
 }
 
-/// The members of the JSON object that a line spells. A text that isn't JSON, or that spells a value
-/// of another kind, is Syntax; and Memory means that an allocation failed.
+/// The members of the JSON object that a line spells. A text that isn't JSON, or that spells a
+/// value of another kind, is Syntax; and Memory means that an allocation failed.
 fn members_in(alloc: Global, text: &str) -> Result<Map<String, Value>, LineFault>
     ensures { IsRead (λ members. members_view members.entries)
         (option_and_then as_object (read text.now)) result }
