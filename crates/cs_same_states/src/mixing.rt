@@ -37,8 +37,8 @@ pub fn digest_of_rights(rights: &Rights) -> u64 {
     digest_of_parts(&rights.owner, &rights.group, u32::from(rights.permissions))
 }
 
-/// The digest of the owner, group and permissions of a record with these fields: the same as that of
-/// equal rights.
+/// The digest of the owner, group and permissions of a record with these fields: the same as that
+/// of equal rights.
 pub fn digest_of_metadata(record: &Metadata<'_>) -> u64 {
     digest_of_parts(record.owner, record.group, record.mode)
 }

@@ -51,8 +51,9 @@ impl Door {
         number
     }
 
-    /// Waits for the next connection and counts it. Shuts the door and returns Closed once `closing`
-    /// is set, or Failed if accepting fails. Returns Closed at once if the door is shut already.
+    /// Waits for the next connection and counts it. Shuts the door and returns Closed once
+    /// `closing` is set, or Failed if accepting fails. Returns Closed at once if the door is shut
+    /// already.
     fn admit_next<R: Wait + Clock>(&mut self, rt: &R, closing: &AtomicBool) -> Admitted {
         let Some(listener) = &self.listener else {
             return Admitted::Closed;

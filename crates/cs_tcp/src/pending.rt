@@ -44,8 +44,8 @@ pub(crate) fn reply_type_of(reply: &[u8]) -> Option<RKind> {
     RKind::of_number(reply.get(4).copied()?)
 }
 
-/// The same request, owned, if its reply matters: a walk, or a rename. None for any other. The types
-/// are those that `decode_if_it_matters` decodes.
+/// The same request, owned, if its reply matters: a walk, or a rename. None for any other. The
+/// types are those that `decode_if_it_matters` decodes.
 fn owned_if_it_matters(request: TMessage<'_>) -> Option<TMessage<'static>> {
     let tag = request.tag;
     match request.body {
@@ -79,8 +79,8 @@ fn decode_if_it_matters(alloc: Global, request: &[u8]) -> Option<TMessage<'stati
 }
 
 /// The reply that the bytes spell. If they can't be decoded, an Rerror `out of memory` with their
-/// tag: the server's own replies are well-formed, so only memory can be missing. The text is one that
-/// `reply_to_linux` knows.
+/// tag: the server's own replies are well-formed, so only memory can be missing. The text is one
+/// that `reply_to_linux` knows.
 fn reply_of(alloc: Global, reply: &[u8]) -> RMessage {
     match decode_reply(alloc, reply) {
         Ok(reply) => reply,

@@ -22,8 +22,8 @@ tree_code = code_by
     (λ p. record { start = p.0; nodes = p.1 })
     (λ _. refl)
 
--- what is at each path, from what was at the start and is still there, what was at the start and was
--- removed, and what operations put at other paths or over what was there
+-- what is at each path, from what was at the start and is still there, what was at the start and
+-- was removed, and what operations put at other paths or over what was there
 abbrev pub tree_of : Entries → Entries → Paths → Tree
 tree_of kept gone placed = record {
   start = union kept gone;

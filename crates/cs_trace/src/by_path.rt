@@ -1,6 +1,6 @@
 //! Maps of entries of the start by their whole paths, alone or next to the siblings, which are kept
-//! by name. After an error, the trace is given up; entries may be missing then, or only some of them
-//! appended to the lists of the start.
+//! by name. After an error, the trace is given up; entries may be missing then, or only some of
+//! them appended to the lists of the start.
 ghost use Rattle.std.specs.Prelude.{◌≡◌, ◌++◌, false, IfOk, OnErr, OnOk, length};
 ghost use Rattle.std.specs.FinMap as map;
 ghost use Rattle.std.specs.List.{list_any};

@@ -62,7 +62,8 @@ impl Entries {
     }
 
     /// The entry at the path; None if nothing is there. It takes no memory. The entry of a path in
-    /// the directory that is kept apart is only in `siblings`; `insert` and `remove` choose as here.
+    /// the directory that is kept apart is only in `siblings`; `insert` and `remove` choose as
+    /// here.
     pub(crate) fn entry(&self, path: &Path) -> Option<&StartEntry>
         ensures { option_map (λ entry. entry.now) result ≡ map.get self.now path.now }
     {

@@ -121,8 +121,8 @@ impl LastDirectory {
     }
 
     /// The last name of the path that the text spells, if the text is that of the directory, a `/`
-    /// and a legal name; only that name is checked. None for any other text, which may still spell a
-    /// path in the directory, and for every text if that of the directory isn't known or the
+    /// and a legal name; only that name is checked. None for any other text, which may still spell
+    /// a path in the directory, and for every text if that of the directory isn't known or the
     /// directory is the root.
     pub(crate) fn name_in_text<'a>(&self, text: &'a str) -> Option<&'a str>
         ensures entry { IfSome result (λ name.

@@ -60,8 +60,8 @@ fn add_attributes(
 
 /// Adds the entry of a new file or directory at the path: to the tree, to the sizes and the count
 /// of files if it is a file, and to the attributes if the version has them, as `LinesSoFar::apply`
-/// does. Counts one more record. Returns whether it replaced another entry, which the caller reports
-/// as a fault.
+/// does. Counts one more record. Returns whether it replaced another entry, which the caller
+/// reports as a fault.
 pub(crate) fn put_entry(
     alloc: Global,
     state: &mut LinesSoFar,

@@ -151,8 +151,8 @@ impl Tree {
     }
 
     /// Prepares for many start lines in the directory: if its text is long and nothing is below it
-    /// yet, its entries are kept apart from now on (`Entries::keep_apart`). Forgets the directory of
-    /// the last start line in any case. After an error, the trace is given up.
+    /// yet, its entries are kept apart from now on (`Entries::keep_apart`). Forgets the directory
+    /// of the last start line in any case. After an error, the trace is given up.
     pub(crate) fn prepare_for(
         &mut self,
         alloc: Global,
@@ -185,8 +185,8 @@ impl Tree {
         Ok(was_placed || was_kept)
     }
 
-    /// As `insert_start`, of the path that the text spells. During the start, nothing is placed, and
-    /// most often only the last name of the path is copied (`Entries::insert_spelled`).
+    /// As `insert_start`, of the path that the text spells. During the start, nothing is placed,
+    /// and most often only the last name of the path is copied (`Entries::insert_spelled`).
     pub(crate) fn insert_start_spelled(
         &mut self,
         alloc: Global,

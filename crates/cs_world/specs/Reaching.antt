@@ -34,8 +34,9 @@ abbrev pub run_asked_or_found_by : World → Step → WorldMark → Option ℕ
 run_asked_or_found_by world step mark =
     option_and_then (run_asked_or_found world.registry) (question_of_step world step mark)
 
--- a step of a connection changes at most one run: the one that it asks; of every run that it neither
--- asks nor finds the key and the count of finds stay too; and it changes no other connection
+-- a step of a connection changes at most one run: the one that it asks; of every run that it
+-- neither asks nor finds the key and the count of finds stay too; and it changes no other
+-- connection
 pub record ChangesWhatItAsks (world : World) (conn now : ℕ) (step : SessionStep)
     (mark : WorldMark) : Type 0 where
   pub runs : (place : ℕ)

@@ -292,8 +292,8 @@ const READS_AND_WRITES: [Asked; 8] = [
     Asked(Request::Write { fid: 3 }, Some(RuleId::E2)),
 ];
 
-/// A mode of an open, whether it asks to read, to write and to execute, and whether it covers a read
-/// and a write.
+/// A mode of an open, whether it asks to read, to write and to execute, and whether it covers a
+/// read and a write.
 struct Mode(u8, [bool; 3], [bool; 2]);
 
 const MODES: [Mode; 5] = [

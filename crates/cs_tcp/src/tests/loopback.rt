@@ -66,8 +66,8 @@ const PRINTED: [&str; 6] = [
 ];
 
 /// A client that is attached hangs up after three bytes of a message: the command still ends with
-/// status 0, and says why that connection ended. The next one's messages are printed, and its attach
-/// once it is granted. The audit at the end is of the passes of both.
+/// status 0, and says why that connection ended. The next one's messages are printed, and its
+/// attach once it is granted. The audit at the end is of the passes of both.
 #[test]
 fn a_client_that_hangs_up_inside_a_message(rt: HostRuntime) {
     let alloc = rt.alloc();
