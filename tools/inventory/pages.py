@@ -6,8 +6,17 @@ import re
 from pathlib import Path
 from typing import Dict, List
 
-from .sources import (TOP, citations, comment_of_file, crate_names, edits_of, examples_in,
-                      files_of, tools_tests, words_of)
+from .sources import (
+    TOP,
+    citations,
+    comment_of_file,
+    crate_names,
+    edits_of,
+    examples_in,
+    files_of,
+    tools_tests,
+    words_of,
+)
 
 EXAMPLES, INDEX = TOP / 'docs' / 'EXAMPLES.md', TOP / 'docs' / 'INDEX.md'
 BEGIN = '<!-- made by tools/inventories: begin -->'
@@ -42,8 +51,13 @@ def tests_of_tools() -> List[str]:
 
 def must_fail_edits() -> List[str]:
     """The table of wrong bodies, a row for each crate that has some."""
-    lines = ['', '## Wrong bodies that the prover refuses', '', '| Crate | Must-fail edits |',
-             '|---|---|']
+    lines = [
+        '',
+        '## Wrong bodies that the prover refuses',
+        '',
+        '| Crate | Must-fail edits |',
+        '|---|---|',
+    ]
     for crate in crate_names():
         edits = edits_of(crate)
         if edits:
@@ -69,10 +83,18 @@ def index() -> str:
     for crate in crate_names():
         words, calls = words_of(crate), cited.get(crate, {})
         if words:
-            lines += ['', f'## {crate}', '', '| Word | What it says | File | Cited by |',
-                      '|---|---|---|---|']
-            lines += [f'| `{cell(it.name)}` | {cell(it.sentence)} | {it.file} '
-                      f'| {calls_shown(calls.get(it.name, []))} |' for it in words]
+            lines += [
+                '',
+                f'## {crate}',
+                '',
+                '| Word | What it says | File | Cited by |',
+                '|---|---|---|---|',
+            ]
+            lines += [
+                f'| `{cell(it.name)}` | {cell(it.sentence)} | {it.file} '
+                f'| {calls_shown(calls.get(it.name, []))} |'
+                for it in words
+            ]
     return '\n'.join(lines).strip()
 
 
@@ -88,5 +110,4 @@ def page_with(page: str, part: str) -> str:
 def pages() -> Dict[Path, str]:
     """Each page that has a part of this kind, as the sources want it."""
     parts = {EXAMPLES: examples(), INDEX: index()}
-    return {path: page_with(path.read_text(encoding='utf-8'), part)
-            for path, part in parts.items()}
+    return {path: page_with(path.read_text(encoding='utf-8'), part) for path, part in parts.items()}

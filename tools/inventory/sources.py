@@ -1,4 +1,4 @@
-"""The sources of a crate: its tests with their sentences, its words, and the calls that cite them."""
+"""The sources of a crate: its tests with their sentences, its words, and what cites them."""
 
 from __future__ import annotations
 
@@ -53,7 +53,7 @@ def comment_above(lines: List[str], at: int, mark: str) -> str:
     for line in reversed(lines[:at]):
         text = line.strip()
         if text.startswith(mark):
-            found.insert(0, text[len(mark):].strip())
+            found.insert(0, text[len(mark) :].strip())
         elif found or not text.startswith('#['):
             break
     return ' '.join(found)
@@ -77,7 +77,7 @@ def comment_of_file(path: Path) -> str:
     for line in path.read_text(encoding='utf-8').splitlines():
         if not line.startswith('//!'):
             break
-        found.append(line[len('//!'):].strip())
+        found.append(line[len('//!') :].strip())
     return ' '.join(found)
 
 
@@ -105,8 +105,11 @@ def words_in(path: Path, name: str) -> List[Word]:
 def words_of(crate: str) -> List[Word]:
     """The public words of a crate's `specs/`, by file, in the order in which they stand."""
     folder = CRATES / crate / 'specs'
-    return [word for path in files_of(crate, 'specs', '.antt')
-            for word in words_in(path, str(path.relative_to(folder))[:-len('.antt')])]
+    return [
+        word
+        for path in files_of(crate, 'specs', '.antt')
+        for word in words_in(path, str(path.relative_to(folder))[: -len('.antt')])
+    ]
 
 
 def contracts_in(path: Path) -> Iterator[Tuple[str, str]]:
@@ -120,7 +123,8 @@ def contracts_in(path: Path) -> Iterator[Tuple[str, str]]:
         if head is None or not (head.group(2) or owner):
             continue
         yield f'{owner}::{head.group(3)}' if owner else head.group(3), contract_at(
-            lines, at + 1, head.group(1))
+            lines, at + 1, head.group(1)
+        )
 
 
 def contract_at(lines: List[str], at: int, indent: str) -> str:

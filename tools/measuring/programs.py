@@ -94,9 +94,11 @@ class Tally:
 
 def started(words: List[str], cpus: Optional[Sequence[int]] = None) -> subprocess.Popen[str]:
     """The program, on these processors alone if any are named."""
+
     def place() -> None:
         if cpus:
             os.sched_setaffinity(0, cpus)
 
-    return subprocess.Popen(words, stdin=subprocess.DEVNULL, stdout=subprocess.PIPE, text=True,
-                            preexec_fn=place)
+    return subprocess.Popen(
+        words, stdin=subprocess.DEVNULL, stdout=subprocess.PIPE, text=True, preexec_fn=place
+    )

@@ -52,9 +52,21 @@ def listening(words: List[str]) -> Iterator[subprocess.Popen[str]]:
 def crashfs(programs: Programs, address: str, connections: int) -> List[str]:
     """The command line that serves the one state of a small trace."""
     examples: Path = programs.top / 'examples'
-    return [str(programs.built('crashfs')), 'serve', '--users', str(examples / 'users'),
-            '--trace', str(examples / 'start.trace'), '--listen', address, '--workers', '1',
-            '--connections', str(connections), '--ready']
+    return [
+        str(programs.built('crashfs')),
+        'serve',
+        '--users',
+        str(examples / 'users'),
+        '--trace',
+        str(examples / 'start.trace'),
+        '--listen',
+        address,
+        '--workers',
+        '1',
+        '--connections',
+        str(connections),
+        '--ready',
+    ]
 
 
 def resident(server: subprocess.Popen[str]) -> int:

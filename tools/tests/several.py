@@ -73,7 +73,6 @@ def sendable(word: Any) -> Any:
 
 
 class SeveralAtOnce(unittest.TestSuite):
-
     def run(self, result: unittest.TestResult, debug: bool = False) -> unittest.TestResult:
         tests = list(tests_of(self))
         came: Dict[int, List[Step]] = {}
@@ -95,8 +94,11 @@ def tell(result: unittest.TestResult, steps: Sequence[Step]) -> None:
 
 def ended(test: unittest.TestCase) -> List[Step]:
     named, trouble = Named(test), Broken('the process of the test ended')
-    return [('startTest', (named,)), ('addError', (named, (Broken, trouble, None))),
-            ('stopTest', (named,))]
+    return [
+        ('startTest', (named,)),
+        ('addError', (named, (Broken, trouble, None))),
+        ('stopTest', (named,)),
+    ]
 
 
 def outcomes(tests: Sequence[unittest.TestCase]) -> Iterator[Tuple[int, List[Step]]]:

@@ -4,7 +4,7 @@ import io
 import tarfile
 import unittest
 
-from crashfs_tools.archive import ArchiveFault, Member, members
+from crashfs_tools.common.archive import ArchiveFault, Member, members
 
 LONG = 'n' * 255
 TREE = [
@@ -34,11 +34,11 @@ def read(data: bytes):
 
 
 class Archives(unittest.TestCase):
-
     def test_entries_are_read_with_all_that_they_have(self):
         self.assertEqual(read(archive_of(TREE)), TREE)
-        self.assertEqual(read(archive_of(TREE[:3] + TREE[5:], tarfile.USTAR_FORMAT)),
-                         TREE[:3] + TREE[5:])
+        self.assertEqual(
+            read(archive_of(TREE[:3] + TREE[5:], tarfile.USTAR_FORMAT)), TREE[:3] + TREE[5:]
+        )
 
     def test_an_archive_without_its_end_is_refused(self):
         data = archive_of(TREE[:1])
@@ -51,7 +51,7 @@ class Archives(unittest.TestCase):
         header = bytearray(archive_of(TREE[2:3])[:512])
         for place, byte, why in [(0, b'D', 'another sum'), (156, b'2', 'another sum')]:
             changed = bytearray(header)
-            changed[place:place + 1] = byte
+            changed[place : place + 1] = byte
             with self.assertRaisesRegex(ArchiveFault, why):
                 read(bytes(changed) + bytes(1024))
         for path in ('../up', 'd/../up', 'd//f', '/top', './d'):

@@ -59,7 +59,7 @@ class Order(unittest.TestCase):
 
     def test_a_crate_over_many_has_one_processor(self) -> None:
         low = [f'low{it}' for it in range(BUILD.MANY_BELOW)]
-        below = {'top': low[-1:], **{it: low[at - 1:at] for at, it in enumerate(low)}}
+        below = {'top': low[-1:], **{it: low[at - 1 : at] for at, it in enumerate(low)}}
         work = BUILD.Work(below, {it: 1 for it in below}, 4)
         work.begun.update(low)
         work.proved.update(low)

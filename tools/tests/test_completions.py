@@ -23,26 +23,26 @@ def long_names(options: List[Option]) -> Set[str]:
 
 
 class Lines(unittest.TestCase):
-
     def test_an_option_of_zsh_has_its_help_and_its_values(self) -> None:
         for option, line in (
-                (Option(('--a',), "isn't [b]: c"), "'--a[isn’t (b)\\: c]'"),
-                (Option(('--a',), 'b', 'FILE'), "'--a[b]:FILE:_files'"),
-                (Option(('--a',), 'b', 'C', ('x', 'y')), "'--a[b]:C:(x y)'"),
-                (Option(('-a', '--all'), 'b'), "'(-a --all)'{-a,--all}'[b]'")):
+            (Option(('--a',), "isn't [b]: c"), "'--a[isn’t (b)\\: c]'"),
+            (Option(('--a',), 'b', 'FILE'), "'--a[b]:FILE:_files'"),
+            (Option(('--a',), 'b', 'C', ('x', 'y')), "'--a[b]:C:(x y)'"),
+            (Option(('-a', '--all'), 'b'), "'(-a --all)'{-a,--all}'[b]'"),
+        ):
             self.assertEqual(zsh_option(option), line)
 
     def test_an_option_of_fish_has_its_help_and_its_values(self) -> None:
         for option, line in (
-                (Option(('--a',), "isn't"), "complete -c p -l a -d 'isn’t'"),
-                (Option(('-a', '--all'), 'b', 'FILE'), "complete -c p -s a -l all -r -d 'b'"),
-                (Option(('--a',), 'b', 'C', ('x', 'y')), "complete -c p -l a -x -a 'x y' -d 'b'")):
+            (Option(('--a',), "isn't"), "complete -c p -l a -d 'isn’t'"),
+            (Option(('-a', '--all'), 'b', 'FILE'), "complete -c p -s a -l all -r -d 'b'"),
+            (Option(('--a',), 'b', 'C', ('x', 'y')), "complete -c p -l a -x -a 'x y' -d 'b'"),
+        ):
             self.assertEqual(fish_option('p', option), line)
 
 
 @needs_zsh
 class Zsh(unittest.TestCase):
-
     def test_it_reads_the_files(self) -> None:
         for path in sorted(FOLDER.glob('*.zsh')):
             ran = subprocess.run(['zsh', '-n', str(path)], capture_output=True, text=True)
@@ -51,13 +51,17 @@ class Zsh(unittest.TestCase):
 
 @needs_fish
 class Fish(InFolder):
-
     def offered(self, command: str, words: str) -> Dict[str, str]:
         """What may complete the words, each with its help."""
         line = f'source {FOLDER / command}.fish; complete -C "{command} {words}"'
-        ran = subprocess.run(['fish', '--no-config', '-c', line], cwd=self.folder, check=True,
-                             capture_output=True, text=True,
-                             env={**os.environ, 'HOME': self.folder, 'LC_ALL': 'C.UTF-8'})
+        ran = subprocess.run(
+            ['fish', '--no-config', '-c', line],
+            cwd=self.folder,
+            check=True,
+            capture_output=True,
+            text=True,
+            env={**os.environ, 'HOME': self.folder, 'LC_ALL': 'C.UTF-8'},
+        )
         self.assertEqual(ran.stderr, '')
         return dict(row.partition('\t')[::2] for row in ran.stdout.splitlines())
 
@@ -77,14 +81,16 @@ class Fish(InFolder):
         self.assertLessEqual(set(commands), set(self.offered('crashfs', '')))
         self.assertEqual(set(self.offered('crashfs', '--')), {'--help', '--version'})
         for command, options in commands.items():
-            self.assertEqual(set(self.offered('crashfs', f'{command} --')),
-                             long_names([HELP, *options]))
+            self.assertEqual(
+                set(self.offered('crashfs', f'{command} --')), long_names([HELP, *options])
+            )
 
     def test_it_offers_the_values_that_are_known(self) -> None:
         for option in options_of_tool('crashfs-record'):
             if option.choices:
-                self.assertEqual(set(self.offered('crashfs-record', f'{option.names[-1]} ')),
-                                 set(option.choices))
+                self.assertEqual(
+                    set(self.offered('crashfs-record', f'{option.names[-1]} ')), set(option.choices)
+                )
 
 
 if __name__ == '__main__':

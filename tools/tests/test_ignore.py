@@ -2,7 +2,7 @@
 
 import unittest
 
-from crashfs_tools.ignore import Ignore
+from crashfs_tools.recorder.ignore import Ignore
 
 # (the patterns, a path, whether it is left out)
 CASES = [
@@ -38,7 +38,6 @@ CASES = [
 
 
 class Patterns(unittest.TestCase):
-
     def test_what_each_pattern_leaves_out(self):
         for globs, path, wanted in CASES:
             with self.subTest(f'{globs} {path}'):

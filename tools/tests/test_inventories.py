@@ -6,8 +6,16 @@ import unittest
 
 from inventory.completions import completions
 from inventory.pages import BEGIN, END, calls_shown, cell, page_with, pages
-from inventory.sources import (TOP, Word, contracts_in, crate_names, edits_of, examples_in,
-                               tools_tests, words_in)
+from inventory.sources import (
+    TOP,
+    Word,
+    contracts_in,
+    crate_names,
+    edits_of,
+    examples_in,
+    tools_tests,
+    words_in,
+)
 
 TESTS = '''\
 //! Lists.
@@ -65,7 +73,6 @@ pub fn sorted(x: &List<u8>) -> bool
 
 
 class Inventories(unittest.TestCase):
-
     def written(self, text):
         folder = tempfile.TemporaryDirectory()
         self.addCleanup(folder.cleanup)
@@ -75,14 +82,22 @@ class Inventories(unittest.TestCase):
 
     def test_a_test_has_the_comment_above_it(self):
         found = [(it.name, it.sentence) for it in examples_in(self.written(TESTS))]
-        self.assertEqual(found, [
-            ('a_longer_list_is_longer', 'A list of two is longer than one of one.'),
-            ('nothing_is_said', '')])
+        self.assertEqual(
+            found,
+            [
+                ('a_longer_list_is_longer', 'A list of two is longer than one of one.'),
+                ('nothing_is_said', ''),
+            ],
+        )
 
     def test_a_word_in_a_module_with_parameters_is_found(self):
-        self.assertEqual(words_in(self.written(WORDS), 'Given'), [
-            Word('first_two', 'Given', 'the first two'),
-            Word('IsGiven', 'Given', 'What is given, and kept.')])
+        self.assertEqual(
+            words_in(self.written(WORDS), 'Given'),
+            [
+                Word('first_two', 'Given', 'the first two'),
+                Word('IsGiven', 'Given', 'What is given, and kept.'),
+            ],
+        )
 
     def test_contracts_are_those_of_public_calls_without_their_bodies(self):
         found = dict(contracts_in(self.written(CALLS)))

@@ -17,18 +17,23 @@ MAY_BE_LONG = re.compile(r'"|^\s*((ghost )?use |pub use |#\[tactic)|\\$')
 
 def long_lines(text: str, columns: int) -> list[str]:
     """The lines of a text that have more columns, but for those that may."""
-    return [line for line in text.splitlines()
-            if len(line) > columns and (COMMENT.match(line) or not MAY_BE_LONG.search(line))]
+    return [
+        line
+        for line in text.splitlines()
+        if len(line) > columns and (COMMENT.match(line) or not MAY_BE_LONG.search(line))
+    ]
 
 
 def sources() -> list[Path]:
-    return [path for folder in ('src', 'specs', 'proofs')
-            for path in sorted(CRATES.glob(f'*/{folder}/**/*'))
-            if path.suffix in ('.rt', '.antt')]
+    return [
+        path
+        for folder in ('src', 'specs', 'proofs')
+        for path in sorted(CRATES.glob(f'*/{folder}/**/*'))
+        if path.suffix in ('.rt', '.antt')
+    ]
 
 
 class Layout(unittest.TestCase):
-
     def test_a_long_comment_or_clause_is_found_and_a_text_is_not(self) -> None:
         comment = '/// ' + '"a" ' * 25
         self.assertEqual(long_lines(f'{comment}\nfn f()\n', CODE_COLUMNS), [comment])

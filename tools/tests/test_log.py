@@ -3,13 +3,13 @@
 import sys
 import unittest
 
-from crashfs_tools import arguments
-from crashfs_tools.directory import Scan
-from crashfs_tools.pipe_lines import PipeLines
-from crashfs_tools.session import Beginning, Session
-from crashfs_tools.strace_log import LogError, read_log
-from crashfs_tools.trace import Header
-from crashfs_tools.translate import Translator
+from crashfs_tools.common.trace import Header
+from crashfs_tools.recorder import arguments
+from crashfs_tools.recorder.directory import Scan
+from crashfs_tools.recorder.pipe_lines import PipeLines
+from crashfs_tools.recorder.session import Beginning, Session
+from crashfs_tools.recorder.strace_log import LogError, read_log
+from crashfs_tools.recorder.translate import Translator
 
 from .support import numbers
 
@@ -17,8 +17,9 @@ LARGE = 'ab' * 40_000
 
 
 def new_session():
-    return Session(Beginning('/d', 0o022, 'u', 'u'), Scan(Header('u', 'u', 0o755)),
-                   lambda path: False)
+    return Session(
+        Beginning('/d', 0o022, 'u', 'u'), Scan(Header('u', 'u', 0o755)), lambda path: False
+    )
 
 
 def written(word, name='pwrite64'):
@@ -27,14 +28,16 @@ def written(word, name='pwrite64'):
 
 
 class Words(unittest.TestCase):
-
     def test_arguments_end_at_commas_outside_of_texts_and_brackets(self):
         for text, words in (
-                ('3</d>, "a,b)", [{x="(", y=1}, 2], A|B', ['3</d>', '"a,b)"', '[{x="(", y=1}, 2]',
-                                                           'A|B']),
-                ('"a"..., 9', ['"a"...', '9']),
-                ('"a, 9', ['"a, 9']),
-                ('', [''])):
+            (
+                '3</d>, "a,b)", [{x="(", y=1}, 2], A|B',
+                ['3</d>', '"a,b)"', '[{x="(", y=1}, 2]', 'A|B'],
+            ),
+            ('"a"..., 9', ['"a"...', '9']),
+            ('"a, 9', ['"a, 9']),
+            ('', ['']),
+        ):
             self.assertEqual(arguments.split(text), words)
 
     def test_only_texts_by_numbers_are_read(self):
@@ -50,8 +53,9 @@ class Words(unittest.TestCase):
             word = written(f'"{piece}"', name)
             self.assertEqual(arguments.data(word), LARGE.encode())
             self.assertLess(sys.getsizeof(word), len(LARGE) + 200)
-        vector = written(f'[{{iov_base="{piece}", iov_len=80000}}, {{iov_base="{numbers("z")}"}}]',
-                         'writev')
+        vector = written(
+            f'[{{iov_base="{piece}", iov_len=80000}}, {{iov_base="{numbers("z")}"}}]', 'writev'
+        )
         self.assertEqual(arguments.vector(vector), LARGE.encode() + b'z')
         self.assertLess(sys.getsizeof(vector), len(LARGE) + 200)
 
@@ -67,9 +71,13 @@ class Words(unittest.TestCase):
 
     def test_the_trace_has_what_the_log_had(self):
         file = f'3<{numbers("/d/f")}>'
-        log = read_log([f'7 openat(AT_FDCWD<{numbers("/d")}>, "{numbers("f")}", O_RDWR|O_CREAT, '
-                        f'0666) = {file}\n',
-                        f'7 pwrite64({file}, "{numbers(LARGE)}", 80000, 0) = 80000\n'])
+        log = read_log(
+            [
+                f'7 openat(AT_FDCWD<{numbers("/d")}>, "{numbers("f")}", O_RDWR|O_CREAT, '
+                f'0666) = {file}\n',
+                f'7 pwrite64({file}, "{numbers(LARGE)}", 80000, 0) = 80000\n',
+            ]
+        )
         session = new_session()
         Translator(session, log).run()
         self.assertEqual(session.trace.operations[1].data, LARGE.encode())
@@ -77,13 +85,12 @@ class Words(unittest.TestCase):
 
 
 class Lines(unittest.TestCase):
-
     def test_lines_come_whole_however_they_are_cut(self):
         text = b'a\n\n' + b'b' * 9 + b'\nc\nd'
         for size in range(1, len(text) + 1):
             lines = PipeLines(-1)
             for at in range(0, len(text), size):
-                lines.take(text[at:at + size])
+                lines.take(text[at : at + size])
             lines.take(b'')
             self.assertEqual(list(lines.ready), ['a\n', '\n', 'b' * 9 + '\n', 'c\n', 'd'])
             self.assertTrue(lines.has_ended)
@@ -95,11 +102,17 @@ class Lines(unittest.TestCase):
         self.assertEqual(list(lines.ready), ['a\n'])
 
     def test_a_call_that_is_cut_in_two_is_one(self):
-        log = read_log(['7 read(0x3 <unfinished ...>\n', '8 close(4) = 0\n',
-                        '7 <... read resumed>, 0x7ffc, 0x2) = 0x2\n'])
-        self.assertEqual([(call.process, call.name, call.words, call.begin, call.end)
-                          for call in log.calls],
-                         [(8, 'close', ['4'], 2, 2), (7, 'read', ['0x3', '0x7ffc', '0x2'], 1, 3)])
+        log = read_log(
+            [
+                '7 read(0x3 <unfinished ...>\n',
+                '8 close(4) = 0\n',
+                '7 <... read resumed>, 0x7ffc, 0x2) = 0x2\n',
+            ]
+        )
+        self.assertEqual(
+            [(call.process, call.name, call.words, call.begin, call.end) for call in log.calls],
+            [(8, 'close', ['4'], 2, 2), (7, 'read', ['0x3', '0x7ffc', '0x2'], 1, 3)],
+        )
 
 
 if __name__ == '__main__':

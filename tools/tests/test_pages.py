@@ -5,13 +5,13 @@ import re
 import unittest
 from xml.dom import minidom
 
-from crashfs_tools.drawing import drawing_of
-from crashfs_tools.entry import Entry
-from crashfs_tools.groups import Difference
-from crashfs_tools.junit import junit_lines
-from crashfs_tools.page import page
-from crashfs_tools.runner import BAD, GOOD, NO_ANSWER, Outcome
-from crashfs_tools.tree_diff import different_lines, nearest_good
+from crashfs_tools.checker.findings.groups import Difference
+from crashfs_tools.checker.findings.tree_diff import different_lines, nearest_good
+from crashfs_tools.checker.report.drawing import drawing_of
+from crashfs_tools.checker.report.junit import junit_lines
+from crashfs_tools.checker.report.page import page
+from crashfs_tools.checker.running.runner import BAD, GOOD, NO_ANSWER, Outcome
+from crashfs_tools.common.entry import Entry
 
 from .test_groups import HEADER, findings_of, line, report_of, reported, write
 
@@ -23,8 +23,9 @@ def odd_findings():
     """Of a store with an odd name, of which two of three lines are lost, and one state hangs."""
     text = HEADER + line('creat', ODD) + line('say', text='one </script>')
     text += write(ODD, 'row') + line('say', text='two')
-    findings = findings_of(text, lambda files, says: '' if len(files) >= min(says, 1)
-                           else 'lost: <file>\x01')
+    findings = findings_of(
+        text, lambda files, says: '' if len(files) >= min(says, 1) else 'lost: <file>\x01'
+    )
     findings.groups[0].outcome = Outcome(BAD, 'lost: <file>\x01', 'first\n<last>\x01\n')
     return findings
 
@@ -34,7 +35,6 @@ def odd_report():
 
 
 class Pages(unittest.TestCase):
-
     def data(self, text):
         return json.loads(re.search(r'const windows = (.*);\n', text)[1])
 
@@ -63,7 +63,7 @@ class Pages(unittest.TestCase):
         hanging = next(iter(findings.plan.states)).number
         findings.by_state[hanging] = Outcome(NO_ANSWER)
         del findings.by_state[findings.plan.states[1].number]
-        data, = self.data(''.join(page(reported(findings))))
+        (data,) = self.data(''.join(page(reported(findings))))
         self.assertEqual(data, drawing_of(findings))
         self.assertEqual(data['prefixes'][:2], 'n-')
         signs = data['prefixes'] + ''.join(data['holes']) + ''.join(one for _, one in data['picks'])
@@ -81,29 +81,45 @@ class Pages(unittest.TestCase):
 
 
 class Differences(unittest.TestCase):
-
     def test_each_path_that_differs_has_a_line(self):
         def entry(data, mode=0o644):
             return Entry('u', 'u', mode, None if data is None else bytearray(data))
 
-        failing = {'/a': entry(b'abcdefgh-old'), '/b': entry(b''), '/d': entry(None, 0o700),
-                   '/same': entry(b'x'), '/short': entry(b'ab')}
-        good = {'/a': entry(b'abcdefgh-new'), '/c': entry(b'12'), '/d': entry(None),
-                '/same': entry(b'x'), '/short': entry(b'abc')}
-        self.assertEqual(list(different_lines(failing, good)), [
-            '/a has 12 bytes, there 12 bytes; at byte 9 6f6c64, there 6e6577',
-            '/b (0 bytes) is only here',
-            '/c (2 bytes) is not here',
-            '/d is 700 u u, there 644 u u',
-            '/short has 2 bytes, there 3 bytes; at byte 2 its end, there 63'])
+        failing = {
+            '/a': entry(b'abcdefgh-old'),
+            '/b': entry(b''),
+            '/d': entry(None, 0o700),
+            '/same': entry(b'x'),
+            '/short': entry(b'ab'),
+        }
+        good = {
+            '/a': entry(b'abcdefgh-new'),
+            '/c': entry(b'12'),
+            '/d': entry(None),
+            '/same': entry(b'x'),
+            '/short': entry(b'abc'),
+        }
+        self.assertEqual(
+            list(different_lines(failing, good)),
+            [
+                '/a has 12 bytes, there 12 bytes; at byte 9 6f6c64, there 6e6577',
+                '/b (0 bytes) is only here',
+                '/c (2 bytes) is not here',
+                '/d is 700 u u, there 644 u u',
+                '/short has 2 bytes, there 3 bytes; at byte 2 its end, there 63',
+            ],
+        )
 
     def test_the_nearest_good_state_lacks_or_has_the_least_beside(self):
         findings = odd_findings()
         group, kept = findings.groups[0], findings.plan.kept
         good = nearest_good(findings, group)
         self.assertEqual(findings.by_state[good.number].result, GOOD)
-        far = [bin(kept[state] ^ kept[group.example.number]).count('1')
-               for state, one in findings.by_state.items() if one.result == GOOD]
+        far = [
+            bin(kept[state] ^ kept[group.example.number]).count('1')
+            for state, one in findings.by_state.items()
+            if one.result == GOOD
+        ]
         self.assertEqual(bin(kept[good.number] ^ kept[group.example.number]).count('1'), min(far))
 
     def test_equal_files_are_said_to_be_so(self):
@@ -125,20 +141,20 @@ class Differences(unittest.TestCase):
 
 
 class JUnit(unittest.TestCase):
-
     def test_there_is_a_case_for_each_entry_and_one_for_the_others(self):
         report = odd_report()
         suite = minidom.parseString(''.join(junit_lines(report))).documentElement
         cases = suite.getElementsByTagName('testcase')
         self.assertEqual(len(cases), len(report.groups()) + 1)
         self.assertEqual(int(suite.getAttribute('tests')), len(cases))
-        self.assertEqual(int(suite.getAttribute('failures')),
-                         len(suite.getElementsByTagName('failure')))
+        self.assertEqual(
+            int(suite.getAttribute('failures')), len(suite.getElementsByTagName('failure'))
+        )
         self.assertEqual(cases[0].getAttribute('name'), 'lost: <file>?')
-        failure, = cases[0].getElementsByTagName('failure')
+        (failure,) = cases[0].getElementsByTagName('failure')
         self.assertIn('was not durable when', failure.getAttribute('message'))
         self.assertIn('fsync the directory / between them', failure.firstChild.data)
-        output, = cases[0].getElementsByTagName('system-out')
+        (output,) = cases[0].getElementsByTagName('system-out')
         self.assertEqual(output.firstChild.data, 'first\n<last>?\n')
         self.assertRegex(cases[-1].getAttribute('name'), r'^all other states \(\d+\)$')
 
@@ -148,8 +164,10 @@ class JUnit(unittest.TestCase):
             group.outcome = Outcome(NO_ANSWER, group.cause)
         report = reported(findings)
         suite = minidom.parseString(''.join(junit_lines(report))).documentElement
-        self.assertEqual((suite.getAttribute('failures'), suite.getAttribute('errors')),
-                         ('0', str(len(report.groups()))))
+        self.assertEqual(
+            (suite.getAttribute('failures'), suite.getAttribute('errors')),
+            ('0', str(len(report.groups()))),
+        )
 
 
 if __name__ == '__main__':

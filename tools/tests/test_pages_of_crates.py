@@ -47,7 +47,6 @@ def is_of_the_program(crate: str) -> bool:
 
 
 class Crates(unittest.TestCase):
-
     def test_each_crate_is_in_the_table_once(self):
         named = [cells[0] for cells in table_rows() if not cells[0].startswith('**')]
         self.assertEqual(sorted(named), sorted(crate_names()))

@@ -15,7 +15,9 @@ def text_of(version):
 
 TEXT_OF = inspect.getsource(text_of)
 # Stores three versions, and tells each. The first word says how.
-SAVER = TEXT_OF + """
+SAVER = (
+    TEXT_OF
+    + """
 import os, sys
 def sync(path):
     file = os.open(path, os.O_RDONLY)
@@ -34,8 +36,11 @@ for version in (1, 2, 3):
         sync('.')
     os.write(1, b'version %d is saved\\n' % version)
 """
+)
 # The file has a version, whole, which isn't older than what was told.
-CHECK = TEXT_OF + """
+CHECK = (
+    TEXT_OF
+    + """
 import os, sys
 with open('config') as file:
     text = file.read()
@@ -45,6 +50,7 @@ if not whole:
 if whole[0] < int(os.environ['CRASHFS_SAYS']):
     sys.exit('lost: an older version')
 """
+)
 
 # The way, its micro-operations, states, different trees, and states that fail.
 WAYS = [
@@ -58,17 +64,32 @@ WAYS = [
 @needs_strace
 @needs_version_3
 class Savers(InFolder):
-
     def first_line(self, way: str) -> str:
         """What crashfs-check tells of the saver that saves in that way."""
         os.mkdir(self.path(way))
         self.write(f'{way}/config', text_of(0))
-        ran = self.run_tool('crashfs-record', way, 'out.trace', '--',
-                            sys.executable, '-S', self.path('saver.py'), way)
+        ran = self.run_tool(
+            'crashfs-record',
+            way,
+            'out.trace',
+            '--',
+            sys.executable,
+            '-S',
+            self.path('saver.py'),
+            way,
+        )
         self.assertEqual(ran.returncode, 0, ran.stderr)
         self.assertIn('its last state equals the directory', ran.stderr)
-        ran = self.run_tool('crashfs-check', '--crashfs', FAKE, 'out.trace', '--',
-                            sys.executable, '-S', self.path('check.py'))
+        ran = self.run_tool(
+            'crashfs-check',
+            '--crashfs',
+            FAKE,
+            'out.trace',
+            '--',
+            sys.executable,
+            '-S',
+            self.path('check.py'),
+        )
         self.assertEqual(ran.stderr, '')
         return ran.stdout.splitlines()[0]
 
@@ -81,7 +102,8 @@ class Savers(InFolder):
                 self.assertRegex(
                     self.first_line(way),
                     f'^out.trace: {operations} micro-operations, {states} states, '
-                    f'{different} different: {failing or "none"} fails?')
+                    f'{different} different: {failing or "none"} fails?',
+                )
 
 
 if __name__ == '__main__':

@@ -3,12 +3,12 @@
 import unittest
 from typing import List, Sequence
 
-from crashfs_tools.directory import Scan
-from crashfs_tools.mapped import Copies, Copy
-from crashfs_tools.session import Beginning, Session
-from crashfs_tools.strace_log import read_log
-from crashfs_tools.trace import Header, Start
-from crashfs_tools.translate import Translator
+from crashfs_tools.common.trace import Header, Start
+from crashfs_tools.recorder.directory import Scan
+from crashfs_tools.recorder.mapped_files import Copies, Copy
+from crashfs_tools.recorder.session import Beginning, Session
+from crashfs_tools.recorder.strace_log import read_log
+from crashfs_tools.recorder.translate import Translator
 
 from .support import as_strace, short
 
@@ -35,21 +35,28 @@ FAILED = LOG[:1] + [
 
 
 def session_of(copies: List[Copy], log: Sequence[str] = tuple(LOG)) -> Session:
-    numbers = {place: 'fg'.index(line[line.index('/d/') + 3])
-               for place, line in enumerate(log, 1) if MAP in line}
-    session = Session(Beginning('/d', 0o022, 'u', 'u'), Scan(Header('u', 'u', 0o755), list(START)),
-                      lambda path: False)
+    numbers = {
+        place: 'fg'.index(line[line.index('/d/') + 3])
+        for place, line in enumerate(log, 1)
+        if MAP in line
+    }
+    session = Session(
+        Beginning('/d', 0o022, 'u', 'u'),
+        Scan(Header('u', 'u', 0o755), list(START)),
+        lambda path: False,
+    )
     Translator(session, read_log(map(as_strace, log)), Copies(copies, numbers)).run()
     return session
 
 
 class Stores(unittest.TestCase):
-
     def test_a_copy_before_the_mapping_s_place_is_after_the_mapping(self):
         # The child's call, of which the copy was taken, is before the parent's in the trace.
         session = session_of([Copy(7, 2, True, {0: b'parent\0\0', 1: b'child\0\0\0'}, {0, 1})])
-        self.assertEqual([short(one) for one in session.trace.operations], [
-            'write /g 0 child', 'write /f 0 parent', 'fsyncrange /f 0 4096'])
+        self.assertEqual(
+            [short(one) for one in session.trace.operations],
+            ['write /g 0 child', 'write /f 0 parent', 'fsyncrange /f 0 4096'],
+        )
         troubles = session.troubles.values()
         self.assertEqual({trouble.where for trouble in troubles}, {'/f', '/g'})
         for trouble in troubles:
@@ -58,29 +65,38 @@ class Stores(unittest.TestCase):
     def test_a_copy_is_after_its_process_s_last_call(self):
         # The parent was copied from between the child's call and the child's stop.
         session = session_of([Copy(6, 1, True, {}), Copy(7, 2, True, {0: b'parent\0\0'}, {0})])
-        self.assertEqual([short(one) for one in session.trace.operations],
-                         ['write /f 0 parent', 'fsyncrange /f 0 4096'])
+        self.assertEqual(
+            [short(one) for one in session.trace.operations],
+            ['write /f 0 parent', 'fsyncrange /f 0 4096'],
+        )
         self.assertEqual(len(session.troubles.values()), 1)
 
     def test_an_older_copy_doesn_t_undo_a_newer_one(self):
         # The parent's copy comes first, but the parent's call is after the child's in the trace.
         for older in (bytes(8), b'old\0\0\0\0\0'):
-            session = session_of([Copy(6, 1, True, {0: older}),
-                                  Copy(7, 2, True, {0: b'parent\0\0'}, {0})])
-            self.assertEqual([short(one) for one in session.trace.operations],
-                             ['write /f 0 parent', 'fsyncrange /f 0 4096'])
+            session = session_of(
+                [Copy(6, 1, True, {0: older}), Copy(7, 2, True, {0: b'parent\0\0'}, {0})]
+            )
+            self.assertEqual(
+                [short(one) for one in session.trace.operations],
+                ['write /f 0 parent', 'fsyncrange /f 0 4096'],
+            )
             self.assertEqual(len(session.troubles.values()), 1)
 
     def test_a_copy_after_a_call_that_failed_counts(self):
         session = session_of([Copy(3, 1, True, {0: b'row' + bytes(5)})], FAILED)
-        self.assertEqual([short(one) for one in session.trace.operations],
-                         ['write /f 0 row', 'fsyncrange /f 0 4096'])
+        self.assertEqual(
+            [short(one) for one in session.trace.operations],
+            ['write /f 0 row', 'fsyncrange /f 0 4096'],
+        )
         self.assertEqual(session.troubles.values(), [])
 
     def test_a_sure_copy_is_before_its_call(self):
         session = session_of([Copy(8, 1, True, {0: b'parent\0\0'})])
-        self.assertEqual([short(one) for one in session.trace.operations],
-                         ['write /f 0 parent', 'fsyncrange /f 0 4096'])
+        self.assertEqual(
+            [short(one) for one in session.trace.operations],
+            ['write /f 0 parent', 'fsyncrange /f 0 4096'],
+        )
         self.assertEqual(session.troubles.values(), [])
 
 

@@ -34,8 +34,7 @@ RETIRED = {
     r'(?:is|are) to (?:be|have|take|give|come)': 'must',
     r'behind (?:the|each|every|an?) (?:call|line|operation|sync|write)s?': 'after',
 }
-WORDS = {re.compile(rf'\b(?:{word})\b', re.IGNORECASE): better
-         for word, better in RETIRED.items()}
+WORDS = {re.compile(rf'\b(?:{word})\b', re.IGNORECASE): better for word, better in RETIRED.items()}
 # Where one of them may be: the file, a text of its line, and why.
 ALLOWED = {
     ('docs/BEHAVIOUR.md', 'CONN tells no more: out of memory'): 'a line that the server prints',
@@ -85,16 +84,20 @@ def texts_in_python(source: str) -> List[Tuple[int, str]]:
     """The texts of a Python program that it may print, each with its line: no documentation."""
     tree = ast.parse(source)
     hidden = documentation(tree)
-    return [(node.lineno, node.value) for node in ast.walk(tree)
-            if isinstance(node, ast.Constant) and isinstance(node.value, str)
-            and id(node) not in hidden]
+    return [
+        (node.lineno, node.value)
+        for node in ast.walk(tree)
+        if isinstance(node, ast.Constant) and isinstance(node.value, str) and id(node) not in hidden
+    ]
 
 
 def texts_in_rattle(source: str) -> List[Tuple[int, str]]:
     """The texts of a Rattle file, each with its line; comments have none."""
     code = re.sub(r'^\s*//.*$', '', source, flags=re.MULTILINE)
-    return [(code.count('\n', 0, found.start()) + 1, found[1])
-            for found in TEXT_OF_RATTLE.finditer(code)]
+    return [
+        (code.count('\n', 0, found.start()) + 1, found[1])
+        for found in TEXT_OF_RATTLE.finditer(code)
+    ]
 
 
 def is_python(path: Path) -> bool:
@@ -103,8 +106,11 @@ def is_python(path: Path) -> bool:
 
 def programs() -> List[Path]:
     """The commands of tools/ and their modules, without the tests."""
-    return [path for path in [*TOOLS.iterdir(), *TOOLS.rglob('*.py')]
-            if is_python(path) and TOOLS / 'tests' not in path.parents]
+    return [
+        path
+        for path in [*TOOLS.iterdir(), *TOOLS.rglob('*.py')]
+        if is_python(path) and TOOLS / 'tests' not in path.parents
+    ]
 
 
 def lines_of_programs() -> Iterator[Line]:
@@ -124,12 +130,14 @@ def is_allowed(line: Line) -> bool:
 
 def retired_in(line: Line) -> List[str]:
     """A sentence for each retired word of a line."""
-    return [f'{line.file}:{line.number}: "{found[0]}": {better}'
-            for word, better in WORDS.items() for found in word.finditer(line.text)]
+    return [
+        f'{line.file}:{line.number}: "{found[0]}": {better}'
+        for word, better in WORDS.items()
+        for found in word.finditer(line.text)
+    ]
 
 
 class Words(unittest.TestCase):
-
     def assert_none(self, lines: Iterator[Line]) -> None:
         found = [it for line in lines if not is_allowed(line) for it in retired_in(line)]
         self.assertEqual(found, [], '\n' + '\n'.join(found))
@@ -142,9 +150,13 @@ class Words(unittest.TestCase):
 
     def test_a_retired_word_is_found_with_its_line(self) -> None:
         line = Line('README.md', 7, 'A row that was told stands in the log.')
-        self.assertEqual(retired_in(line), [
-            'README.md:7: "told": acknowledged, reported, printed',
-            'README.md:7: "stands": is, is in'])
+        self.assertEqual(
+            retired_in(line),
+            [
+                'README.md:7: "told": acknowledged, reported, printed',
+                'README.md:7: "stands": is, is in',
+            ],
+        )
         self.assertEqual(retired_in(line._replace(text='Untold understandings')), [])
 
     def test_documentation_and_comments_are_not_printed(self) -> None:
@@ -156,6 +168,10 @@ class Words(unittest.TestCase):
         self.assertEqual(without_made(f'a\n{BEGIN}\ntold\n{END}\nb'), 'a\n\n\n\nb')
 
     def test_each_allowed_place_is_there(self) -> None:
-        places = {(line.file, text) for line in lines_of_pages() for _, text in ALLOWED
-                  if text in line.text}
+        places = {
+            (line.file, text)
+            for line in lines_of_pages()
+            for _, text in ALLOWED
+            if text in line.text
+        }
         self.assertEqual(set(ALLOWED) - places, set())

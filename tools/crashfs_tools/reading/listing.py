@@ -30,13 +30,25 @@ def json_listing(plan: Plan) -> Iterator[str]:
     """The same as JSON objects, with what each micro-operation needs."""
     for place, operation in enumerate(plan.reading.operations):
         needs = list(bits(plan.order.needs[place] | 1 << place))
-        yield as_line({'op': place, 'kind': operation.text.split(' ')[0], **operation.fields(),
-                       'line': operation.line, 'needs': needs})
+        yield as_line(
+            {
+                'op': place,
+                'kind': operation.text.split(' ')[0],
+                **operation.fields(),
+                'line': operation.line,
+                'needs': needs,
+            }
+        )
     first: Dict[Digest, int] = {}
     for number, (text, places) in enumerate(plan.states):
-        yield as_line({'state': number, **state_fields(text),
-                       'says': plan.trees.count_says(places),
-                       'same': first.setdefault(plan.trees.digest(places), number)})
+        yield as_line(
+            {
+                'state': number,
+                **state_fields(text),
+                'says': plan.trees.count_says(places),
+                'same': first.setdefault(plan.trees.digest(places), number),
+            }
+        )
 
 
 def state_fields(text: str) -> Dict[str, Any]:

@@ -37,7 +37,6 @@ class MicroOperation:
 
 
 class CreateEntry(MicroOperation):
-
     def __init__(self, path: str, made: Optional[int], rights: Rights) -> None:
         self.touched = (path,)
         self.made = made
@@ -54,7 +53,6 @@ class CreateEntry(MicroOperation):
 
 
 class DeleteEntry(MicroOperation):
-
     def __init__(self, path: str, is_directory: bool) -> None:
         self.touched = (path,)
         self.is_directory = is_directory
@@ -68,7 +66,6 @@ class DeleteEntry(MicroOperation):
 
 
 class MoveEntry(MicroOperation):
-
     def __init__(self, old: str, new: str) -> None:
         self.touched = (old, new)
 
@@ -81,7 +78,6 @@ class MoveEntry(MicroOperation):
 
 
 class LinkEntry(MicroOperation):
-
     def __init__(self, path: str, linked: int) -> None:
         self.touched = (path,)
         self.linked = linked
@@ -95,7 +91,6 @@ class LinkEntry(MicroOperation):
 
 
 class ChangeSize(MicroOperation):
-
     def __init__(self, file: int, length: int) -> None:
         self.file = file
         self.length = length
@@ -127,7 +122,6 @@ class WriteBlock(MicroOperation):
 
 
 class SetRights(MicroOperation):
-
     def __init__(self, file: Optional[int], directory: Optional[str], rights: Rights) -> None:
         self.file = file
         self.directory = directory
@@ -164,7 +158,6 @@ class Sync:
 
 
 class FileSync(Sync):
-
     def __init__(self, at: int, file: int) -> None:
         super().__init__(at)
         self.file = file
@@ -191,7 +184,6 @@ class RangeSync(FileSync):
 
 
 class DirectorySync(Sync):
-
     def __init__(self, at: int, path: str) -> None:
         super().__init__(at)
         self.path = path

@@ -108,8 +108,11 @@ def synced_sets(operations: List[MicroOperation], syncs: List[Sync]) -> List[int
     """For each place what the sync points before it cover."""
     covered = [0] * (len(operations) + 1)
     for sync in syncs:
-        covered[sync.at] |= sum(1 << place for place, operation
-                                in enumerate(operations[:sync.at]) if sync.covers(operation))
+        covered[sync.at] |= sum(
+            1 << place
+            for place, operation in enumerate(operations[: sync.at])
+            if sync.covers(operation)
+        )
     for place in range(1, len(covered)):
         covered[place] |= covered[place - 1]
     return covered

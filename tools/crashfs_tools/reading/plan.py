@@ -11,7 +11,7 @@ from .states import States
 from .trace import Reading
 
 STATES = 16_384
-LARGEST_PLACE = 2 ** 32 - 1
+LARGEST_PLACE = 2**32 - 1
 
 
 class Plan:
@@ -37,13 +37,15 @@ class Plan:
 
     def judge_pick(self, number: int, pick: Sequence[int]) -> None:
         ascending = all(one < other for one, other in zip(pick, pick[1:]))
-        if not (ascending and all(place < self.order.count for place in pick)
-                and self.order.is_allowed(set_of(pick))):
+        if not (
+            ascending
+            and all(place < self.order.count for place in pick)
+            and self.order.is_allowed(set_of(pick))
+        ):
             raise ReadingFault(f'pick {number} not allowed')
 
 
-def plan_of(reading: Reading, holes: bool = False,
-            picks: Sequence[Sequence[int]] = ()) -> Plan:
+def plan_of(reading: Reading, holes: bool = False, picks: Sequence[Sequence[int]] = ()) -> Plan:
     plan = Plan(reading)
     for count in range(plan.order.count + 1):
         plan.add(f'prefix {count}', (1 << count) - 1)

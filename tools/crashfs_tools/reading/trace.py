@@ -131,7 +131,7 @@ class Reading:
         while place < end:
             block = place // self.block_size
             stop = min(end, (block + 1) * self.block_size)
-            piece = data[place - at:stop - at]
+            piece = data[place - at : stop - at]
             self.add_change(WriteBlock(number, block, self.block_size, place, piece))
             place = stop
 
@@ -174,12 +174,19 @@ class Reading:
     def op_fsync(self, line: Line) -> None:
         number: Optional[int] = self.names.nodes[line.fields['path']]
         at = len(self.operations)
-        self.syncs.append(DirectorySync(at, line.fields['path']) if number is None
-                          else FileSync(at, number))
+        self.syncs.append(
+            DirectorySync(at, line.fields['path']) if number is None else FileSync(at, number)
+        )
 
     def op_fsync_range(self, line: Line) -> None:
-        self.syncs.append(RangeSync(len(self.operations), self.names.file(line.fields['path']),
-                                    line.fields['offset'], line.fields['length']))
+        self.syncs.append(
+            RangeSync(
+                len(self.operations),
+                self.names.file(line.fields['path']),
+                line.fields['offset'],
+                line.fields['length'],
+            )
+        )
 
     def op_sync(self, line: Line) -> None:
         self.syncs.append(Sync(len(self.operations)))

@@ -1,0 +1,160 @@
+"""Failing states put together by what went wrong: the cause, and the two lines of the trace."""
+
+from __future__ import annotations
+
+from dataclasses import dataclass, field
+from typing import Dict, Iterable, List, NamedTuple, Optional, Tuple
+
+from crashfs_tools.checker.running.results import Head, Results
+from crashfs_tools.checker.running.runner import GOOD, Outcome
+from crashfs_tools.checker.states.plan import Plan, State, count, places_of
+from crashfs_tools.common.trace_lines import SYNCS, TraceLine, without_numbers
+
+from .advice import Advice, advice_of
+from .pairs import Pair, Pairs
+
+
+class Difference(NamedTuple):
+    """How the example of a group differs from a good state: a line for each path."""
+
+    good: int
+    lines: List[str]
+
+
+@dataclass
+class Group:
+    """Failing states whose causes agree but for numbers, and whose pairs are of lines of the same
+    kind. The example is the state that lacks the least; kept, lost, pair, lost_lines and
+    other_syncs are the example's. places are all pairs of lines, the lost one first."""
+
+    outcome: Outcome
+    example: State
+    pair: Pair
+    kept: Optional[TraceLine]
+    lost: Optional[TraceLine]
+    states: List[State] = field(default_factory=list)
+    places: List[Tuple[int, int]] = field(default_factory=list)
+    lost_lines: List[int] = field(default_factory=list)
+    other_syncs: List[TraceLine] = field(default_factory=list)
+    advice: Advice = field(default_factory=Advice)
+    difference: Optional[Difference] = None
+
+    @property
+    def cause(self) -> str:
+        return self.outcome.cause
+
+    @property
+    def result(self) -> str:
+        return self.outcome.result
+
+    @property
+    def is_torn(self) -> bool:
+        """Whether a crash kept a part of one line: no sync comes between."""
+        return self.kept is not None and self.kept == self.lost
+
+    @property
+    def is_span(self) -> bool:
+        """Whether nothing is lost: the states fail from one line on, until a later one."""
+        if self.is_torn:
+            return False
+        return self.pair.lost is None or (self.pair.kept or 0) <= self.pair.lost
+
+    @property
+    def key(self) -> Tuple[object, ...]:
+        kinds = [line.kind if line else '' for line in (self.kept, self.lost)]
+        return (without_numbers(self.cause), self.result, self.is_torn, self.is_span, *kinds)
+
+    def take(self, other: Group) -> None:
+        """Takes the states and pairs of a group with the same key."""
+        self.states.extend(other.states)
+        self.places = sorted({*self.places, *other.places})
+        mine, others = self.advice.tried, other.advice.tried
+        self.advice.tried = mine + others if mine and others else None
+
+    def advise(self, lines: Dict[int, TraceLine]) -> None:
+        tried = self.advice.tried
+        self.advice = advice_of(self.kept, self.lost, self.is_span, self.places, lines)
+        self.advice.tried = tried
+
+
+class Findings:
+    """What was found in one window. by_state also has the states that the window before it has
+    too; only its own are counted, and put into groups."""
+
+    def __init__(self, head: Head, results: Results, before: Dict[int, Outcome]) -> None:
+        self.head = head
+        self.results = results
+        self.plan: Plan = results.plan
+        self.by_state = results.of_states(before)
+        self.pairs = Pairs(self.plan, self.by_state)
+        self.groups = self.all_groups()
+
+    def own_outcomes(self) -> List[Outcome]:
+        return [
+            self.by_state[state.number]
+            for state in self.results.own
+            if state.number in self.by_state
+        ]
+
+    def all_groups(self) -> List[Group]:
+        failing = [
+            state
+            for state in self.results.own
+            if self.by_state.get(state.number, Outcome(GOOD)).result != GOOD
+        ]
+        groups = together(map(self.group_of, sorted(failing, key=self.rank)))
+        for group in groups:
+            group.lost_lines = self.lost_lines(group.example)
+            group.other_syncs = self.other_syncs(group)
+            group.advise(self.head.lines)
+        return groups
+
+    def rank(self, state: State) -> Tuple[int, int]:
+        return count(self.plan.lacking(state)), state.number
+
+    def group_of(self, state: State) -> Group:
+        pair = self.pairs.of(state)
+        kept, lost = self.line(pair.kept), self.line(pair.lost)
+        return Group(
+            self.by_state[state.number],
+            state,
+            pair,
+            kept,
+            lost,
+            [state],
+            [(lost.number, kept.number)] if kept and lost else [],
+        )
+
+    def line(self, place: Optional[int]) -> Optional[TraceLine]:
+        if place is None:
+            return None
+        operation = self.plan.operations[place]
+        # A report that has no lines of its own shows the micro-operation.
+        return self.head.lines.get(operation.line) or TraceLine(
+            operation.line, operation.kind, operation.path
+        )
+
+    def lost_lines(self, state: State) -> List[int]:
+        """The lines of which a state lacks something that would be there without the crash."""
+        lacking = self.plan.lacking(state)
+        return sorted({self.plan.operations[place].line for place in places_of(lacking)})
+
+    def other_syncs(self, group: Group) -> List[TraceLine]:
+        """Syncs between the two lines, which don't make the lost one durable."""
+        if group.kept is None or group.lost is None or group.is_span:
+            return []
+        return [
+            self.head.lines[number]
+            for number in range(group.lost.number, group.kept.number)
+            if number in self.head.lines and self.head.lines[number].word in SYNCS
+        ]
+
+
+def together(groups: Iterable[Group]) -> List[Group]:
+    """One group for each key, with the first one's example; the largest first."""
+    found: Dict[Tuple[object, ...], Group] = {}
+    for group in groups:
+        first = found.setdefault(group.key, group)
+        if first is not group:
+            first.take(group)
+    return sorted(found.values(), key=lambda group: (-len(group.states), group.example.number))

@@ -1,0 +1,77 @@
+"""How the files of a failing state differ from those of the nearest good one."""
+
+from __future__ import annotations
+
+from typing import Iterator, Optional, Tuple
+
+from crashfs_tools.checker.running.runner import GOOD
+from crashfs_tools.checker.running.trying import Trying
+from crashfs_tools.checker.states.plan import State, count
+from crashfs_tools.common.entry import Entries, Entry
+
+from .groups import Difference, Findings, Group
+
+# So many lines are shown of each entry, and so many entries have them: the largest.
+SHOWN_LINES, ENTRIES = 20, 5
+
+
+def find_differences(trying: Trying, findings: Findings) -> None:
+    """Lays the trees of the largest groups' examples beside those of good states."""
+    for group in findings.groups[:ENTRIES]:
+        good = nearest_good(findings, group)
+        if good is not None:
+            lines = list(
+                different_lines(trying.tree(group.example.number), trying.tree(good.number))
+            )
+            group.difference = Difference(good.number, lines[:SHOWN_LINES])
+
+
+def nearest_good(findings: Findings, group: Group) -> Optional[State]:
+    """The good state that differs in the fewest micro-operations."""
+    kept = findings.plan.kept
+    good = [
+        state
+        for state in findings.plan.states
+        if state.number in findings.by_state and findings.by_state[state.number].result == GOOD
+    ]
+
+    def distance(state: State) -> Tuple[int, int]:
+        return count(kept[state.number] ^ kept[group.example.number]), state.number
+
+    return min(good, key=distance) if good else None
+
+
+def different_lines(failing: Entries, good: Entries) -> Iterator[str]:
+    for path in sorted(failing.keys() | good.keys()):
+        one, other = failing.get(path), good.get(path)
+        if one is None or other is None:
+            there = one or other
+            assert there is not None
+            yield f'{path} ({shown(there)}) is {"only" if one else "not"} here'
+        elif one.data != other.data:
+            yield f'{path} has {shown(one)}, there {shown(other)}{first_difference(one, other)}'
+        elif (one.owner, one.group, one.mode) != (other.owner, other.group, other.mode):
+            yield f'{path} is {rights(one)}, there {rights(other)}'
+
+
+def shown(entry: Entry) -> str:
+    return 'a directory' if entry.data is None else f'{len(entry.data):,} bytes'
+
+
+def rights(entry: Entry) -> str:
+    return f'{entry.mode:03o} {entry.owner} {entry.group}'
+
+
+def first_difference(one: Entry, other: Entry) -> str:
+    """Where the bytes differ, and what is there."""
+    if one.data is None or other.data is None:
+        return ''
+    pairs = zip(one.data, other.data)
+    place = next(
+        (at for at, (left, right) in enumerate(pairs) if left != right),
+        min(len(one.data), len(other.data)),
+    )
+    pieces = [
+        bytes(entry[place : place + 8]).hex() or 'its end' for entry in (one.data, other.data)
+    ]
+    return f'; at byte {place:,} {pieces[0]}, there {pieces[1]}'

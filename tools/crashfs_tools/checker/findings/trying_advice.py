@@ -1,0 +1,92 @@
+"""Tries an advice: puts its syncs into a copy of the trace, and runs what is new in its states."""
+
+from __future__ import annotations
+
+import os
+from typing import Dict, Set, Tuple
+
+from crashfs_tools.checker.running.results import Results
+from crashfs_tools.checker.running.runner import GOOD, Outcome
+from crashfs_tools.checker.running.trying import Trying
+from crashfs_tools.checker.states.plan import Before, Plan, Trial
+from crashfs_tools.checker.states.planning import Planner
+from crashfs_tools.common.command import TEXT
+from crashfs_tools.common.trace_lines import with_syncs
+
+from .advice import Tried
+from .groups import Findings, Group
+from .tree_diff import find_differences
+
+# So many entries of a report have their advice tried: the largest.
+ENTRIES = 5
+
+
+def look_closer(trying: Trying, planner: Planner, findings: Findings) -> None:
+    """How files differ, and what advice does."""
+    find_differences(trying, findings)
+    try_advice(trying, planner, findings)
+
+
+def try_advice(trying: Trying, planner: Planner, findings: Findings) -> None:
+    """Tries the advice of the largest groups."""
+    for place, group in enumerate(findings.groups[:ENTRIES]):
+        if group.advice.syncs:
+            group.advice.tried = Copy(trying, planner, findings, place).run(group)
+
+
+class Copy:
+    """A copy of the trace. A set of micro-operations that was tried before isn't tried again."""
+
+    def __init__(self, trying: Trying, planner: Planner, findings: Findings, place: int) -> None:
+        self.trying = trying
+        self.planner = planner
+        self.path = os.path.join(trying.guard.directory, f'advice-{place}.trace')
+        self.known: Dict[int, Outcome] = {
+            findings.plan.kept[state]: one for state, one in findings.by_state.items()
+        }
+        self.before = findings.plan
+
+    def run(self, group: Group) -> Tried:
+        planned = self.trying.planned
+        with open(planned.trace, **TEXT) as file:
+            text = file.read()
+        with open(self.path, 'w', **TEXT) as file:
+            file.write(with_syncs(text, planned.before.own_lines(group.advice.syncs)))
+        planned = self.planner.plan(self.path, Before(says=planned.before.says))
+        copy = self.trying.with_plan(planned)
+        outcomes = self.outcomes(copy)
+        masks = [self.before.kept[state.number] for state in group.states]
+        return Tried(
+            sum(map(planned.plan.needs.allow, masks)),
+            len(masks),
+            *count_others(planned.plan, outcomes, set(masks), self.known),
+        )
+
+    def outcomes(self, copy: Trying) -> Dict[Trial, Outcome]:
+        """The outcomes of the copy's states."""
+        found: Dict[Trial, Outcome] = {}
+        for state in copy.plan.states:
+            known = self.known.get(copy.plan.kept[state.number])
+            if known is not None:
+                found[Trial(state.same, state.says)] = known
+        trials = Results(copy.plan).trials
+        new = {number: trial for trial, number in trials.items() if trial not in found}
+
+        def told(number: int, outcome: Outcome) -> None:
+            found[new[number]] = outcome
+
+        copy.try_states(set(new), told)
+        return found
+
+
+def count_others(
+    plan: Plan, outcomes: Dict[Trial, Outcome], masks: Set[int], known: Dict[int, Outcome]
+) -> Tuple[int, int]:
+    """The failing states of the copy that the group hasn't, and how many failed before too."""
+    others = still = 0
+    for state in plan.states:
+        kept, one = plan.kept[state.number], outcomes.get(Trial(state.same, state.says))
+        if kept not in masks and one is not None and one.result != GOOD:
+            others += 1
+            still += kept in known and known[kept].result != GOOD
+    return others, still

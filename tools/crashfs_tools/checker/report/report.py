@@ -1,0 +1,282 @@
+"""The report of a check as text, and as JSON."""
+
+from __future__ import annotations
+
+import json
+from collections import Counter
+from dataclasses import replace
+from typing import TYPE_CHECKING, Any
+from typing import Counter as Counts
+from typing import Dict, Iterator, List, Optional
+
+from crashfs_tools.checker.findings.groups import Findings, Group, together
+from crashfs_tools.checker.running.results import Head
+from crashfs_tools.checker.running.runner import BAD, GOOD, NO_ANSWER
+from crashfs_tools.common.trace_lines import TraceLine
+
+if TYPE_CHECKING:
+    from crashfs_tools.checker.findings.second_crashes import Recovery, Second
+
+    from .drawing import Drawing
+
+SHOWN_GROUPS = 20
+# So many windows are drawn: the page must stay small.
+DRAWN = 8
+WIDTH = 100
+CAUSE_WIDTH = 52
+NONE_FAILS, SOME_FAIL, NOT_ALL_TRIED = 0, 1, 3
+UNPROVED = (
+    'unproved: a Python program computed these states, not crashfs ' '(tools/build builds crashfs)'
+)
+
+
+class Report:
+    """What is told of a check, window by window: little is kept of each. With keep it has all for
+    the JSON, and with draw all for the page."""
+
+    def __init__(self, head: Head, keep: bool = False, draw: bool = False) -> None:
+        self.head = head
+        self.keep = keep
+        self.draw = draw
+        self.windows = self.operations = self.states = self.different = self.tried = 0
+        self.words: Counts[str] = Counter()
+        self.results: Counts[str] = Counter()
+        self.parts: List[List[Group]] = []
+        self.kept: List[bytes] = []
+        self.drawings: List[Drawing] = []
+        self.recoveries: List[Recovery] = []
+
+    def add(self, findings: Findings) -> None:
+        results, plan = findings.results, findings.plan
+        self.windows += 1
+        self.operations = plan.begin + len(plan.operations)
+        self.states += len(results.own)
+        self.different += len(results.trials)
+        self.tried += sum(first in results.outcomes for first in results.trials.values())
+        outcomes = findings.own_outcomes()
+        self.results.update(one.result for one in outcomes)
+        self.words.update(one.word for one in outcomes if one.result == BAD)
+        self.parts.append(findings.groups)
+        if self.keep:
+            self.kept.append(packed(as_json(results.fields())))
+        if self.draw and (findings.groups or not self.drawings):
+            from .drawing import drawing_of
+
+            self.drawings.append(drawing_of(findings))
+
+    def groups(self) -> List[Group]:
+        """The groups of all windows; those that agree are one."""
+        found = together(
+            replace(group, states=list(group.states), advice=replace(group.advice))
+            for part in self.parts
+            for group in part
+        )
+        for group in found:
+            group.advise(self.head.lines)
+        return found
+
+    @property
+    def status(self) -> int:
+        if self.results[NO_ANSWER]:
+            return NOT_ALL_TRIED
+        if self.results[BAD] or any(one.groups for one in self.recoveries):
+            return SOME_FAIL
+        return NOT_ALL_TRIED if self.head.stopped else NONE_FAILS
+
+    @property
+    def good(self) -> int:
+        return self.results[GOOD]
+
+    def lines(self) -> List[str]:
+        """None but the first is longer than WIDTH: the JSON has all of it."""
+        lines, groups = [], self.groups()
+        for group in groups[:SHOWN_GROUPS]:
+            lines += self.group_lines(group)
+        if len(groups) > SHOWN_GROUPS:
+            more = sum(len(group.states) for group in groups[SHOWN_GROUPS:])
+            lines.append(
+                f'  and {number_of(more, "more state")} of '
+                f'{number_of(len(groups) - SHOWN_GROUPS, "other kind")} '
+                '(all are in the file of --json)'
+            )
+        return self.first_lines() + [
+            cut(line) for line in [*lines, *self.cut_off_lines(), *self.recovery_lines()]
+        ]
+
+    def first_lines(self) -> List[str]:
+        return [UNPROVED, self.summary()] if self.head.unproved else [self.summary()]
+
+    def summary(self) -> str:
+        head = self.head
+        windows = f' in {self.windows:,} windows' if self.windows > 1 else ''
+        line = (
+            f'{head.trace}: {self.operations:,} micro-operations{windows}, '
+            f'{self.states:,} states, {self.different:,} different'
+        )
+        if head.shard.parts > 1:
+            line += f', {self.tried:,} tried by shard {head.shard.part}/{head.shard.parts}'
+        elif head.stopped:
+            line += f', {self.tried:,} tried'
+        if head.stopped:
+            line += f' (stopped by {head.stopped})'
+        return f'{line}: {self.verdict()}'
+
+    def verdict(self) -> str:
+        words = ', '.join(f'{word} {count:,}' for word, count in self.words.most_common(5))
+        failing, silent = self.results[BAD], self.results[NO_ANSWER]
+        line = (
+            f'{failing:,} fail{"s" if failing == 1 else ""} ({words})' if failing else 'none fails'
+        )
+        return f'{line}, {silent:,} gave no answer' if silent else line
+
+    def cut_off_lines(self) -> List[str]:
+        """Lines that were still pending where their last window ended."""
+        if not self.head.cut_off:
+            return []
+        number, tried = self.head.cut_off[0]
+        more = len({line for line, _ in self.head.cut_off}) - 1
+        also = f', and so with {number_of(more, "more line")}' if more else ''
+        return [
+            f'  the loss of {self.shown_line(number)} was tried for {tried:,} later '
+            f'micro-operations only{also}'
+        ]
+
+    def recovery_lines(self) -> List[str]:
+        """What a second crash leads to, during the recovery from the first."""
+        if not self.recoveries:
+            return []
+        from crashfs_tools.checker.findings.second_crashes import seconds
+
+        tried = [one for one in self.recoveries if not one.fault]
+        failing = sum(one.failing for one in tried)
+        fails = f'{failing:,} fail{"s" if failing == 1 else ""}' if failing else 'none fails'
+        states = number_of(sum(one.states for one in tried), 'state')
+        lines = [
+            f'  {number_of(len(tried), "recovery")}: {states} of a second crash, {fails}'.replace(
+                'recoverys', 'recoveries'
+            )
+        ]
+        for group, where in seconds(tried):
+            lines += self.group_lines(group, where)
+        lines += [
+            f'  the recovery of state {one.state} was not tried: {one.fault}'
+            for one in self.recoveries
+            if one.fault
+        ]
+        return lines
+
+    def group_lines(self, group: Group, second: Optional[Second] = None) -> List[str]:
+        """The lines of an entry; of one that a second crash leads to, second says where it was."""
+        from textwrap import wrap
+
+        states = self.states_text(group, f'{second.state}/' if second else '')
+        cause = cut(group.cause, max(CAUSE_WIDTH, WIDTH - len(states) - 3))
+        lines = [f'  {cause:<{CAUSE_WIDTH}} {states}']
+        details = self.details(group)
+        if second is not None:
+            details = [f'state {second.state}, then a crash {second.place}', *group.advice.lines()]
+        for line in details:
+            lines += wrap(
+                line,
+                WIDTH,
+                initial_indent='    ',
+                subsequent_indent='      ',
+                break_long_words=False,
+                break_on_hyphens=False,
+            )
+        return lines
+
+    @staticmethod
+    def states_text(group: Group, first: str = '') -> str:
+        example = f'--state {first}{group.example.number}'
+        if len(group.states) == 1:
+            return f'1 state: {example}'
+        return f'{len(group.states):,} states, e.g. {example}'
+
+    def details(self, group: Group) -> List[str]:
+        """The sentence, what was tried, and what the example lacks beside the line that it
+        names."""
+        notes = {line.number: line.note for line in (group.lost, group.kept) if line and line.note}
+        lines = [f'line {number}: {note}' for number, note in sorted(notes.items())]
+        lines += group.advice.lines()
+        for sync in group.other_syncs:
+            if group.advice.syncs:
+                lines.append(f'line {sync.number} is {sync.text}, which is not enough')
+        named = group.lost.number if group.lost else 0
+        lost = [number for number in group.lost_lines if number != named]
+        if lost and not group.is_span:
+            lines.append(
+                f'state {group.example.number} also lacks ' + ', '.join(map(self.shown_line, lost))
+            )
+        return lines
+
+    def json_pieces(self) -> Iterator[str]:
+        """The results, and the groups with what they say."""
+        yield as_json(self.head.fields())[:-1] + ',\n"windows":[\n'
+        for place, window in enumerate(self.kept):
+            yield (',\n' if place else '') + unpacked(window)
+        groups = [self.group_fields(group) for group in self.groups()]
+        yield '],\n"groups":' + json.dumps(groups, indent=1, ensure_ascii=False)
+        recoveries = [self.recovery_fields(one) for one in self.recoveries]
+        yield ',\n"recoveries":' + json.dumps(recoveries, indent=1, ensure_ascii=False) + '}\n'
+
+    @staticmethod
+    def recovery_fields(recovery: Recovery) -> Dict[str, Any]:
+        groups = [
+            {
+                'cause': group.cause,
+                'states': [state.number for state in group.states],
+                'example': group.example.number,
+                'crash': recovery.places[group.example.number],
+                'text': group.advice.lines(),
+            }
+            for group in recovery.groups
+        ]
+        return {
+            'state': recovery.state,
+            'states': recovery.states,
+            'fault': recovery.fault,
+            'groups': groups,
+        }
+
+    def group_fields(self, group: Group) -> Dict[str, Any]:
+        fields = {
+            'cause': group.cause,
+            'states': [state.number for state in group.states],
+            'example': group.example.number,
+            'lines': group.places,
+            'lost': group.lost_lines,
+            'text': self.details(group),
+            'syncs': group.advice.syncs,
+        }
+        if group.difference is not None:
+            fields.update(good=group.difference.good, differences=group.difference.lines)
+        return fields
+
+    def shown_line(self, number: int) -> str:
+        line = self.head.lines.get(number, TraceLine(number, ''))
+        return f'line {number} ({line.text})'
+
+
+def packed(text: str) -> bytes:
+    import zlib
+
+    return zlib.compress(text.encode('utf-8', 'surrogateescape'))
+
+
+def unpacked(packed_text: bytes) -> str:
+    import zlib
+
+    return zlib.decompress(packed_text).decode('utf-8', 'surrogateescape')
+
+
+def as_json(fields: Dict[str, Any]) -> str:
+    return json.dumps(fields, ensure_ascii=False, separators=(',', ':'))
+
+
+def number_of(count: int, noun: str) -> str:
+    return f'{count:,} {noun}' if count == 1 else f'{count:,} {noun}s'
+
+
+def cut(text: str, width: int = WIDTH) -> str:
+    return text if len(text) <= width else text[: width - 2] + '..'

@@ -1,0 +1,199 @@
+"""What came of a check, window by window, and as JSON, which shards are merged from."""
+
+from __future__ import annotations
+
+import json
+from dataclasses import dataclass, field
+from typing import Any, Dict, List, Tuple
+
+from crashfs_tools.checker.options import Shard
+from crashfs_tools.checker.states.plan import MicroOperation, Needs, Plan, State, Trial
+from crashfs_tools.common.command import Refused
+from crashfs_tools.common.trace_lines import TraceLine
+
+from .runner import NO_ANSWER, Outcome
+
+FORMAT = 3
+
+
+@dataclass
+class Head:
+    """What is checked. lines are those of the trace's operations; stopped says what ended the check
+    early, if anything did; cut_off has the lines whose loss was not tried to the session's end,
+    each with how many later micro-operations it was tried for."""
+
+    trace: str
+    digest: str
+    command: List[str]
+    shard: Shard = Shard()
+    unproved: bool = False
+    lines: Dict[int, TraceLine] = field(default_factory=dict)
+    stopped: str = ''
+    cut_off: List[Tuple[int, int]] = field(default_factory=list)
+
+    def identity(self) -> Tuple[object, ...]:
+        return self.digest, self.command, self.shard
+
+    def fields(self) -> Dict[str, Any]:
+        return {
+            'crashfs-check': FORMAT,
+            'trace': self.trace,
+            'sha256': self.digest,
+            'command': self.command,
+            'unproved': self.unproved,
+            'shard': [self.shard.part, self.shard.parts],
+            'stopped': self.stopped,
+            'cut_off': [list(one) for one in self.cut_off],
+            'lines': [list(line) for line in self.lines.values()],
+        }
+
+    @staticmethod
+    def of(fields: Dict[str, Any]) -> Head:
+        if fields['crashfs-check'] != FORMAT:
+            raise ValueError('another format')
+        lines = [TraceLine(*line) for line in fields['lines']]
+        return Head(
+            fields['trace'],
+            fields['sha256'],
+            fields['command'],
+            Shard(*fields['shard']),
+            fields['unproved'],
+            {line.number: line for line in lines},
+            fields['stopped'],
+            [(line, tried) for line, tried in fields['cut_off']],
+        )
+
+
+@dataclass
+class Results:
+    """A window's plan, and the outcomes by the states tried. known are the states that the window
+    before has too, with their numbers there: they are tried there."""
+
+    plan: Plan
+    outcomes: Dict[int, Outcome] = field(default_factory=dict)
+    known: Dict[int, int] = field(default_factory=dict)
+
+    def __post_init__(self) -> None:
+        first: Dict[Trial, int] = {}
+        for state in sorted(self.plan.states, key=lambda one: one.number not in self.known):
+            first.setdefault(Trial(state.same, state.says), state.number)
+        self.first_of = first
+        self.own = [state for state in self.plan.states if state.number not in self.known]
+        # Each trial, with the state that is tried for it.
+        self.trials = {trial: number for trial, number in first.items() if number not in self.known}
+
+    def of_states(self, before: Dict[int, Outcome]) -> Dict[int, Outcome]:
+        """The outcomes of all states that are equal to one that was tried, here or before."""
+        found = {}
+        for state in self.plan.states:
+            number = self.first_of[Trial(state.same, state.says)]
+            known = self.known.get(number)
+            outcome = self.outcomes.get(number) if known is None else before.get(known)
+            if outcome is not None:
+                found[state.number] = outcome
+        return found
+
+    def take(self, earlier: Results) -> None:
+        """Takes the outcomes of an earlier check of the same, but for those without an answer."""
+        self.outcomes.update(
+            {state: one for state, one in earlier.outcomes.items() if one.result != NO_ANSWER}
+        )
+
+    def identity(self) -> Tuple[object, ...]:
+        return self.plan.operations, self.plan.listed, self.plan.needs.masks
+
+    def fields(self) -> Dict[str, Any]:
+        return {
+            'first': self.plan.first,
+            'outcomes': {str(state): list(one) for state, one in sorted(self.outcomes.items())},
+            'known': {str(state): other for state, other in self.known.items()},
+            'needs': [f'{mask:x}' for mask in self.plan.needs.masks],
+            'operations': [list(one) for one in self.plan.operations],
+            'states': [list(one) for one in self.plan.listed],
+        }
+
+    @staticmethod
+    def of(fields: Dict[str, Any]) -> Results:
+        plan = Plan(
+            [MicroOperation(*one) for one in fields['operations']],
+            [
+                State(number, family, tuple(numbers), says, same)
+                for number, family, numbers, says, same in fields['states']
+            ],
+            Needs([int(mask, 16) for mask in fields['needs']]),
+            fields['first'],
+        )
+        return Results(
+            plan,
+            {int(state): Outcome(*one) for state, one in fields['outcomes'].items()},
+            {int(state): other for state, other in fields['known'].items()},
+        )
+
+
+@dataclass
+class AllResults:
+    """The results of a check that is over."""
+
+    head: Head
+    windows: List[Results]
+
+
+def known_states(before: Plan, plan: Plan) -> Dict[int, int]:
+    """The states of a window that the one before it has too, with their numbers there."""
+    lead = plan.begin - before.begin
+    earlier = {before.kept[state.number]: state.number for state in reversed(before.states)}
+    shared = {}
+    for state in plan.states:
+        number = earlier.get(plan.kept[state.number] << lead | (1 << lead) - 1)
+        if number is not None:
+            shared[state.number] = number
+    return shared
+
+
+def read_json(path: str) -> AllResults:
+    """Refused for a file that isn't the JSON of a check."""
+    try:
+        with open(path, encoding='utf-8', errors='surrogateescape') as file:
+            fields = json.load(file)
+        return AllResults(Head.of(fields), [Results.of(one) for one in fields['windows']])
+    except OSError as error:
+        raise Refused(f'{path}: {error.strerror}') from error
+    except (ValueError, KeyError, TypeError, AttributeError) as error:
+        raise Refused(f'{path} is no report of crashfs-check') from error
+
+
+def refuse_other_parts(parts: List[int], count: int) -> None:
+    """Refused unless each part is there once."""
+    for part in range(1, count + 1):
+        given = parts.count(part)
+        if given != 1:
+            raise Refused(
+                f'shard {part}/{count} ' + (f'was given {given} times' if given else 'is missing')
+            )
+
+
+def merged(parts: List[AllResults]) -> AllResults:
+    """The shards of one check together; Refused if they aren't all shards of one. Of a check that
+    was stopped some windows may be missing."""
+    first = max(parts, key=lambda one: len(one.windows))
+    for one in parts:
+        same = [window.identity() for window in first.windows[: len(one.windows)]]
+        if (one.head.digest, one.head.shard.parts) != (
+            first.head.digest,
+            first.head.shard.parts,
+        ) or [window.identity() for window in one.windows] != same:
+            raise Refused('the reports are not shards of one check')
+    refuse_other_parts([one.head.shard.part for one in parts], first.head.shard.parts)
+    head = Head(
+        first.head.trace,
+        first.head.digest,
+        first.head.command,
+        unproved=any(one.head.unproved for one in parts),
+        lines=first.head.lines,
+        stopped=next((one.head.stopped for one in parts if one.head.stopped), ''),
+        cut_off=first.head.cut_off,
+    )
+    for one in parts:
+        for whole, window in zip(first.windows, one.windows):
+            whole.outcomes.update(window.outcomes)
+    return AllResults(head, first.windows)

@@ -1,0 +1,242 @@
+"""Runs COMMAND in a state."""
+
+from __future__ import annotations
+
+import errno
+import os
+import select
+import signal
+import time
+from dataclasses import dataclass
+from functools import cached_property
+from itertools import accumulate
+from typing import Callable, Dict, List, NamedTuple, Optional
+
+from crashfs_tools.common.command import Refused, ended
+from crashfs_tools.common.program import last_line
+from crashfs_tools.common.trace_lines import without_numbers
+
+GOOD, BAD, NO_ANSWER = 'good', 'bad', 'no answer'
+TAIL_BYTES = 65_536
+CAUSE_LETTERS = 200
+OUTPUT_LETTERS = 2_000
+TURN_SECONDS = 0.5
+# A command that takes longer lets others know what is known so far.
+SLOW_SECONDS = 0.01
+LOOK_SECONDS = 0.002
+NEW_FILE = os.O_RDWR | os.O_CREAT | os.O_EXCL | os.O_CLOEXEC
+# The signals that Python ignores, and that a command has as usual.
+IGNORED = (signal.SIGPIPE, signal.SIGXFSZ)
+
+
+class Outcome(NamedTuple):
+    """What a command found in a state; the cause is its last line, or why there is none. output is
+    the end of what it printed, of a state that isn't good."""
+
+    result: str
+    cause: str = ''
+    output: str = ''
+
+    @property
+    def word(self) -> str:
+        """The word before the cause's first colon."""
+        return self.cause.partition(':')[0]
+
+    @property
+    def kind(self) -> str:
+        """The whole cause, but for its numbers."""
+        return without_numbers(self.cause)
+
+
+GOOD_OUTCOME = Outcome(GOOD)
+
+
+class Says:
+    """What was acknowledged up to each state, as a file for the commands' standard input. Each
+    process has one file, which it cuts or extends: one for each state would be too much."""
+
+    def __init__(self, texts: List[str], folder: str) -> None:
+        self.texts = texts
+        self.folder = folder
+        self.file = ''
+        self.count = 0
+        self.sizes = [0, *accumulate(len(text.encode('utf-8')) + 1 for text in texts)]
+
+    def path(self, count: int) -> str:
+        """The file, with so many lines until another number is asked for."""
+        file = os.path.join(self.folder, f'says-{os.getpid()}')
+        if self.file != file:
+            self.file, self.count = file, 0
+            with open(file, 'wb'):
+                pass
+        if count < self.count:
+            os.truncate(file, self.sizes[count])
+        elif count > self.count:
+            with open(file, 'a', encoding='utf-8') as more:
+                more.write(self.text(count, self.count))
+        self.count = count
+        return file
+
+    def text(self, count: int, first: int = 0) -> str:
+        """The lines from a number on, up to another."""
+        return ''.join(f'{text}\n' for text in self.texts[first:count])
+
+
+class Over(Exception):
+    """The check is over: the command that ran was ended."""
+
+
+def nothing() -> None:
+    pass
+
+
+@dataclass
+class Checker:
+    """One command, and what it is run with. life is the end of a pipe that is closed when the check
+    is over; when_slow is called once for each command that takes long."""
+
+    command: List[str]
+    timeout: float
+    environment: Dict[str, str]
+    says: Says
+    life: Optional[int] = None
+    when_slow: Callable[[], None] = nothing
+
+    @cached_property
+    def whole_environment(self) -> Dict[bytes, bytes]:
+        """As bytes, which are passed on as they are."""
+        return {os.fsencode(name): os.fsencode(value) for name, value in self.environment.items()}
+
+    @cached_property
+    def here(self) -> int:
+        """The directory of this process."""
+        return os.open('.', os.O_PATH | os.O_DIRECTORY | os.O_CLOEXEC)
+
+    @cached_property
+    def poll(self) -> select.poll:
+        """Waits for the check's end, and for what else is registered."""
+        poll = select.poll()
+        if self.life is not None:
+            poll.register(self.life, select.POLLIN)
+        return poll
+
+    def run(self, state: int, says: int, directory: str) -> Outcome:
+        """Runs the command in a state's directory; what it leaves running is ended."""
+        output = os.open(f'{directory}.out', NEW_FILE, 0o600)
+        try:
+            os.unlink(f'{directory}.out')
+            environment = {
+                **self.whole_environment,
+                b'CRASHFS_STATE': b'%d' % state,
+                b'CRASHFS_SAYS': b'%d' % says,
+            }
+            process = self.start(directory, environment, self.says.path(says), output)
+            has_ended = False
+            try:
+                has_ended = self.wait(process)
+            finally:
+                # Until it is waited for, no other group has its number.
+                end_group(process)
+                status = os.waitstatus_to_exitcode(os.waitpid(process, 0)[1])
+            if has_ended and status == 0:
+                return GOOD_OUTCOME
+            printed = tail(output).replace(os.fsencode(directory), b'.')
+            return self.outcome(status if has_ended else None, printed.decode('utf-8', 'replace'))
+        finally:
+            os.close(output)
+
+    def start(self, directory: str, environment: Dict[bytes, bytes], told: str, output: int) -> int:
+        """Starts the command in a session of its own; its directory is this process's meanwhile."""
+        here = self.here
+        os.chdir(directory)
+        try:
+            return os.posix_spawn(
+                self.command[0],
+                self.command,
+                environment,
+                setsid=True,
+                setsigdef=IGNORED,
+                file_actions=[
+                    (os.POSIX_SPAWN_OPEN, 0, told, os.O_RDONLY, 0),
+                    (os.POSIX_SPAWN_DUP2, output, 1),
+                    (os.POSIX_SPAWN_DUP2, output, 2),
+                ],
+            )
+        except OSError as error:
+            if error.errno in (errno.EAGAIN, errno.ENOMEM):
+                raise
+            raise Refused(f'{self.command[0]}: {error.strerror}') from error
+        finally:
+            os.fchdir(here)
+
+    def wait(self, process: int) -> bool:
+        """Whether the command ends in time; Over if the check does before."""
+        deadline = time.monotonic() + self.timeout
+        try:
+            descriptor = os.pidfd_open(process)
+        except (AttributeError, OSError):
+            return self.look(process, deadline)
+        self.poll.register(descriptor, select.POLLIN)
+        try:
+            ready = self.poll.poll(min(self.timeout, SLOW_SECONDS) * 1000)
+            if not ready:
+                self.when_slow()
+            left = deadline - time.monotonic()
+            while left > 0 and not ready:
+                ready = self.poll.poll(min(left, TURN_SECONDS) * 1000)
+                left = deadline - time.monotonic()
+        finally:
+            self.poll.unregister(descriptor)
+            os.close(descriptor)
+        if any(one != descriptor for one, _ in ready):
+            raise Over
+        return bool(ready)
+
+    def look(self, process: int, deadline: float) -> bool:
+        """The same on a system that has no descriptors of processes (before Linux 5.3)."""
+        self.when_slow()
+        while time.monotonic() < deadline:
+            if os.waitid(os.P_PID, process, os.WEXITED | os.WNOHANG | os.WNOWAIT):
+                return True
+            if self.poll.poll(LOOK_SECONDS * 1000):
+                raise Over
+        return False
+
+    def outcome(self, status: Optional[int], printed: str) -> Outcome:
+        output = printed[-OUTPUT_LETTERS:]
+        if status is None:
+            return Outcome(NO_ANSWER, f'it had not ended after {self.timeout:g} seconds', output)
+        how = f'status {status}' if status > 0 else ended(status).replace('was ', '')
+        line = last_line(printed)[:CAUSE_LETTERS]
+        if status < 0:
+            line = f'{how}: {line}' if line else how
+        return Outcome(BAD, line or how, output)
+
+
+def keep_descriptors() -> None:
+    """From here on a command gets the first three descriptors of this process only, and those are
+    open."""
+    while True:
+        descriptor = os.open(os.devnull, os.O_RDWR | os.O_CLOEXEC)
+        if descriptor > 2:
+            break
+        os.set_inheritable(descriptor, True)
+    for name in os.listdir('/proc/self/fd'):
+        if int(name) > 2:
+            try:
+                os.set_inheritable(int(name), False)
+            except OSError:
+                continue
+    os.close(descriptor)
+
+
+def end_group(group: int) -> None:
+    try:
+        os.killpg(group, signal.SIGKILL)
+    except OSError:
+        pass
+
+
+def tail(descriptor: int) -> bytes:
+    size = os.fstat(descriptor).st_size
+    return os.pread(descriptor, TAIL_BYTES, max(0, size - TAIL_BYTES))

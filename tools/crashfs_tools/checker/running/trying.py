@@ -1,0 +1,144 @@
+"""Tries the states of a plan: runs COMMAND in each, keeps the outcomes, and stops when it must."""
+
+from __future__ import annotations
+
+import re
+from typing import TYPE_CHECKING, Callable, Set
+
+from crashfs_tools.checker.options import Options
+from crashfs_tools.checker.states.layout import Archive, Layout
+from crashfs_tools.checker.states.plan import Planned, State
+from crashfs_tools.common.command import TEXT, Refused
+from crashfs_tools.common.guard import Guard
+from crashfs_tools.common.limits import RUNS
+from crashfs_tools.common.program import Crashfs
+from crashfs_tools.common.trace_text import root_owner
+
+from .progress import Progress
+from .results import Results
+from .runner import Checker, Outcome, Says
+from .workers import Workers
+
+if TYPE_CHECKING:
+    from crashfs_tools.common.entry import Entries
+
+# Trees are kept from state to state if a trace has so many start lines, or so many bytes in its
+# lines and in what they make files grow to.
+MUCH_ENTRIES, MUCH_BYTES = 32, 1 << 20
+GROWN = re.compile(rb'"op":\s*"truncate".*"length":\s*(\d+)')
+
+
+class Trying:
+    """One window of a check: the program, the trace, and where its states are laid out."""
+
+    def __init__(
+        self,
+        options: Options,
+        planned: Planned,
+        program: Crashfs,
+        guard: Guard,
+        says: Says,
+        progress: Progress,
+    ) -> None:
+        self.options = options
+        self.planned = planned
+        self.plan = planned.plan
+        self.program = program
+        self.guard = guard
+        self.says = says
+        self.progress = progress
+
+    def with_plan(self, planned: Planned) -> Trying:
+        return Trying(self.options, planned, self.program, self.guard, self.says, self.progress)
+
+    def checker(self) -> Checker:
+        return Checker(
+            self.options.command, self.options.timeout, self.guard.environment, self.says
+        )
+
+    def archive(self, folder: str) -> Archive:
+        return Archive(self.program, self.planned, folder, self.guard.environment)
+
+    def layout(self, many: bool = False) -> Layout:
+        """Where states are tried; nothing of it is there any more when the guard has ended. many
+        says whether it is worth the while to keep what they have in common."""
+        if self.options.serve is None:
+            if many and has_much(self.planned.trace) and self.program.has_changes:
+                from crashfs_tools.checker.states.kept_layout import KeptLayout
+
+                return KeptLayout(
+                    self.program, self.planned, self.guard.directory, self.guard.environment
+                )
+            return self.archive(self.guard.directory)
+        from crashfs_tools.checker.states.mounts import Mounts
+
+        with open(self.planned.trace, **TEXT) as file:
+            uname = self.options.uname or root_owner(file.read())
+        return Mounts(self.options.serve, uname, self.guard.directory, self.guard.environment)
+
+    def tree(self, number: int) -> Entries:
+        words = [*self.planned.words, '--state', str(self.planned.local(number))]
+        return self.program.tree_of(words, self.guard.environment)
+
+    def try_one(self, state: State) -> Outcome:
+        layout = self.layout()
+        ((number, directory),) = layout.states({state.number})
+        with layout.laid_out(number, directory):
+            return self.checker().run(number, state.says, directory)
+
+    def try_states(self, wanted: Set[int], told: Callable[[int, Outcome], None]) -> None:
+        """Tries states; a stop may come meanwhile."""
+        progress = self.progress
+        progress.begin(len(wanted), self.planned.part())
+
+        def step(number: int, outcome: Outcome) -> None:
+            told(number, outcome)
+            progress.step(outcome)
+
+        workers = Workers(
+            self.checker(), self.layout(many=True), self.options.jobs, step, self.options.fail_fast
+        )
+        try:
+            workers.run(wanted, {state.number: state.says for state in self.plan.listed})
+        finally:
+            workers.end(self.guard.end_processes)
+            self.guard.end_processes()
+            progress.end()
+
+    def wanted(self, results: Results) -> Set[int]:
+        """The states that are tried: of the shard, the first of each that are alike."""
+        firsts = {
+            state
+            for place, state in enumerate(results.trials.values())
+            if self.options.shard.has(place)
+        }
+        if self.options.serve is not None and len(firsts) > RUNS:
+            raise Refused(
+                f'{len(firsts):,} states are more than the {RUNS:,} runs of one server: '
+                'try them by --shard, each part with a server of its own'
+            )
+        return firsts
+
+    def run(self, results: Results) -> bool:
+        """Tries each different state of the shard that has no outcome yet; returns whether it
+        tried all."""
+
+        def told(number: int, outcome: Outcome) -> None:
+            results.outcomes[number] = outcome
+
+        left = self.wanted(results) - set(results.outcomes)
+        self.try_states(left, told)
+        return left <= set(results.outcomes)
+
+
+def has_much(trace: str) -> bool:
+    """Whether a trace's trees take longer to be laid out than to be looked at."""
+    entries = size = 0
+    with open(trace, 'rb') as lines:
+        for line in lines:
+            entries += line.startswith(b'{"start":')
+            grown = GROWN.search(line)
+            size += int(grown[1]) if grown else len(line)
+            if entries >= MUCH_ENTRIES or size >= MUCH_BYTES:
+                return True
+    return False

@@ -1,0 +1,111 @@
+"""What states are laid out by, and one way of it: from the archive that `crashfs tar` writes."""
+
+from __future__ import annotations
+
+import os
+from abc import ABC, abstractmethod
+from contextlib import contextmanager
+from itertools import groupby
+from typing import ContextManager, Dict, Iterable, Iterator, List, Set, Tuple
+
+from crashfs_tools.common.archive import Member
+from crashfs_tools.common.guard import remove_tree
+from crashfs_tools.common.program import Crashfs, ProgramFault
+
+from .plan import Planned
+
+NEW_FILE = os.O_WRONLY | os.O_CREAT | os.O_EXCL | os.O_CLOEXEC
+# A directory's mode while it is filled.
+FILLED_MODE = 0o700
+
+
+class Layout(ABC):
+    """Gives states directories for a command to run in."""
+
+    @abstractmethod
+    def states(self, wanted: Set[int]) -> Iterator[Tuple[int, str]]:
+        """Each wanted state with its directory, in ascending order."""
+
+    @abstractmethod
+    def laid_out(self, number: int, directory: str) -> ContextManager[None]:
+        """Within this a state's directory has the state's tree; behind it the directory is gone.
+        Several processes may lay out states at once."""
+
+
+class Archive(Layout):
+    """Lays states out below a folder, each as a directory that has its number."""
+
+    def __init__(
+        self, program: Crashfs, planned: Planned, folder: str, environment: Dict[str, str]
+    ) -> None:
+        self.program = program
+        self.planned = planned
+        self.folder = folder
+        self.environment = environment
+
+    @contextmanager
+    def laid_out(self, number: int, directory: str) -> Iterator[None]:
+        yield
+        remove_tree(directory)
+
+    def states(self, wanted: Set[int]) -> Iterator[Tuple[int, str]]:
+        """One archive is read, as fast as the states are taken: each has its tree already."""
+        words = [*self.planned.words, '--states', self.planned.list_of(wanted)]
+        left = set(wanted)
+        with self.program.archive(words, self.environment) as members:
+            for top, tree in groupby(members, top_of):
+                number = int(top) + self.planned.plan.first
+                if number not in left:
+                    continue
+                left.remove(number)
+                directory = os.path.join(self.folder, str(number))
+                lay_out(directory, (one._replace(path=one.path[len(top) + 1 :]) for one in tree))
+                yield number, directory
+        if left:
+            raise ProgramFault(0, f'crashfs tar wrote no state {min(left)}'.encode())
+
+
+def top_of(member: Member) -> str:
+    return member.path.partition('/')[0]
+
+
+def lay_out(directory: str, tree: Iterable[Member]) -> None:
+    """Makes a directory that has the tree. Directories get their modes last, and inner ones before
+    outer ones, since modes may forbid what is done below."""
+    os.mkdir(directory, FILLED_MODE)
+    umask = os.umask(0)
+    try:
+        at = os.open(directory, os.O_RDONLY | os.O_DIRECTORY)
+        try:
+            modes: List[Tuple[str, int]] = []
+            for one in tree:
+                if one.data is None:
+                    modes.append((one.path, one.mode))
+                put(one, at)
+            for path, mode in reversed(modes):
+                os.chmod(path or '.', mode, dir_fd=at)
+        finally:
+            os.close(at)
+    finally:
+        os.umask(umask)
+
+
+def put(one: Member, at: int) -> None:
+    if one.data is not None:
+        write_file(one.path, one.mode, one.data, at)
+    elif one.path:
+        os.mkdir(one.path, FILLED_MODE, dir_fd=at)
+
+
+def write_file(path: str, mode: int, data: bytes, at: int) -> None:
+    file = os.open(path, NEW_FILE, mode, dir_fd=at)
+    try:
+        write_all(file, data)
+    finally:
+        os.close(file)
+
+
+def write_all(file: int, data: bytes) -> None:
+    left = memoryview(data)
+    while left:
+        left = left[os.write(file, left) :]

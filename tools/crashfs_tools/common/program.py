@@ -1,0 +1,189 @@
+"""The program `crashfs`: where it is, and what it is asked. If there is none, the second reading of
+this package takes its place."""
+
+from __future__ import annotations
+
+import os
+import shutil
+import subprocess
+import sys
+from contextlib import contextmanager
+from functools import cached_property
+from typing import Dict, Iterator, List, Optional
+
+from .archive import ArchiveFault, Member, members
+from .command import Refused, ended
+from .entry import Entries, Entry
+
+PACKAGE = os.path.dirname(os.path.dirname(os.path.realpath(__file__)))
+LIBRARY = os.path.dirname(PACKAGE)
+TOP = os.path.dirname(LIBRARY)
+BUILT = os.path.join(TOP, 'crates', 'crashfs', 'out', 'crashfs')
+READING = os.path.join(PACKAGE, 'reading', '__main__.py')
+# The status of a command line that the program doesn't know.
+UNKNOWN_OPTION = 2
+PIECE_BYTES = 1 << 16
+# So much of an archive is read at once.
+ARCHIVE_BYTES = 1 << 18
+# A shell's status for a program that can't be started.
+NOT_STARTED = 126
+# What the program says of a trace that it would take in parts.
+TOO_LARGE = ('plan too large', 'too many micro-operations')
+
+
+class ProgramFault(Exception):
+    """`crashfs` refused what it was asked: its status, and its line."""
+
+    def __init__(self, status: int, told: bytes) -> None:
+        self.text = told.decode('utf-8', 'replace').strip()
+        lines = self.text.splitlines()
+        # A command line parser has its usage behind its first line.
+        line = lines[0 if status == UNKNOWN_OPTION else -1] if lines else f'crashfs {ended(status)}'
+        super().__init__(line)
+        self.status = status
+
+    @property
+    def is_unknown_option(self) -> bool:
+        return self.status == UNKNOWN_OPTION
+
+
+class Crashfs:
+    """One program file; or, unproved, the second reading."""
+
+    def __init__(self, path: str, unproved: bool = False) -> None:
+        self.path = path
+        self.unproved = unproved
+
+    @staticmethod
+    def find_or_read(given: Optional[str], unproved: bool) -> Crashfs:
+        """The program, or the second reading if there is none or it is asked for."""
+        program = None if unproved else Crashfs.find(given)
+        return program or Crashfs(READING, unproved=True)
+
+    @staticmethod
+    def find(given: Optional[str]) -> Optional[Crashfs]:
+        """The program that --crashfs names, else that of PATH, else the one that was installed with
+        these tools, else the one built here."""
+        if given is not None:
+            if shutil.which(given) is None:
+                raise Refused(f'--crashfs {given}: no such program')
+            return Crashfs(os.path.abspath(shutil.which(given) or given))
+        path = shutil.which('crashfs') or program_beside(LIBRARY)
+        return None if path is None else Crashfs(path)
+
+    @cached_property
+    def has_changes(self) -> bool:
+        """Whether it has `tar --changes`."""
+        try:
+            return '--changes' in self.text(['tar', '--help'])
+        except ProgramFault:
+            return False
+
+    def text(self, words: List[str], environment: Optional[Dict[str, str]] = None) -> str:
+        """What a command prints; ProgramFault where its status isn't 0."""
+        child = self.start(words, environment)
+        out, told = child.communicate()
+        if child.returncode != 0:
+            raise ProgramFault(child.returncode, told)
+        return out.decode('utf-8', 'surrogateescape')
+
+    def start(
+        self, words: List[str], environment: Optional[Dict[str, str]]
+    ) -> subprocess.Popen[bytes]:
+        interpreter = [sys.executable, '-S'] if self.unproved else []
+        try:
+            return subprocess.Popen(
+                [*interpreter, self.path, *words],
+                stdin=subprocess.DEVNULL,
+                stdout=subprocess.PIPE,
+                stderr=subprocess.PIPE,
+                env=environment,
+            )
+        except OSError as error:
+            told = f'{self.path}: {error.strerror}'
+            raise ProgramFault(NOT_STARTED, told.encode()) from error
+
+    @contextmanager
+    def archive(
+        self, words: List[str], environment: Optional[Dict[str, str]] = None
+    ) -> Iterator[Iterator[Member]]:
+        """The archive that `crashfs tar` writes, as a stream that is read once."""
+        child = self.start(['tar', *words], environment)
+        assert child.stdout is not None and child.stderr is not None
+        try:
+            with open(child.stdout.fileno(), 'rb', ARCHIVE_BYTES, closefd=False) as stream:
+                yield members(stream)
+        except ArchiveFault as error:
+            fault: Optional[str] = f'what it wrote is no archive: {error}'
+        except BaseException:
+            child.kill()
+            child.wait()
+            child.stdout.close()
+            child.stderr.close()
+            raise
+        else:
+            fault = None
+        told = read_to_end(child)
+        if child.returncode != 0 or fault is not None:
+            how = f'crashfs tar {ended(child.returncode)}'
+            raise ProgramFault(
+                child.returncode, told or (f'{how}; {fault}' if fault else how).encode()
+            )
+
+    def states(self, trace: str, holes: bool = True) -> int:
+        """How many states a trace has: its prefixes, and with a hole each."""
+        lines = self.text(['list', '--trace', trace, *(['--holes'] if holes else [])])
+        last = lines.rstrip('\n').rpartition('\n')[2].split(' ')
+        if last[0] != 'state' or not last[1:2] or not last[1].isdigit():
+            raise ProgramFault(0, b'crashfs: what it printed is no list')
+        return int(last[1]) + 1
+
+    def tree(self, trace: str, state: int) -> Entries:
+        """The tree of a state, but for the root."""
+        return self.tree_of(['--trace', trace, '--state', str(state)])
+
+    def tree_of(self, words: List[str], environment: Optional[Dict[str, str]] = None) -> Entries:
+        """The tree of the one state that options name, but for the root."""
+        tree = self.whole_tree(words, environment)
+        tree.pop('/', None)
+        return tree
+
+    def whole_tree(self, words: List[str], environment: Optional[Dict[str, str]] = None) -> Entries:
+        with self.archive(words, environment) as archive:
+            return {'/' + member.path: entry_of(member) for member in archive}
+
+
+def program_beside(library: str) -> Optional[str]:
+    """The program of bin/ if these tools are a release's, in lib/crashfs; else the built one."""
+    folder, name = os.path.split(library)
+    is_release = name == 'crashfs' and os.path.basename(folder) == 'lib'
+    path = os.path.join(os.path.dirname(folder), 'bin', 'crashfs') if is_release else BUILT
+    return path if os.access(path, os.X_OK) else None
+
+
+def read_to_end(child: subprocess.Popen[bytes]) -> bytes:
+    """Waits for a program's end, so that it can write all; what it printed as an error."""
+    assert child.stdout is not None and child.stderr is not None
+    while child.stdout.read(PIECE_BYTES):
+        pass
+    told = child.stderr.read()
+    child.stdout.close()
+    child.stderr.close()
+    child.wait()
+    return told
+
+
+def is_too_large(fault: Exception) -> bool:
+    """Whether the program, or the second reading, refused a trace for its length."""
+    said = fault.text if isinstance(fault, ProgramFault) else str(fault)
+    return any(text in said for text in TOO_LARGE)
+
+
+def last_line(output: str) -> str:
+    lines = output.strip().splitlines()
+    return lines[-1] if lines else ''
+
+
+def entry_of(member: Member) -> Entry:
+    data = None if member.data is None else bytearray(member.data)
+    return Entry(member.owner, member.group, member.mode & 0o777, data)

@@ -1,0 +1,144 @@
+"""strace's log as it comes: read by a thread through a named pipe, so that no disk has to hold
+it."""
+
+from __future__ import annotations
+
+import os
+import re
+import signal
+import threading
+import time
+from typing import List, Optional, Set, TextIO
+
+from . import stopped_processes
+from .mapped_files import MappedFiles
+from .pipe_lines import PipeLines
+from .strace_log import Log, LogReader
+
+# Seconds in which strace reports all threads of a process as stopped.
+SAME_STOP = 0.005
+STOPPED = re.compile(r'^(\d+) +--- stopped by SIGSTOP ---')
+
+
+class LogStream:
+    """strace writes to `pipe`; the lines are kept in a file too if one is named."""
+
+    def __init__(self, folder: str, keep: Optional[str], mapped: Optional[MappedFiles]) -> None:
+        self.pipe = os.path.join(folder, 'log')
+        os.mkfifo(self.pipe)
+        self.kept = None if keep is None else open(keep, 'w', encoding='ascii')
+        self.mapped = mapped
+        self.reader = LogReader()
+        self.lines = 0
+        # Whether threads ran while the newest copy was taken: the next one isn't sure either.
+        self.was_late = False
+        self.fault: Optional[OSError] = None
+        self.opened = threading.Event()
+        self.thread = threading.Thread(target=self.read, daemon=True)
+
+    def begin(self) -> None:
+        self.thread.start()
+
+    def end(self) -> Log:
+        """The log, when strace has ended. OSError if it could not be kept."""
+        self.release()
+        self.thread.join()
+        if self.fault is not None:
+            raise self.fault
+        return self.reader.log
+
+    def release(self) -> None:
+        """Ends the wait for a strace that never opened the pipe."""
+        while not self.opened.is_set():
+            try:
+                os.close(os.open(self.pipe, os.O_WRONLY | os.O_NONBLOCK))
+            except OSError:
+                # The thread is not waiting yet.
+                time.sleep(0.001)
+
+    def read(self) -> None:
+        descriptor = os.open(self.pipe, os.O_RDONLY)
+        self.opened.set()
+        try:
+            lines = PipeLines(descriptor)
+            while self.take(lines.next(), lines):
+                pass
+        finally:
+            os.close(descriptor)
+        if self.mapped is not None:
+            self.mapped.end(self.lines)
+        self.close_kept()
+
+    def take(self, line: Optional[str], lines: PipeLines) -> bool:
+        """One line, and what it asks for; False for the end."""
+        stopped = self.note(line)
+        if stopped is not None and self.mapped is not None:
+            self.go_on(self.mapped, stopped, lines)
+        return line is not None
+
+    def note(self, line: Optional[str]) -> Optional[int]:
+        """Takes a line in, and returns the thread that it says is stopped."""
+        if line is None:
+            return None
+        self.lines += 1
+        self.keep(line)
+        self.reader.line(self.lines, line.rstrip('\n'))
+        if self.mapped is not None:
+            self.mapped.note(line, self.lines)
+        stopped = STOPPED.match(line)
+        return int(stopped[1]) if stopped else None
+
+    def go_on(self, mapped: MappedFiles, thread: int, lines: PipeLines) -> None:
+        """A process whose threads are all stopped is copied from, and goes on."""
+        process = stopped_processes.group_of(thread)
+        stopped = None if process is None else stopped_processes.wait_until_stopped(thread, process)
+        if process is None or stopped is None:
+            return
+        threads = stopped_processes.threads_of(process)
+        later = self.note_stops({thread}, set(threads), lines)
+        is_alone = stopped and not self.was_late and len(threads) == 1
+        self.was_late = not stopped
+        others = self.reader.processes - set(self.reader.log.ended) - {process}
+        mapped.copy(self.lines, thread, is_alone, others)
+        try:
+            os.kill(process, signal.SIGCONT)
+        except ProcessLookupError:
+            pass
+        for other in later:
+            self.go_on(mapped, other, lines)
+
+    def note_stops(self, seen: Set[int], threads: Set[int], lines: PipeLines) -> List[int]:
+        """Takes the lines by which a process's other threads say that they are stopped too, so
+        that none is taken for a later stop; returns the stopped threads of other processes."""
+        later = []
+        while not threads <= seen:
+            line = lines.next(SAME_STOP)
+            if line is None:
+                break
+            stopped = self.note(line)
+            if stopped in threads:
+                seen.add(stopped)
+            elif stopped is not None:
+                later.append(stopped)
+        return later
+
+    def keep(self, line: str) -> None:
+        """A line that can't be kept is the last that is tried: the program runs to its end."""
+        try:
+            if self.kept is not None and self.fault is None:
+                self.kept.write(line)
+        except OSError as error:
+            self.fault = named(error, self.kept)
+
+    def close_kept(self) -> None:
+        if self.kept is None:
+            return
+        try:
+            self.kept.close()
+        except OSError as error:
+            self.fault = self.fault or named(error, self.kept)
+
+
+def named(error: OSError, file: Optional[TextIO]) -> OSError:
+    """An error with the file's name, which those of a write have not."""
+    return OSError(error.errno, error.strerror, None if file is None else file.name)

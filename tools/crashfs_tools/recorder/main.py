@@ -1,0 +1,152 @@
+"""The command crashfs-record."""
+
+from __future__ import annotations
+
+import os
+import subprocess
+import sys
+from dataclasses import dataclass
+from typing import List, Optional, Tuple
+
+from crashfs_tools.common.command import Refused, tell, write_whole
+from crashfs_tools.common.guard import Guard, Stopped, stop_by_exception
+from crashfs_tools.common.program import Crashfs
+from crashfs_tools.common.trace import Say
+
+from . import stacks, strace_run, summary
+from .begin_after import BeginAfter
+from .directory import group_name, scan, user_name
+from .log_stream import LogStream
+from .mapped_files import Copies, MappedFiles
+from .options import NAME, Options, check, read_options
+from .session import Beginning, Session
+from .strace_log import Log, LogError, read_log
+from .translate import Translator
+
+NOTHING = 1
+BEGINS = 'it begins after an acknowledged line: what was not yet synced then counts as durable'
+
+
+@dataclass
+class Recorded:
+    """What came of a run of COMMAND: strace's log, the copies of mapped files, its status, and
+    the signals that were passed on to it."""
+
+    log: Log
+    copies: Optional[Copies] = None
+    status: int = 0
+    stops: Tuple[int, ...] = ()
+    output: Optional[str] = None
+
+
+def run_command(options: Options, guard: Guard) -> Recorded:
+    strace = strace_run.find_strace()
+    mapped = MappedFiles(options.directory, options.ignored) if options.mapped else None
+    stream = LogStream(guard.directory, options.keep_log, mapped)
+    line = strace_run.words(strace, stream.pipe, options)
+    running = strace_run.Running(line, options, stream, guard)
+    status = running.run()
+    log = stream.end()
+    if log.first is None:
+        raise Refused('strace recorded nothing (it may not trace here: see its message)')
+    if not log.is_whole:
+        raise Refused("strace's log ends before COMMAND did")
+    if not log.has_begun:
+        raise Refused(f'{options.command[0]} could not be started (strace prints why)')
+    return Recorded(
+        log, mapped.copies if mapped else None, status, tuple(running.stops), running.output
+    )
+
+
+def load_log(path: str) -> Log:
+    with open(path, encoding='ascii', errors='replace') as lines:
+        log = read_log(lines)
+    if log.first is None:
+        raise Refused(f'{path} has no call of any process: strace -f -o FILE writes such a log')
+    return log
+
+
+def beginning(options: Options) -> Beginning:
+    is_here = options.from_log is None
+    umask = os.umask(0)
+    os.umask(umask)
+    top = options.directory if is_here else options.log_directory or options.directory
+    return Beginning(
+        top if is_here else os.path.normpath(top),
+        umask if is_here else 0o022,
+        user_name(os.geteuid()),
+        group_name(os.getegid()),
+        resolved if is_here else os.path.normpath,
+        options.said,
+        options.profile,
+        options.block,
+    )
+
+
+def resolved(path: str) -> str:
+    """A path without symbolic links, but for its own last name."""
+    parent, name = os.path.split(os.path.normpath(path))
+    return os.path.join(os.path.realpath(parent), name) if name else path
+
+
+def record(options: Options) -> int:
+    check(options)
+    Crashfs.find(options.crashfs)
+    before = scan(options.directory, options.ignored)
+    session = Session(beginning(options), before, options.ignored)
+    if options.from_log is not None:
+        recorded = Recorded(load_log(options.from_log))
+        if not recorded.log.is_whole:
+            session.trouble('the log ends before the program did', '/')
+    else:
+        with Guard('crashfs-record-') as guard:
+            recorded = run_command(options, guard)
+    translate(options, session, recorded)
+    write_whole(options.out, (line + '\n' for line in session.trace.lines()))
+    ending = summary.ending_of(recorded.status, recorded.stops)
+    found = summary.outcome(session, options, ending)
+    how = 'its last state was compared with nothing'
+    if options.from_log is None:
+        how = summary.compared(options, session, before, found)
+    begins = [BEGINS] if session.begins_later else []
+    for line in found.lines + found.notes + begins:
+        tell(NAME, line)
+    tell(NAME, summary.summary(options, session, how))
+    return found.status
+
+
+def translate(options: Options, session: Session, recorded: Recorded) -> None:
+    """Makes the log the session's operations."""
+    session.voices.know_output(recorded.output)
+    if options.stacks or any(call.frames for call in recorded.log.calls):
+        stacks.note_all(recorded.log.calls)
+    wanted = options.begin_after
+    begin = None if wanted is None else BeginAfter(session, wanted)
+    Translator(session, recorded.log, recorded.copies).run()
+    if begin is not None and not begin.has_begun:
+        session.trouble(
+            f'no acknowledged line is {wanted}: the trace begins with COMMAND', '--begin-after'
+        )
+    operations = session.trace.operations
+    if options.from_log is not None and all(isinstance(it, Say) for it in operations):
+        raise Refused(
+            f'{options.from_log} changes nothing below {beginning(options).top}: '
+            '--log-dir is the path that DIR had there'
+        )
+
+
+def main(arguments: Optional[List[str]] = None) -> int:
+    options = read_options(sys.argv[1:] if arguments is None else arguments)
+    stop_by_exception()
+    try:
+        return record(options)
+    except Stopped as stopped:
+        tell(NAME, f'stopped by {stopped}; nothing is written')
+        return stopped.status
+    except (Refused, LogError) as refused:
+        tell(NAME, f'{refused}')
+    except OSError as error:
+        tell(NAME, f'{error.filename or options.out}: {error.strerror}; no trace is written')
+    except subprocess.SubprocessError as error:
+        tell(NAME, f'{error}')
+    return NOTHING

@@ -1,0 +1,188 @@
+"""What crashfs-record prints at its end: what the trace leaves out, and what it has."""
+
+from __future__ import annotations
+
+import os
+from dataclasses import dataclass, field
+from typing import Dict, List, Optional, Tuple
+
+from crashfs_tools.common.command import ended, relative_arguments
+from crashfs_tools.common.limits import MICRO_OPERATIONS
+from crashfs_tools.common.program import Crashfs, ProgramFault, is_too_large
+from crashfs_tools.common.trace import Say
+from crashfs_tools.reading import ReadingFault, count_states
+
+from .comparison import (
+    ByProgram,
+    LastState,
+    Replayed,
+    differences,
+    left_out_at_the_end,
+    links_that_differ,
+    notes_on,
+)
+from .directory import Scan, scan
+from .options import Options
+from .output_streams import ERRORS
+from .session import Session
+from .troubles import Trouble
+
+WHOLE, NOT_WHOLE, NOTED = 0, 3, 4
+IN_WINDOWS = 'states in windows (crashfs-check makes them)'
+
+
+@dataclass
+class Outcome:
+    """The lines that are printed: those of status 3, and those that are only noted."""
+
+    lines: List[str] = field(default_factory=list)
+    notes: List[str] = field(default_factory=list)
+
+    @property
+    def status(self) -> int:
+        return NOT_WHOLE if self.lines else NOTED if self.notes else WHOLE
+
+
+def outcome(session: Session, options: Options, ending: Optional[str]) -> Outcome:
+    """What the trace doesn't say, but for what a comparison shows."""
+    found = Outcome()
+    troubles = session.troubles.values()
+    found.lines = [f'not in the trace: {trouble}' for trouble in troubles if not trouble.is_note]
+    found.notes = [f'not in the trace: {line}' for line in notes_of(troubles)]
+    if ending is not None:
+        found.lines += ['COMMAND ' + ending, *relative_hints(options)]
+    if not options.no_say:
+        found.lines += silence(session)
+    return found
+
+
+def relative_hints(options: Options) -> List[str]:
+    """The likely cause if COMMAND failed: an argument that names a file elsewhere."""
+    return [
+        f'{word} is a relative path, but COMMAND runs in {options.directory}: use '
+        f'{os.path.abspath(word)}'
+        for word in relative_arguments(options.command)
+        if not os.path.exists(os.path.join(options.directory, word))
+    ]
+
+
+def notes_of(troubles: List[Trouble]) -> List[str]:
+    """What is only noted, each thing once with its first path."""
+    by_what: Dict[str, List[Trouble]] = {}
+    for trouble in troubles:
+        if trouble.is_note:
+            by_what.setdefault(trouble.what, []).append(trouble)
+    return [
+        str(found[0])
+        + (f', and of {counted(len(found) - 1, "path")} more' if len(found) > 1 else '')
+        for found in by_what.values()
+    ]
+
+
+def silence(session: Session) -> List[str]:
+    """Why no loss could be seen: nothing was acknowledged, or all at once."""
+    said = [voice for voice in session.voices.all() if voice.is_said and voice.lines]
+    lines, writes = sum(voice.lines for voice in said), sum(voice.writes for voice in said)
+    errors = sum(
+        voice.lines for voice in session.voices.all() if voice.name == ERRORS and not voice.is_said
+    )
+    if lines == 0:
+        where = f', and {counted(errors, "line")} on standard error' if errors else ''
+        hint = ' (--say-fd 2 takes these)' if errors else ''
+        return [
+            f'no line was acknowledged{where}: no loss can be seen{hint}; --no-say if that is '
+            'intended'
+        ]
+    if lines > 1 and writes == 1:
+        return [
+            f'all {lines:,} acknowledged lines came in one write: is standard output flushed '
+            'after each? (--no-say if that is intended)'
+        ]
+    return []
+
+
+def compared(options: Options, session: Session, before: Scan, found: Outcome) -> str:
+    """Compares the directory with the last state, adds what differs, and returns the verdict."""
+    now = scan(options.directory, options.ignored)
+    told = session.troubles.places() | session.differing
+    for last in last_states(options, session):
+        try:
+            entries = last.entries(options.out)
+        except ProgramFault:
+            continue
+        different = (
+            differences(now, entries, told)
+            + left_out_at_the_end(before, now, told)
+            + links_that_differ(now, session.told, told)
+        )
+        found.notes += notes_on(before, now, session.troubles.values())
+        verdict = 'differs from' if different else 'equals'
+        but = ', except for what is reported' if told and not different else ''
+        found.lines += different
+        return f'its last state {verdict} the directory{but} (by {last.name})'
+    return 'its last state was compared with nothing'
+
+
+def last_states(options: Options, session: Session) -> List[LastState]:
+    """What gives the last state: the program if it can read the trace, and else the text."""
+    if not os.path.isfile(options.out):
+        return [Replayed(session.trace.lines())]
+    program = None if is_long(session) else Crashfs.find(options.crashfs)
+    return ([ByProgram(program)] if program else []) + [Replayed()]
+
+
+def is_long(session: Session) -> bool:
+    """Whether the program takes the trace only in windows."""
+    return session.told.micro_operations > MICRO_OPERATIONS
+
+
+def text_of(session: Session) -> str:
+    return ''.join(line + '\n' for line in session.trace.lines())
+
+
+def summary(options: Options, session: Session, how: str) -> str:
+    """The last line: what the trace has."""
+    trace = session.trace
+    counts = [
+        counted(len(trace.start), 'start line'),
+        counted(len(trace.operations), 'operation'),
+        counted(session.told.micro_operations, 'micro-operation'),
+        states(options, session),
+        acknowledged(session),
+    ]
+    return f'{options.out}: {", ".join(counts)}; {how}'
+
+
+def acknowledged(session: Session) -> str:
+    lines = sum(isinstance(one, Say) for one in session.trace.operations)
+    names = dict.fromkeys(
+        voice.name for voice in session.voices.all() if voice.is_said and voice.lines
+    )
+    return counted(lines, 'acknowledged line') + (f' ({", ".join(names)})' if names else '')
+
+
+def states(options: Options, session: Session) -> str:
+    """How many states the check has, by the program or else by the second reading."""
+    if is_long(session):
+        return IN_WINDOWS
+    program = Crashfs.find(options.crashfs)
+    if program is not None and os.path.isfile(options.out):
+        try:
+            return counted(program.states(options.out), 'state')
+        except ProgramFault as fault:
+            if is_too_large(fault):
+                return IN_WINDOWS
+    try:
+        return counted(count_states(text_of(session)), 'state')
+    except ReadingFault as fault:
+        return IN_WINDOWS if is_too_large(fault) else f'no states ({fault})'
+
+
+def counted(count: int, what: str) -> str:
+    return f'{count:,} {what}' + ('' if count == 1 else 's')
+
+
+def ending_of(status: int, stops: Tuple[int, ...]) -> Optional[str]:
+    """How COMMAND failed, or None; a signal that was passed on to it is no failure."""
+    passed = [-number for number in stops] + [128 + number for number in stops]
+    return None if status == 0 or status in passed else ended(status)

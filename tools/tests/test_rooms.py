@@ -1,0 +1,109 @@
+"""The sub-packages of the tools: which may import which, and that no import goes in a circle."""
+
+from __future__ import annotations
+
+import ast
+import unittest
+from pathlib import Path
+from typing import Dict, Iterator, List, Set
+
+from .support import TOOLS
+
+PACKAGE = 'crashfs_tools'
+# Each room with those that it may import, apart from itself.
+ROOMS: Dict[str, Set[str]] = {
+    'reading': set(),
+    'common': set(),
+    'recorder.calls': {'common', 'recorder'},
+    'recorder': {'common', 'reading', 'recorder.calls'},
+    'checker.states': {'common', 'checker.options'},
+    'checker.running': {'common', 'checker.options', 'checker.states'},
+    'checker.findings': {'common', 'checker.options', 'checker.states', 'checker.running'},
+    'checker.report': {'common', 'checker.states', 'checker.running', 'checker.findings'},
+    'checker.options': {'common'},
+    'checker': {
+        'common',
+        'checker.options',
+        'checker.states',
+        'checker.running',
+        'checker.findings',
+        'checker.report',
+    },
+}
+OPTIONS = ('checker.options', 'checker.address')
+
+
+def module_of(path: Path) -> str:
+    return '.'.join(path.relative_to(TOOLS).with_suffix('').parts)
+
+
+def modules() -> Dict[str, Path]:
+    found = (TOOLS / PACKAGE).rglob('*.py')
+    return {module_of(path): path for path in found if 'python_hook' not in path.parts}
+
+
+def imports_of(name: str, path: Path, known: Set[str]) -> Iterator[str]:
+    """The modules of the package that a module imports, wherever it does."""
+    parts = name.split('.')
+    for node in ast.walk(ast.parse(path.read_text('utf-8'))):
+        if isinstance(node, ast.ImportFrom):
+            base = '.'.join(parts[: len(parts) - node.level]) + '.' if node.level else ''
+            base = (base + (node.module or '')).rstrip('.')
+            named = [f'{base}.{it.name}' for it in node.names]
+            yield from (it if it in known else base for it in named if it in known or base in known)
+
+
+def room_of(name: str) -> str:
+    """The room of a module: its package, or the module itself if others may import only it."""
+    inner = name[len(PACKAGE) + 1 :]
+    if inner in OPTIONS:
+        return 'checker.options'
+    rooms = [room for room in ROOMS if inner == room or inner.startswith(f'{room}.')]
+    return max(rooms, key=len, default='')
+
+
+def circle(imports: Dict[str, Set[str]]) -> List[str]:
+    """Modules that import each other in a circle; none if there are none."""
+    done: Set[str] = set()
+
+    def search(name: str, above: List[str]) -> List[str]:
+        if name in above:
+            return above[above.index(name) :]
+        if name in done:
+            return []
+        found = (search(it, [*above, name]) for it in sorted(imports.get(name, set())))
+        answer = next(filter(None, found), [])
+        done.add(name)
+        return answer
+
+    return next(filter(None, (search(name, []) for name in sorted(imports))), [])
+
+
+class Rooms(unittest.TestCase):
+    def imports(self) -> Dict[str, Set[str]]:
+        known = modules()
+        return {name: set(imports_of(name, path, set(known))) for name, path in known.items()}
+
+    def test_a_room_imports_only_what_it_may(self) -> None:
+        for name, imported in self.imports().items():
+            room = room_of(name)
+            for other in map(room_of, imported):
+                allowed = other in ('', room) or other in ROOMS.get(room, set())
+                self.assertTrue(allowed, f'{name} of {room} imports from {other}')
+
+    def test_no_import_goes_in_a_circle(self) -> None:
+        self.assertEqual(circle(self.imports()), [])
+
+    def test_a_circle_is_found(self) -> None:
+        self.assertEqual(circle({'a': {'b'}, 'b': {'c'}, 'c': {'b'}}), ['b', 'c'])
+
+    def test_imports_are_seen_in_all_their_forms(self) -> None:
+        name = f'{PACKAGE}.checker.main'
+        found = set(imports_of(name, modules()[name], set(modules())))
+        self.assertIn(f'{PACKAGE}.checker.options', found)
+        self.assertIn(f'{PACKAGE}.common.command', found)
+        self.assertIn(f'{PACKAGE}.checker.merging', found)
+
+
+if __name__ == '__main__':
+    unittest.main()

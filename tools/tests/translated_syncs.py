@@ -1,0 +1,131 @@
+"""Syncs and mappings as strace writes them, and the operations that they become."""
+
+from .translated_calls import FILE, OPEN_F, TWO_FILES
+
+SYNCS = [
+    (
+        'a copy inside the kernel has the bytes of its source',
+        TWO_FILES,
+        [
+            OPEN_F,
+            '1 openat(AT_FDCWD</d>, "g", O_WRONLY) = 4</d/g>',
+            '1 copy_file_range(3</d/f>, NULL, 4</d/g>, NULL, 100, 0) = 5',
+            '1 sendfile(4</d/g>, 3</d/f>, [1] => [3], 2) = 2',
+        ],
+        ['write /g 0 hello', 'write /g 5 el'],
+    ),
+    (
+        'a directory\'s sync, and that of all',
+        [],
+        [
+            '1 openat(AT_FDCWD</d>, ".", O_RDONLY|O_DIRECTORY) = 3</d>',
+            '1 fsync(3</d>) = 0',
+            '1 sync() = 0',
+        ],
+        ['fsync /', 'sync'],
+    ),
+    (
+        'msync is a sync of the pages that it names',
+        FILE,
+        [
+            OPEN_F,
+            '1 mmap(NULL, 20000, PROT_READ, MAP_SHARED, 3</d/f>, 0x2000) = 0x10000',
+            '1 msync(0x11000, 4096, MS_SYNC) = 0',
+            '1 msync(0x11000, 4096, MS_ASYNC) = 0',
+            '1 munmap(0x11000, 4096) = 0',
+            '1 msync(0x10000, 20480, MS_SYNC) = 0',
+            '1 munmap(0x10000, 20480) = 0',
+            '1 msync(0x10000, 4096, MS_SYNC) = 0',
+        ],
+        ['fsyncrange /f 12288 4096', 'fsyncrange /f 8192 4096', 'fsyncrange /f 16384 12288'],
+    ),
+    (
+        'a mapping that another takes the place of',
+        TWO_FILES,
+        [
+            OPEN_F,
+            '1 openat(AT_FDCWD</d>, "g", O_RDWR) = 4</d/g>',
+            '1 mmap(NULL, 4096, PROT_READ, MAP_SHARED, 3</d/f>, 0) = 0x10000',
+            '1 mmap(0x10000, 4096, PROT_READ, MAP_SHARED|MAP_FIXED, 4</d/g>, 0) = 0x10000',
+            '1 msync(0x10000, 4096, MS_SYNC) = 0',
+            '1 mmap(0x10000, 4096, PROT_READ, MAP_PRIVATE|MAP_FIXED|MAP_ANONYMOUS, -1, 0)'
+            ' = 0x10000',
+            '1 msync(0x10000, 4096, MS_SYNC) = 0',
+        ],
+        ['fsyncrange /g 0 4096'],
+    ),
+    (
+        'a mapping that moves to where another is',
+        TWO_FILES,
+        [
+            OPEN_F,
+            '1 openat(AT_FDCWD</d>, "g", O_RDWR) = 4</d/g>',
+            '1 mmap(NULL, 4096, PROT_READ, MAP_SHARED, 3</d/f>, 0) = 0x10000',
+            '1 mmap(NULL, 4096, PROT_READ, MAP_SHARED, 4</d/g>, 0) = 0x20000',
+            '1 mremap(0x10000, 4096, 4096, MREMAP_MAYMOVE|MREMAP_FIXED, 0x20000) = 0x20000',
+            '1 msync(0x20000, 4096, MS_SYNC) = 0',
+        ],
+        ['fsyncrange /f 0 4096'],
+    ),
+    (
+        'a mapping that moves, and grows',
+        FILE,
+        [
+            OPEN_F,
+            '1 mmap(NULL, 8192, PROT_READ, MAP_SHARED, 3</d/f>, 0x1000) = 0x10000',
+            '1 mremap(0x11000, 4096, 12288, MREMAP_MAYMOVE) = 0x90000',
+            '1 msync(0x90000, 12288, MS_SYNC) = 0',
+            '1 msync(0x11000, 4096, MS_SYNC) = 0',
+            '1 msync(0x10000, 4096, MS_SYNC) = 0',
+            '1 mremap(0x90000, 0, 4096, MREMAP_MAYMOVE) = 0xa0000',
+            '1 msync(0xa0000, 4096, MS_SYNC) = 0',
+            '1 msync(0x90000, 4096, MS_SYNC) = 0',
+        ],
+        [
+            'fsyncrange /f 8192 12288',
+            'fsyncrange /f 4096 4096',
+            'fsyncrange /f 8192 4096',
+            'fsyncrange /f 8192 4096',
+        ],
+    ),
+    (
+        'mappings belong to a process; threads and vfork share them',
+        TWO_FILES,
+        [
+            OPEN_F,
+            '1 openat(AT_FDCWD</d>, "g", O_RDWR) = 4</d/g>',
+            '1 mmap(NULL, 4096, PROT_READ, MAP_SHARED, 3</d/f>, 0) = 0x10000',
+            '1 clone(child_stack=NULL, flags=CLONE_CHILD_SETTID|SIGCHLD) = 2',
+            '2 munmap(0x10000, 4096) = 0',
+            '2 mmap(NULL, 4096, PROT_READ, MAP_SHARED, 4</d/g>, 0) = 0x10000',
+            '1 msync(0x10000, 4096, MS_SYNC) = 0',
+            '2 msync(0x10000, 4096, MS_SYNC) = 0',
+            '2 clone(child_stack=0x7f, flags=CLONE_VM|CLONE_FILES|CLONE_THREAD) = 3',
+            '3 msync(0x10000, 4096, MS_SYNC) = 0',
+            '1 vfork() = 4',
+            '4 msync(0x10000, 4096, MS_SYNC) = 0',
+            '4 execve("/bin/x", ["x"], 0x7ffc /* 3 vars */) = 0',
+            '4 msync(0x10000, 4096, MS_SYNC) = 0',
+        ],
+        [
+            'fsyncrange /f 0 4096',
+            'fsyncrange /g 0 4096',
+            'fsyncrange /g 0 4096',
+            'fsyncrange /f 0 4096',
+        ],
+    ),
+    (
+        '32-bit programs',
+        FILE,
+        [
+            OPEN_F,
+            '1 ftruncate64(3</d/f>, 2) = 0',
+            '1 truncate64("f", 1) = 0',
+            '1 mmap2(NULL, 4096, PROT_READ, MAP_SHARED, 3</d/f>, 0) = 0x10000',
+            '1 msync(0x10000, 4096, MS_SYNC) = 0',
+            '1 fcntl64(3</d/f>, F_DUPFD, 9) = 9',
+            '1 write(9</d/f>, "x", 1) = 1',
+        ],
+        ['truncate /f 2', 'truncate /f 1', 'fsyncrange /f 0 4096', 'write /f 0 x'],
+    ),
+]
