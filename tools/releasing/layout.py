@@ -57,8 +57,8 @@ def tools() -> Items:
 
 
 def documents() -> Items:
-    """The pages and the examples, in the same folders as here, so that links between them work."""
-    paths = [*TOP_PAGES, *tracked('docs/*.md'), *tracked('examples')]
+    """Pages, pictures and examples, in the same folders as here, so that links to them work."""
+    paths = [*TOP_PAGES, *tracked('docs/*.md'), *tracked('docs/images'), *tracked('examples')]
     return {f'{DOCUMENTS}/{path}': file_of(path) for path in paths}
 
 

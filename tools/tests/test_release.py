@@ -256,9 +256,9 @@ class Layout(unittest.TestCase):
 
 class Names(unittest.TestCase):
     def test_files_of_a_release_are_named_by_the_version(self) -> None:
-        readme = (TOP / 'README.md').read_text('utf-8')
+        page = (TOP / 'docs' / 'CONTRIBUTING.md').read_text('utf-8')
         for name in (f'crashfs_{VERSION}_amd64.deb', f'crashfs-{VERSION}-linux-x86_64.tar.gz'):
-            self.assertIn(name, readme)
+            self.assertIn(name, page)
         image = (TOP / 'Dockerfile').read_text('utf-8')
         self.assertIn(f'\nARG VERSION={VERSION}\n', image)
         self.assertIn('\nCOPY dist/crashfs-${VERSION}-linux-x86_64.tar.gz ', image)
