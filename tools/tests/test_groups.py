@@ -71,7 +71,7 @@ def report_of(text, cause):
 
 
 def reported(findings):
-    report = Report(findings.head, keep=True, draw=True)
+    report = Report(findings.head, has_json=True, has_page=True)
     report.add(findings)
     return report
 

@@ -120,7 +120,7 @@ class Chosen(unittest.TestCase):
             self.assertEqual(len(chosen), min(count, 9))
             if count >= 6:
                 self.assertEqual(
-                    nested.met,
+                    nested.seen,
                     set().union(
                         *(Nested.features(findings, plan.state(number)) for number in outcomes)
                     ),

@@ -130,7 +130,7 @@ class Blame(unittest.TestCase):
         outcomes = {state: Outcome(GOOD) for state in range(13)}
         outcomes.update({state: cause for state in failing})
         plan = read_plan(LISTED, needs)
-        return Pairs(plan, outcomes).of(plan.listed[number])
+        return Pairs(plan, outcomes).pair_of(plan.listed[number])
 
     def test_a_hole_is_what_was_lacking_when_it_began_to_fail(self):
         self.assertEqual(self.pair(9, [9]), Pair(4, 1))
@@ -146,15 +146,15 @@ class Blame(unittest.TestCase):
         outcomes = {state: Outcome(GOOD) for state in range(13)}
         outcomes.update({9: LOST, 8: Outcome(BAD, 'corrupt: a'), 7: LOST})
         plan = read_plan(LISTED)
-        self.assertEqual(Pairs(plan, outcomes).of(plan.listed[9]), Pair(4, 1))
+        self.assertEqual(Pairs(plan, outcomes).pair_of(plan.listed[9]), Pair(4, 1))
         outcomes[8] = Outcome(BAD, 'lost: another')
-        self.assertEqual(Pairs(plan, outcomes).of(plan.listed[9]), Pair(4, 1))
+        self.assertEqual(Pairs(plan, outcomes).pair_of(plan.listed[9]), Pair(4, 1))
         # No other state has this very cause, so that the word counts.
         outcomes[9] = Outcome(BAD, 'lost: the third')
-        self.assertEqual(Pairs(plan, outcomes).of(plan.listed[9]), Pair(2, 1))
+        self.assertEqual(Pairs(plan, outcomes).pair_of(plan.listed[9]), Pair(2, 1))
         # Causes that differ in numbers are one.
         outcomes.update({9: Outcome(BAD, 'lost: row 3'), 8: Outcome(BAD, 'lost: row 2'), 7: LOST})
-        self.assertEqual(Pairs(plan, outcomes).of(plan.listed[9]), Pair(3, 1))
+        self.assertEqual(Pairs(plan, outcomes).pair_of(plan.listed[9]), Pair(3, 1))
 
     def test_a_hole_whose_prefix_fails_alike_is_not_to_blame(self):
         self.assertEqual(self.pair(9, [5, 9]), Pair(4, None))

@@ -138,7 +138,7 @@ class Run:
                     if not is_whole:
                         self.head.stopped = FIRST_FAILURE
                         break
-                    self.look_closer(planned)
+                    self.add_details(planned)
         except TimeUp:
             self.head.stopped = self.head.stopped or ('' if is_over else TIME_LIMIT)
         except Stopped as stopped:
@@ -172,14 +172,14 @@ class Run:
             raise Refused(ANOTHER)
         results.take(self.earlier.windows[place])
 
-    def look_closer(self, planned: Planned) -> None:
+    def add_details(self, planned: Planned) -> None:
         """Differences and advice; a part of the states is not enough for them."""
         if self.head.shard.parts == 1 and not self.options.serve:
             trying = self.checking.trying(planned)
             if self.findings.groups:
-                from crashfs_tools.checker.findings.trying_advice import look_closer
+                from crashfs_tools.checker.findings.advice_trials import add_details
 
-                look_closer(trying, self.checking.planner, self.findings)
+                add_details(trying, self.checking.planner, self.findings)
             if self.options.nested:
                 self.report.recoveries += self.nested.run(trying, self.findings)
 

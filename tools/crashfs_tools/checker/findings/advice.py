@@ -1,4 +1,4 @@
-"""What would mend a failure: a sentence, and the syncs that it asks for."""
+"""The advice of an entry: a sentence, and the syncs that would repair it."""
 
 from __future__ import annotations
 
@@ -12,8 +12,8 @@ ATOMIC = 'write a new file, sync it, rename it, sync the directory'
 
 @dataclass
 class Tried:
-    """What came of advice that was tried on a copy of the trace: how many of the group's states
-    are left, of how many; how many other states fail, and how many of them failed before too."""
+    """The result of trying an advice on a copy of the trace: how many of the group's states are
+    left, of how many in total; how many others fail, and how many of these failed before."""
 
     left: int
     total: int
@@ -47,8 +47,8 @@ class Tried:
 
 @dataclass
 class Advice:
-    """text is the sentence, in lines; syncs has for each line of the trace the path to sync after
-    it. tried is None if it wasn't."""
+    """text is the sentence, in lines; syncs has the path to sync after each of these lines of the
+    trace. tried is None if the advice wasn't tried."""
 
     text: List[str] = field(default_factory=list)
     syncs: Dict[int, str] = field(default_factory=dict)
@@ -58,7 +58,7 @@ class Advice:
         return self.text + ([self.tried.text(len(self.syncs))] if self.tried else [])
 
 
-def advice_of(
+def advice_for(
     kept: Optional[TraceLine],
     lost: Optional[TraceLine],
     is_span: bool,
@@ -80,7 +80,7 @@ def advice_of(
         )
     path = lost.synced_by
     text = [
-        f'line {lost.number} ({lost.text}) was not durable when {when(kept)}'
+        f'line {lost.number} ({lost.text}) was not durable when {kept_text(kept)}'
         + (':' if path else '')
     ]
     if path is None:
@@ -94,13 +94,13 @@ def advice_of(
 
 
 def before_rename(path: str, between: range, lines: Dict[int, TraceLine]) -> str:
-    """Where a file gets another name: the sync belongs before that line."""
+    """Names the line that renames the file, if there is one: the sync belongs before it."""
     found = (lines[number] for number in between if number in lines)
     first = next((one for one in found if (one.word, one.path) == ('rename', path)), None)
     return f', before line {first.number} ({first.text})' if first else ''
 
 
-def when(kept: TraceLine) -> str:
+def kept_text(kept: TraceLine) -> str:
     if kept.word == 'say':
         return f'line {kept.number} acknowledged "{kept.details}"'
     return f'line {kept.number} ({kept.text}) was'

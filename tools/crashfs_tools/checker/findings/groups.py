@@ -1,4 +1,4 @@
-"""Failing states put together by what went wrong: the cause, and the two lines of the trace."""
+"""Failing states in groups: one for each cause and pair of lines of the trace."""
 
 from __future__ import annotations
 
@@ -6,16 +6,16 @@ from dataclasses import dataclass, field
 from typing import Dict, Iterable, List, NamedTuple, Optional, Tuple
 
 from crashfs_tools.checker.running.results import Head, Results
-from crashfs_tools.checker.running.runner import GOOD, Outcome
+from crashfs_tools.checker.running.runner import GOOD, GOOD_OUTCOME, Outcome
 from crashfs_tools.checker.states.plan import Plan, State, count, places_of
 from crashfs_tools.common.trace_lines import SYNCS, TraceLine, without_numbers
 
-from .advice import Advice, advice_of
+from .advice import Advice, advice_for
 from .pairs import Pair, Pairs
 
 
 class Difference(NamedTuple):
-    """How the example of a group differs from a good state: a line for each path."""
+    """How the example of a group differs from a good state, in a line for each path."""
 
     good: int
     lines: List[str]
@@ -64,25 +64,33 @@ class Group:
         kinds = [line.kind if line else '' for line in (self.kept, self.lost)]
         return (without_numbers(self.cause), self.result, self.is_torn, self.is_span, *kinds)
 
-    def take(self, other: Group) -> None:
-        """Takes the states and pairs of a group with the same key."""
+    def add_group(self, other: Group) -> None:
+        """Adds the states and pairs of a group with the same key."""
         self.states.extend(other.states)
         self.places = sorted({*self.places, *other.places})
         mine, others = self.advice.tried, other.advice.tried
         self.advice.tried = mine + others if mine and others else None
 
-    def advise(self, lines: Dict[int, TraceLine]) -> None:
+    def set_advice(self, lines: Dict[int, TraceLine]) -> None:
         tried = self.advice.tried
-        self.advice = advice_of(self.kept, self.lost, self.is_span, self.places, lines)
+        self.advice = advice_for(self.kept, self.lost, self.is_span, self.places, lines)
         self.advice.tried = tried
 
 
 class Findings:
-    """What was found in one window. by_state also has the states that the window before it has
-    too; only its own are counted, and put into groups."""
+    """The findings of one window. by_state also has the states that the window before it has too;
+    only those of this window are counted and grouped. States that fail as known_failure does are
+    left out."""
 
-    def __init__(self, head: Head, results: Results, before: Dict[int, Outcome]) -> None:
+    def __init__(
+        self,
+        head: Head,
+        results: Results,
+        before: Dict[int, Outcome],
+        known_failure: Optional[Outcome] = None,
+    ) -> None:
         self.head = head
+        self.known_failure = known_failure
         self.results = results
         self.plan: Plan = results.plan
         self.by_state = results.of_states(before)
@@ -97,24 +105,28 @@ class Findings:
         ]
 
     def all_groups(self) -> List[Group]:
-        failing = [
-            state
-            for state in self.results.own
-            if self.by_state.get(state.number, Outcome(GOOD)).result != GOOD
-        ]
-        groups = together(map(self.group_of, sorted(failing, key=self.rank)))
+        failing = [state for state in self.results.own if self.is_failure(state)]
+        groups = merged_groups(map(self.group_of, sorted(failing, key=self.lacking_count)))
         for group in groups:
             group.lost_lines = self.lost_lines(group.example)
             group.other_syncs = self.other_syncs(group)
-            group.advise(self.head.lines)
+            group.set_advice(self.head.lines)
         return groups
 
-    def rank(self, state: State) -> Tuple[int, int]:
+    def is_failure(self, state: State) -> bool:
+        """Whether a state fails, and with another cause than the known failure."""
+        outcome = self.by_state.get(state.number, GOOD_OUTCOME)
+        return outcome.result != GOOD and (
+            self.known_failure is None or outcome.kind != self.known_failure.kind
+        )
+
+    def lacking_count(self, state: State) -> Tuple[int, int]:
+        """How many micro-operations a state lacks, and its number."""
         return count(self.plan.lacking(state)), state.number
 
     def group_of(self, state: State) -> Group:
-        pair = self.pairs.of(state)
-        kept, lost = self.line(pair.kept), self.line(pair.lost)
+        pair = self.pairs.pair_of(state)
+        kept, lost = self.line_at(pair.kept), self.line_at(pair.lost)
         return Group(
             self.by_state[state.number],
             state,
@@ -125,7 +137,7 @@ class Findings:
             [(lost.number, kept.number)] if kept and lost else [],
         )
 
-    def line(self, place: Optional[int]) -> Optional[TraceLine]:
+    def line_at(self, place: Optional[int]) -> Optional[TraceLine]:
         if place is None:
             return None
         operation = self.plan.operations[place]
@@ -150,11 +162,11 @@ class Findings:
         ]
 
 
-def together(groups: Iterable[Group]) -> List[Group]:
+def merged_groups(groups: Iterable[Group]) -> List[Group]:
     """One group for each key, with the first one's example; the largest first."""
     found: Dict[Tuple[object, ...], Group] = {}
     for group in groups:
         first = found.setdefault(group.key, group)
         if first is not group:
-            first.take(group)
+            first.add_group(group)
     return sorted(found.values(), key=lambda group: (-len(group.states), group.example.number))

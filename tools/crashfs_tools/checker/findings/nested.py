@@ -33,7 +33,7 @@ SLOWER = 10
 
 
 class Recorder:
-    """Records COMMAND in a state, as a trace without its lines: they acknowledge nothing."""
+    """Records COMMAND in a state, in a trace without its own lines: they acknowledge nothing."""
 
     def __init__(self, trying: Trying, planner: Planner) -> None:
         self.trying = trying
@@ -72,11 +72,11 @@ class Recorder:
             'CRASHFS_STATE': str(state.number),
             'CRASHFS_SAYS': str(state.says),
         }
-        with open(checker.says.path(state.says), 'rb') as told:
+        with open(checker.says.path(state.says), 'rb') as acknowledged:
             try:
                 ran = subprocess.run(
                     line,
-                    stdin=told,
+                    stdin=acknowledged,
                     stdout=subprocess.DEVNULL,
                     stderr=subprocess.PIPE,
                     env=environment,
@@ -91,13 +91,13 @@ class Recorder:
 
 
 class Nested:
-    """Tries the recoveries of up to so many states, over all windows. met has the causes and the
-    kinds of last operations that were met."""
+    """Tries the recoveries of up to so many states, over all windows. seen has the causes and the
+    kinds of last operations of the states that were chosen."""
 
     def __init__(self, planner: Planner, count: int) -> None:
         self.planner = planner
         self.left = count
-        self.met: Set[Tuple[str, str]] = set()
+        self.seen: Set[Tuple[str, str]] = set()
 
     def run(self, trying: Trying, findings: Findings) -> Iterator[Recovery]:
         for state in self.choose(findings):
@@ -107,30 +107,29 @@ class Nested:
             except (Refused, TooLarge) as fault:
                 yield Recovery(state.number, fault=str(fault))
                 continue
-            yield self.tried(trying.with_plan(planned), state, findings.by_state[state.number])
+            yield self.recovery_of(
+                trying.with_plan(planned), state, findings.by_state[state.number]
+            )
 
-    def tried(self, trying: Trying, state: State, first: Outcome) -> Recovery:
-        """What fails after a second crash. If the state fails already, only other causes count."""
+    def recovery_of(self, trying: Trying, state: State, first: Outcome) -> Recovery:
+        """The recovery of a state. If the state already fails, only other causes count."""
         results = Results(trying.plan)
         trying.run(results)
-        for number, outcome in results.outcomes.items():
-            if outcome.result != GOOD and outcome.kind == first.kind:
-                results.outcomes[number] = Outcome(GOOD)
         with open(trying.planned.trace, **TEXT) as file:
             head = Head('', '', [], lines=operation_lines(file.read()))
-        found = Findings(head, results, {})
+        found = Findings(head, results, {}, first if first.result != GOOD else None)
         failing = sum(len(group.states) for group in found.groups)
         return Recovery(
             state.number,
             len(results.own),
             failing,
             found.groups,
-            {group.example.number: place_of(found, group) for group in found.groups},
+            {group.example.number: crash_place(found, group) for group in found.groups},
         )
 
     def choose(self, findings: Findings) -> Iterator[State]:
-        """States that were tried: first those that have what wasn't met yet, most of it first, and
-        of more acknowledged lines, since more can be lost of them; then others, evenly."""
+        """States that were tried: first those with the most features that no chosen state has,
+        and with more acknowledged lines, since they have more to lose; then others, evenly."""
         left = [findings.plan.state(number) for number in sorted(findings.results.outcomes)]
         wanted = self.left
         chosen: List[State] = []
@@ -138,14 +137,14 @@ class Nested:
             best = max(
                 left,
                 key=lambda one: (
-                    len(self.features(findings, one) - self.met),
+                    len(self.features(findings, one) - self.seen),
                     one.says,
                     -one.number,
                 ),
             )
-            if not self.features(findings, best) - self.met:
+            if not self.features(findings, best) - self.seen:
                 break
-            self.met |= self.features(findings, best)
+            self.seen |= self.features(findings, best)
             left.remove(best)
             chosen.append(best)
         more = wanted - len(chosen)
@@ -162,8 +161,8 @@ class Nested:
         return {('cause', findings.by_state[state.number].kind), ('last', kind)}
 
 
-def place_of(found: Findings, group: Group) -> str:
-    """Where the second crash was: the line of the last operation that the example has."""
+def crash_place(found: Findings, group: Group) -> str:
+    """Where the second crash was: after the last operation that the example has."""
     kept = found.plan.kept[group.example.number]
     line: Optional[int] = found.plan.operations[kept.bit_length() - 1].line if kept else None
     if line is None:

@@ -1,7 +1,27 @@
-"""The pair of operations that a failing state had in the wrong order: one kept, one not."""
+"""The two operations that a failing state has in the wrong order: one kept, one lost.
+
+The pairs are found from the outcomes of all states. They keep to these rules:
+
+1. A prefix loses nothing. Its pair is the operation after which prefixes begin to fail, and the
+   operation that repairs them.
+2. A state with the tree and the acknowledged lines of a prefix that fails alike has the pair of
+   that prefix: its failure doesn't need what it lacks.
+3. If the prefix of a hole's length fails alike, the hole isn't the reason, and rule 1 gives the
+   pair.
+4. A hole lacks an operation and what needs it. If another hole of its length lacks only a part of
+   that and fails alike, the last such one gives the pair.
+5. Of the holes that lack the same operation, the shortest one that fails alike counts, if all
+   between it and the state that were tried fail alike. Its last operation was kept, and the
+   operation that it lacks was lost.
+6. A pick has the pair of a hole of its length that fails alike and lacks only what the pick lacks.
+   If there is none, its pair is its last operation and the first one that it lacks.
+7. Two states fail alike if they have the same cause except for numbers or, if no other state has
+   this cause, if they have the same word before the colon.
+"""
 
 from __future__ import annotations
 
+from enum import Enum
 from typing import Callable, Dict, NamedTuple, Optional
 
 from crashfs_tools.checker.running.runner import GOOD, Outcome
@@ -15,19 +35,19 @@ class Pair(NamedTuple):
     lost: Optional[int]
 
 
-Alike = Callable[[int], Optional[bool]]
+class Comparison(Enum):
+    """How a state's outcome compares with that of the state whose pair is looked for."""
+
+    ALIKE = 'fails alike'
+    OTHER = 'is good, or fails with another cause'
+    UNKNOWN = 'was not tried'
+
+
+Compare = Callable[[int], Comparison]
 
 
 class Pairs:
-    """Finds the pair of each failing state from the outcomes of all states.
-
-    A state with the tree and the acknowledged lines of a prefix has the pair of that prefix: to
-    lose something isn't needed for its failure. A hole lacks i and what needs i: if a hole fails
-    alike that lacks only some of that, that one counts. Then, of the states that lack the same and
-    fail alike, the one with the least j counts, with no other between; the operation at j - 1 was
-    kept, and i was not. If the prefix of the same length fails alike, the hole is not to blame, and
-    the prefix's pair counts: what was kept when it began to fail, and what repairs it.
-    """
+    """Finds the pair of each failing state from the outcomes of all states."""
 
     def __init__(self, plan: Plan, outcomes: Dict[int, Outcome]) -> None:
         self.plan = plan
@@ -41,73 +61,79 @@ class Pairs:
         }
         self.kinds = Kinds(outcomes)
 
-    def of(self, state: State) -> Pair:
-        """The pair of a state that was tried, and isn't good."""
-        fails = self.alike(self.outcomes[state.number])
+    def pair_of(self, state: State) -> Pair:
+        """The pair of a state that was tried and isn't good."""
+        compare = self.comparison_with(self.outcomes[state.number])
         if state.family == 'prefix':
-            return self.of_prefix(state.numbers[0], fails)
+            return self.prefix_pair(state.numbers[0], compare)
         equal = self.equal_prefixes.get((state.same, state.says))
-        if equal is not None and fails(self.prefixes[equal]):
-            return self.of_prefix(equal, fails)
+        if equal is not None and self.is_alike(self.prefixes.get(equal), compare):
+            return self.prefix_pair(equal, compare)
         if state.family == 'hole':
-            return self.of_hole(state, fails)
-        return self.of_pick(state, fails)
+            return self.hole_pair(state, compare)
+        return self.pick_pair(state, compare)
 
-    def alike(self, outcome: Outcome) -> Alike:
-        """Whether a state fails alike; None for one that wasn't tried. States fail alike if their
-        whole causes are the same but for numbers; if no other state has this cause, then if the
-        words before the colons are the same."""
+    def comparison_with(self, outcome: Outcome) -> Compare:
+        """Compares states with one of this outcome, by rule 7."""
         by_cause = self.kinds.is_shared(outcome)
 
-        def fails(number: int) -> Optional[bool]:
+        def compare(number: int) -> Comparison:
             other = self.outcomes.get(number)
             if other is None:
-                return None
-            if other.result == GOOD or other.result != outcome.result:
-                return False
-            return other.kind == outcome.kind if by_cause else other.word == outcome.word
+                return Comparison.UNKNOWN
+            is_alike = other.result == outcome.result != GOOD and (
+                other.kind == outcome.kind if by_cause else other.word == outcome.word
+            )
+            return Comparison.ALIKE if is_alike else Comparison.OTHER
 
-        return fails
+        return compare
 
-    def of_prefix(self, count: int, fails: Alike) -> Pair:
+    @staticmethod
+    def is_alike(number: Optional[int], compare: Compare) -> bool:
+        """Whether there is such a state, and it fails alike."""
+        return number is not None and compare(number) is Comparison.ALIKE
+
+    def prefix_pair(self, count: int, compare: Compare) -> Pair:
+        """Rule 1; a prefix that wasn't tried is taken to fail like its neighbours."""
         first = last = count
-        while first > 0 and fails(self.prefixes[first - 1]) is not False:
+        while first > 0 and compare(self.prefixes[first - 1]) is not Comparison.OTHER:
             first -= 1
         total = len(self.plan.operations)
-        while last < total and fails(self.prefixes[last + 1]) is not False:
+        while last < total and compare(self.prefixes[last + 1]) is not Comparison.OTHER:
             last += 1
         return Pair(first - 1 if first > 0 else None, last if last < total else None)
 
-    def of_hole(self, state: State, fails: Alike) -> Pair:
-        lacking, length = state.numbers
-        if fails(self.prefixes[length]):
-            return self.of_prefix(length, fails)
-        lacking = self.last_lacking(lacking, length, fails)
-        least = length
-        for shorter in range(length - 1, lacking + 1, -1):
-            hole = self.holes.get((lacking, shorter))
-            failed = None if hole is None else fails(hole)
-            if failed is False:
+    def hole_pair(self, state: State, compare: Compare) -> Pair:
+        """Rules 3 to 5."""
+        lost, length = state.numbers
+        if self.is_alike(self.prefixes[length], compare):
+            return self.prefix_pair(length, compare)
+        lost = self.last_lost(lost, length, compare)
+        shortest = length
+        for shorter in range(length - 1, lost + 1, -1):
+            hole = self.holes.get((lost, shorter))
+            compared = Comparison.UNKNOWN if hole is None else compare(hole)
+            if compared is Comparison.OTHER:
                 break
-            least = shorter if failed else least
-        return Pair(least - 1, lacking)
+            if compared is Comparison.ALIKE:
+                shortest = shorter
+        return Pair(shortest - 1, lost)
 
-    def last_lacking(self, lacking: int, length: int, fails: Alike) -> int:
-        """The last place that needs this one and whose own hole fails alike."""
-        for later in range(length - 2, lacking, -1):
+    def last_lost(self, lost: int, length: int, compare: Compare) -> int:
+        """Rule 4: the last place that needs this one and whose own hole fails alike."""
+        for later in range(length - 2, lost, -1):
             hole = self.holes.get((later, length))
-            if self.plan.needs.needs(later, lacking) and hole is not None and fails(hole):
+            if self.plan.needs.needs(later, lost) and self.is_alike(hole, compare):
                 return later
-        return lacking
+        return lost
 
-    def of_pick(self, state: State, fails: Alike) -> Pair:
-        """The pair of a hole of the same length that fails alike and lacks what the pick lacks;
-        else the first that the pick lacks."""
+    def pick_pair(self, state: State, compare: Compare) -> Pair:
+        """Rule 6."""
         kept, lacking = self.plan.kept[state.number], self.plan.lacking(state)
         for place in places_of(lacking):
             hole = self.holes.get((place, kept.bit_length()))
-            if hole is not None and fails(hole):
-                return self.of_hole(self.plan.state(hole), fails)
+            if hole is not None and self.is_alike(hole, compare):
+                return self.hole_pair(self.plan.state(hole), compare)
         return Pair(kept.bit_length() - 1 if kept else None, next(places_of(lacking), None))
 
 

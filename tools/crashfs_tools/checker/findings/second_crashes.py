@@ -1,4 +1,4 @@
-"""What came of a second crash, during the recovery from the first."""
+"""The findings of a second crash, during the recovery from the first."""
 
 from __future__ import annotations
 
@@ -10,8 +10,9 @@ from .groups import Group
 
 @dataclass
 class Recovery:
-    """What came of the recovery of one state: the groups of failing states of a second crash, how
-    many states that are, and how many fail; or why it wasn't tried."""
+    """The recovery of one state: how many states a second crash may leave, how many of them fail,
+    and their groups; places says for each example where the second crash was. fault says why the
+    recovery wasn't tried, or is empty."""
 
     state: int
     states: int = 0
@@ -21,21 +22,22 @@ class Recovery:
     fault: str = ''
 
 
-class Second(NamedTuple):
+class SecondCrash(NamedTuple):
     """The first crash's state, and where the second crash was."""
 
     state: int
     place: str
 
 
-def seconds(recoveries: Iterable[Recovery]) -> List[Tuple[Group, Second]]:
-    """The groups of all recoveries: those that agree are one, with the first one's example."""
-    found: Dict[Tuple[object, ...], Tuple[Group, Second]] = {}
+def second_crash_entries(recoveries: Iterable[Recovery]) -> List[Tuple[Group, SecondCrash]]:
+    """The groups of all recoveries; groups with the same key are one, with the first's example."""
+    found: Dict[Tuple[object, ...], Tuple[Group, SecondCrash]] = {}
     for recovery in recoveries:
         for group in recovery.groups:
             if group.key in found:
                 found[group.key][0].states.extend(group.states)
                 continue
             copy = replace(group, states=list(group.states))
-            found[group.key] = copy, Second(recovery.state, recovery.places[group.example.number])
+            place = recovery.places[group.example.number]
+            found[group.key] = copy, SecondCrash(recovery.state, place)
     return list(found.values())

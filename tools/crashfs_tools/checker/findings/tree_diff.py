@@ -16,7 +16,7 @@ SHOWN_LINES, ENTRIES = 20, 5
 
 
 def find_differences(trying: Trying, findings: Findings) -> None:
-    """Lays the trees of the largest groups' examples beside those of good states."""
+    """Compares the examples of the largest groups with their nearest good states."""
     for group in findings.groups[:ENTRIES]:
         good = nearest_good(findings, group)
         if good is not None:
@@ -45,25 +45,26 @@ def different_lines(failing: Entries, good: Entries) -> Iterator[str]:
     for path in sorted(failing.keys() | good.keys()):
         one, other = failing.get(path), good.get(path)
         if one is None or other is None:
-            there = one or other
-            assert there is not None
-            yield f'{path} ({shown(there)}) is {"only" if one else "not"} here'
+            present = one or other
+            assert present is not None
+            yield f'{path} ({size_text(present)}) is {"only" if one else "not"} here'
         elif one.data != other.data:
-            yield f'{path} has {shown(one)}, there {shown(other)}{first_difference(one, other)}'
+            sizes = f'{size_text(one)}, there {size_text(other)}'
+            yield f'{path} has {sizes}{first_difference(one, other)}'
         elif (one.owner, one.group, one.mode) != (other.owner, other.group, other.mode):
-            yield f'{path} is {rights(one)}, there {rights(other)}'
+            yield f'{path} is {rights_text(one)}, there {rights_text(other)}'
 
 
-def shown(entry: Entry) -> str:
+def size_text(entry: Entry) -> str:
     return 'a directory' if entry.data is None else f'{len(entry.data):,} bytes'
 
 
-def rights(entry: Entry) -> str:
+def rights_text(entry: Entry) -> str:
     return f'{entry.mode:03o} {entry.owner} {entry.group}'
 
 
 def first_difference(one: Entry, other: Entry) -> str:
-    """Where the bytes differ, and what is there."""
+    """Where the bytes begin to differ, and the bytes there."""
     if one.data is None or other.data is None:
         return ''
     pairs = zip(one.data, other.data)

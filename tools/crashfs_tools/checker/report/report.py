@@ -9,13 +9,13 @@ from typing import TYPE_CHECKING, Any
 from typing import Counter as Counts
 from typing import Dict, Iterator, List, Optional
 
-from crashfs_tools.checker.findings.groups import Findings, Group, together
+from crashfs_tools.checker.findings.groups import Findings, Group, merged_groups
 from crashfs_tools.checker.running.results import Head
 from crashfs_tools.checker.running.runner import BAD, GOOD, NO_ANSWER
 from crashfs_tools.common.trace_lines import TraceLine
 
 if TYPE_CHECKING:
-    from crashfs_tools.checker.findings.second_crashes import Recovery, Second
+    from crashfs_tools.checker.findings.second_crashes import Recovery, SecondCrash
 
     from .drawing import Drawing
 
@@ -31,18 +31,18 @@ UNPROVED = (
 
 
 class Report:
-    """What is told of a check, window by window: little is kept of each. With keep it has all for
-    the JSON, and with draw all for the page."""
+    """What is reported of a check, window by window. With has_json it keeps all that the JSON has,
+    and with has_page the drawings of the page; otherwise little of each window."""
 
-    def __init__(self, head: Head, keep: bool = False, draw: bool = False) -> None:
+    def __init__(self, head: Head, has_json: bool = False, has_page: bool = False) -> None:
         self.head = head
-        self.keep = keep
-        self.draw = draw
+        self.has_json = has_json
+        self.has_page = has_page
         self.windows = self.operations = self.states = self.different = self.tried = 0
         self.words: Counts[str] = Counter()
         self.results: Counts[str] = Counter()
-        self.parts: List[List[Group]] = []
-        self.kept: List[bytes] = []
+        self.groups_of_windows: List[List[Group]] = []
+        self.packed_windows: List[bytes] = []
         self.drawings: List[Drawing] = []
         self.recoveries: List[Recovery] = []
 
@@ -56,23 +56,23 @@ class Report:
         outcomes = findings.own_outcomes()
         self.results.update(one.result for one in outcomes)
         self.words.update(one.word for one in outcomes if one.result == BAD)
-        self.parts.append(findings.groups)
-        if self.keep:
-            self.kept.append(packed(as_json(results.fields())))
-        if self.draw and (findings.groups or not self.drawings):
+        self.groups_of_windows.append(findings.groups)
+        if self.has_json:
+            self.packed_windows.append(packed(as_json(results.fields())))
+        if self.has_page and (findings.groups or not self.drawings):
             from .drawing import drawing_of
 
             self.drawings.append(drawing_of(findings))
 
     def groups(self) -> List[Group]:
         """The groups of all windows; those that agree are one."""
-        found = together(
+        found = merged_groups(
             replace(group, states=list(group.states), advice=replace(group.advice))
-            for part in self.parts
+            for part in self.groups_of_windows
             for group in part
         )
         for group in found:
-            group.advise(self.head.lines)
+            group.set_advice(self.head.lines)
         return found
 
     @property
@@ -142,10 +142,10 @@ class Report:
         ]
 
     def recovery_lines(self) -> List[str]:
-        """What a second crash leads to, during the recovery from the first."""
+        """The findings of second crashes, during the recovery from the first."""
         if not self.recoveries:
             return []
-        from crashfs_tools.checker.findings.second_crashes import seconds
+        from crashfs_tools.checker.findings.second_crashes import second_crash_entries
 
         tried = [one for one in self.recoveries if not one.fault]
         failing = sum(one.failing for one in tried)
@@ -156,7 +156,7 @@ class Report:
                 'recoverys', 'recoveries'
             )
         ]
-        for group, where in seconds(tried):
+        for group, where in second_crash_entries(tried):
             lines += self.group_lines(group, where)
         lines += [
             f'  the recovery of state {one.state} was not tried: {one.fault}'
@@ -165,8 +165,8 @@ class Report:
         ]
         return lines
 
-    def group_lines(self, group: Group, second: Optional[Second] = None) -> List[str]:
-        """The lines of an entry; of one that a second crash leads to, second says where it was."""
+    def group_lines(self, group: Group, second: Optional[SecondCrash] = None) -> List[str]:
+        """The lines of an entry. second says where the second crash was, if there was one."""
         from textwrap import wrap
 
         states = self.states_text(group, f'{second.state}/' if second else '')
@@ -194,8 +194,7 @@ class Report:
         return f'{len(group.states):,} states, e.g. {example}'
 
     def details(self, group: Group) -> List[str]:
-        """The sentence, what was tried, and what the example lacks beside the line that it
-        names."""
+        """The sentence, what was tried, and what else the example lacks."""
         notes = {line.number: line.note for line in (group.lost, group.kept) if line and line.note}
         lines = [f'line {number}: {note}' for number, note in sorted(notes.items())]
         lines += group.advice.lines()
@@ -211,9 +210,9 @@ class Report:
         return lines
 
     def json_pieces(self) -> Iterator[str]:
-        """The results, and the groups with what they say."""
+        """The results, and the entries with their texts."""
         yield as_json(self.head.fields())[:-1] + ',\n"windows":[\n'
-        for place, window in enumerate(self.kept):
+        for place, window in enumerate(self.packed_windows):
             yield (',\n' if place else '') + unpacked(window)
         groups = [self.group_fields(group) for group in self.groups()]
         yield '],\n"groups":' + json.dumps(groups, indent=1, ensure_ascii=False)

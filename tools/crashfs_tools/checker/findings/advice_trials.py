@@ -1,4 +1,4 @@
-"""Tries an advice: puts its syncs into a copy of the trace, and runs what is new in its states."""
+"""Tries an advice: its syncs are put into a copy of the trace, and the new states are tried."""
 
 from __future__ import annotations
 
@@ -21,8 +21,8 @@ from .tree_diff import find_differences
 ENTRIES = 5
 
 
-def look_closer(trying: Trying, planner: Planner, findings: Findings) -> None:
-    """How files differ, and what advice does."""
+def add_details(trying: Trying, planner: Planner, findings: Findings) -> None:
+    """Adds to the groups how files differ, and the results of their advice."""
     find_differences(trying, findings)
     try_advice(trying, planner, findings)
 
@@ -31,11 +31,12 @@ def try_advice(trying: Trying, planner: Planner, findings: Findings) -> None:
     """Tries the advice of the largest groups."""
     for place, group in enumerate(findings.groups[:ENTRIES]):
         if group.advice.syncs:
-            group.advice.tried = Copy(trying, planner, findings, place).run(group)
+            group.advice.tried = SyncedCopy(trying, planner, findings, place).run(group)
 
 
-class Copy:
-    """A copy of the trace. A set of micro-operations that was tried before isn't tried again."""
+class SyncedCopy:
+    """A copy of the trace with an advice's syncs. Sets of micro-operations that were tried before
+    are not tried again."""
 
     def __init__(self, trying: Trying, planner: Planner, findings: Findings, place: int) -> None:
         self.trying = trying
@@ -72,17 +73,17 @@ class Copy:
         trials = Results(copy.plan).trials
         new = {number: trial for trial, number in trials.items() if trial not in found}
 
-        def told(number: int, outcome: Outcome) -> None:
+        def on_outcome(number: int, outcome: Outcome) -> None:
             found[new[number]] = outcome
 
-        copy.try_states(set(new), told)
+        copy.try_states(set(new), on_outcome)
         return found
 
 
 def count_others(
     plan: Plan, outcomes: Dict[Trial, Outcome], masks: Set[int], known: Dict[int, Outcome]
 ) -> Tuple[int, int]:
-    """The failing states of the copy that the group hasn't, and how many failed before too."""
+    """How many other states of the copy fail, and how many of them failed before."""
     others = still = 0
     for state in plan.states:
         kept, one = plan.kept[state.number], outcomes.get(Trial(state.same, state.says))
