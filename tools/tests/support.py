@@ -19,7 +19,9 @@ from typing import Any, Callable, Dict, List, Optional, Sequence
 
 from crashfs_tools.common.trace import WRITTEN_VERSION, Creat, Header, Mkdir, Start
 from crashfs_tools.recorder.directory import Scan
-from crashfs_tools.recorder.session import Beginning, Session
+from crashfs_tools.recorder.mapped_files import FileCopies
+from crashfs_tools.recorder.live_files import LiveFiles, StartConditions
+from crashfs_tools.recorder.recording import Recording, TraceSettings
 from crashfs_tools.recorder.strace_log import Call, read_log
 from crashfs_tools.recorder.translate import Translator
 
@@ -49,25 +51,31 @@ def as_strace(line: str) -> str:
     )
 
 
-def session_of(
+def recording_of(
     lines: List[str],
     start: Optional[List[Start]] = None,
     ignored=None,
     note: Optional[Callable[[Call], str]] = None,
-) -> Session:
-    """The session that a log gives, for the directory /d with the umask 022 and the user u."""
+    acknowledged: Sequence[str] = ('1',),
+    copies: Optional[FileCopies] = None,
+    output: Optional[str] = None,
+) -> Recording:
+    """What a log becomes, for the directory /d with the umask 022 and the user u."""
     scan = Scan(Header('u', 'u', 0o755), list(start or []))
-    session = Session(Beginning('/d', 0o022, 'u', 'u'), scan, ignored or (lambda path: False))
+    recording = Recording(scan.header, TraceSettings(acknowledged))
+    recording.streams.set_standard_output(output)
+    conditions = StartConditions('/d', 0o022, 'u', 'u')
+    files = LiveFiles(recording, conditions, scan, ignored or (lambda path: False))
     log = read_log(map(as_strace, lines))
     for call in log.calls if note else []:
         call.note = note(call)
-    Translator(session, log).run()
-    return session
+    Translator(files, log, copies).run()
+    return recording
 
 
 def operations_of(lines: List[str], start: Optional[List[Start]] = None) -> List[str]:
     """The operations of a log as short texts: `creat /a`, `write /a 0 hi`, `chmod /a 600`."""
-    return [short(operation) for operation in session_of(lines, start).trace.operations]
+    return [short(operation) for operation in recording_of(lines, start).trace.operations]
 
 
 def short(operation) -> str:

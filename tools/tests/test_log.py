@@ -5,10 +5,12 @@ import unittest
 
 from crashfs_tools.common.trace import Header
 from crashfs_tools.recorder import arguments
+from crashfs_tools.recorder.arguments import LogError
 from crashfs_tools.recorder.directory import Scan
 from crashfs_tools.recorder.pipe_lines import PipeLines
-from crashfs_tools.recorder.session import Beginning, Session
-from crashfs_tools.recorder.strace_log import LogError, read_log
+from crashfs_tools.recorder.live_files import LiveFiles, StartConditions
+from crashfs_tools.recorder.recording import Recording, TraceSettings
+from crashfs_tools.recorder.strace_log import read_log
 from crashfs_tools.recorder.translate import Translator
 
 from .support import numbers
@@ -16,9 +18,11 @@ from .support import numbers
 LARGE = 'ab' * 40_000
 
 
-def new_session():
-    return Session(
-        Beginning('/d', 0o022, 'u', 'u'), Scan(Header('u', 'u', 0o755)), lambda path: False
+def new_files():
+    header = Header('u', 'u', 0o755)
+    recording = Recording(header, TraceSettings())
+    return LiveFiles(
+        recording, StartConditions('/d', 0o022, 'u', 'u'), Scan(header), lambda path: False
     )
 
 
@@ -44,7 +48,7 @@ class Words(unittest.TestCase):
         self.assertEqual(arguments.from_numbers('\\x61\\x00\\xff'), b'a\0\xff')
         self.assertEqual(arguments.from_numbers(''), b'')
         for text in ('\\x6', '\\x61\\x', '61', 'abcd', '/x61', '\\y61', '\\x6g', '\\x6é'):
-            with self.assertRaises(ValueError, msg=text):
+            with self.assertRaises(LogError, msg=text):
                 arguments.from_numbers(text)
 
     def test_what_is_written_is_kept_in_the_room_that_it_needs(self):
@@ -67,7 +71,7 @@ class Words(unittest.TestCase):
     def test_a_text_that_is_not_by_numbers_is_reported(self):
         log = read_log(['7 write(1<pipe:[7]>, "abc", 3) = 3\n'])
         with self.assertRaises(LogError):
-            Translator(new_session(), log).run()
+            Translator(new_files(), log).run()
 
     def test_the_trace_has_what_the_log_had(self):
         file = f'3<{numbers("/d/f")}>'
@@ -78,9 +82,9 @@ class Words(unittest.TestCase):
                 f'7 pwrite64({file}, "{numbers(LARGE)}", 80000, 0) = 80000\n',
             ]
         )
-        session = new_session()
-        Translator(session, log).run()
-        self.assertEqual(session.trace.operations[1].data, LARGE.encode())
+        files = new_files()
+        Translator(files, log).run()
+        self.assertEqual(files.recording.trace.operations[1].data, LARGE.encode())
         self.assertEqual([len(call.words) for call in log.calls], [4, 0])
 
 

@@ -11,7 +11,7 @@ from unittest import mock
 
 from crashfs_tools.common.trace_read import read_trace
 from crashfs_tools.recorder import stacks
-from crashfs_tools.recorder.progress import Progress
+from crashfs_tools.recorder.progress import CallProgress
 from crashfs_tools.recorder.strace_log import read_log
 
 from .support import PATIENCE, InFolder, as_strace, needs_strace, needs_version_3, short
@@ -137,7 +137,7 @@ class WhileItRuns(unittest.TestCase):
     def printed(self, is_terminal: bool) -> str:
         with mock.patch('sys.stderr', io.StringIO()) as out:
             out.isatty = lambda: is_terminal
-            with Progress('crashfs-record', lambda: 1204, 0.01):
+            with CallProgress('crashfs-record', lambda: 1204, 0.01):
                 deadline = time.monotonic() + (PATIENCE if is_terminal else 0.1)
                 while not out.getvalue() and time.monotonic() < deadline:
                     time.sleep(0.01)

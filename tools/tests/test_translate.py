@@ -3,7 +3,7 @@
 import unittest
 from unittest import mock
 
-from .support import needs_version_3, operations_of, session_of, short
+from .support import needs_version_3, operations_of, recording_of, short
 from .translated_calls import CASES, FILE, IN_DIRECTORY, OPEN_F
 from .translated_syncs import SYNCS
 
@@ -13,9 +13,9 @@ class Calls(unittest.TestCase):
     def test_calls_become_the_operations_that_they_are(self):
         for shown, start, log, wanted in CASES + SYNCS:
             with self.subTest(shown):
-                session = session_of(log, start)
-                self.assertEqual([short(one) for one in session.trace.operations], wanted)
-                self.assertEqual(list(map(str, session.troubles.values())), [])
+                recording = recording_of(log, start)
+                self.assertEqual([short(one) for one in recording.trace.operations], wanted)
+                self.assertEqual(list(map(str, recording.troubles.values())), [])
 
     def test_lines_of_standard_output_are_told_whole_and_in_their_place(self):
         log = [
@@ -31,8 +31,8 @@ class Calls(unittest.TestCase):
             '1 openat(AT_FDCWD</d>, "a.tmp", O_WRONLY|O_CREAT, 0666) = 3</d/a.tmp>',
             '1 write(3</d/a.tmp>, "hi", 2) = 2',
         ]
-        session = session_of(log, [], lambda path: path.endswith('.tmp'))
-        self.assertEqual((session.trace.operations, session.troubles.values()), ([], []))
+        recording = recording_of(log, [], lambda path: path.endswith('.tmp'))
+        self.assertEqual((recording.trace.operations, recording.troubles.values()), ([], []))
 
     def test_what_happens_below_a_renamed_directory_is_left_out(self):
         log = [
@@ -42,9 +42,9 @@ class Calls(unittest.TestCase):
             '1 openat(AT_FDCWD</d>, "t/new", O_WRONLY|O_CREAT, 0666) = 4</d/t/new>',
             '1 mkdir("s", 0777) = 0',
         ]
-        session = session_of(log, IN_DIRECTORY)
-        self.assertEqual(session.trace.operations, [])
-        self.assertEqual({trouble.where for trouble in session.troubles.values()}, {'/s'})
+        recording = recording_of(log, IN_DIRECTORY)
+        self.assertEqual(recording.trace.operations, [])
+        self.assertEqual({trouble.where for trouble in recording.troubles.values()}, {'/s'})
 
     def test_a_trace_of_version_2_has_what_it_can_say(self):
         log = [
@@ -54,10 +54,10 @@ class Calls(unittest.TestCase):
             '1 unlink("f") = 0',
             '1 link("g", "h") = 0',
         ]
-        with mock.patch('crashfs_tools.recorder.session.WRITTEN_VERSION', 2):
-            session = session_of(log, FILE)
+        with mock.patch('crashfs_tools.recorder.recording.WRITTEN_VERSION', 2):
+            recording = recording_of(log, FILE)
         self.assertEqual(
-            list(session.trace.lines()),
+            list(recording.trace.lines()),
             [
                 '{"trace":2,"profile":"blocks","owner":"u","group":"u","mode":"755"}',
                 '{"start":"file","path":"/f","owner":"u","group":"u","mode":"644",'
@@ -68,7 +68,7 @@ class Calls(unittest.TestCase):
             ],
         )
         self.assertEqual(
-            [str(one) for one in session.troubles.values()],
+            [str(one) for one in recording.troubles.values()],
             [
                 '/f: a sync of a part is written as one of the file (after line 3)',
                 '/h: stays another name of /g, by a link',
@@ -85,13 +85,13 @@ class Calls(unittest.TestCase):
             '1 <... write resumed>) = 1',
             '2 write(1<pipe:[7]>, "late\n", 5) = 5',
         ]
-        session = session_of(log, FILE, note=lambda call: call.name + str(call.begin))
+        recording = recording_of(log, FILE, note=lambda call: call.name + str(call.begin))
         self.assertEqual(
-            [short(one) for one in session.trace.operations],
+            [short(one) for one in recording.trace.operations],
             ['write /f 0 J', 'say early', 'fsyncrange /f 0 1', 'say late'],
         )
         self.assertEqual(
-            list(session.trace.notes.values()), ['write3', 'write4', 'write3', 'write6']
+            list(recording.trace.notes.values()), ['write3', 'write4', 'write3', 'write6']
         )
 
     def test_modes_are_cut_by_the_umask_that_counts_then(self):
@@ -99,7 +99,7 @@ class Calls(unittest.TestCase):
             '1 umask(027) = 022',
             '1 openat(AT_FDCWD</d>, "a", O_WRONLY|O_CREAT, 0666) = 3</d/a>',
         ]
-        self.assertEqual(session_of(log).trace.operations[0].mode, 0o640)
+        self.assertEqual(recording_of(log).trace.operations[0].mode, 0o640)
 
 
 if __name__ == '__main__':

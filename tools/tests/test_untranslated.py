@@ -2,7 +2,7 @@
 
 import unittest
 
-from .support import session_of
+from .support import recording_of
 from .translated_calls import FILE, IN_DIRECTORY, OPEN_F, TWO_FILES
 
 # (what is told, the start tree, the log)
@@ -131,7 +131,7 @@ class Troubles(unittest.TestCase):
         for are_notes, rows in [(False, TROUBLES), (True, NOTES)]:
             for wanted, start, log in rows:
                 with self.subTest(wanted):
-                    told = session_of(log, start).troubles.values()
+                    told = recording_of(log, start).troubles.values()
                     self.assertEqual(len(told), 1, told)
                     self.assertTrue(str(told[0]).startswith(wanted), str(told[0]))
                     self.assertEqual(told[0].is_note, are_notes)

@@ -1,4 +1,4 @@
-"""The arguments of a call as strace prints them with -y and -xx: every text by numbers."""
+"""Reads the arguments of a call as strace prints them with -y and -xx: texts by numbers."""
 
 from __future__ import annotations
 
@@ -13,6 +13,13 @@ PIECE = re.compile(r'iov_base=("[^"]*"(?:\.\.\.)?|0x[0-9a-f]+|NULL)')
 CURRENT_DIRECTORY = -100
 # What a packed word begins with, as no word of strace's does.
 PACKED = '='
+
+
+class LogError(Exception):
+    """A log that isn't as strace writes it with the options that it needs."""
+
+    def __init__(self, text: str = 'the log is not as strace -f -y -xx writes it') -> None:
+        super().__init__(text)
 
 
 @dataclass(frozen=True)
@@ -31,7 +38,7 @@ class Descriptor:
 
 
 def split(text: str) -> List[str]:
-    """The arguments."""
+    """Splits a call's arguments at their commas."""
     words, depth, last = [], 0, 0
     match = SIGN.search(text)
     while match:
@@ -51,27 +58,30 @@ def split(text: str) -> List[str]:
 
 
 def end_of_text(text: str, place: int) -> int:
-    """Where a text ends: its signs are numbers, so no quotation mark is inside it."""
+    """The place after a text: its bytes are numbers, so no quotation mark is inside it."""
     end = text.find('"', place)
     return len(text) if end < 0 else end + 1
 
 
 def from_numbers(text: str) -> bytes:
-    r"""The bytes of `\x61\x62`; ValueError for another text."""
-    signs, count = text.encode('ascii'), len(text) // 4
-    if signs[::4] != b'\\' * count or signs[1::4] != b'x' * count:
-        raise ValueError('a text that is not by numbers')
+    r"""The bytes of `\x61\x62`; LogError for another text."""
+    signs, count = text.encode('ascii', 'replace'), len(text) // 4
+    if len(text) % 4 or signs[::4] != b'\\' * count or signs[1::4] != b'x' * count:
+        raise LogError
     digits = bytearray(2 * count)
     digits[::2], digits[1::2] = signs[2::4], signs[3::4]
-    return unhexlify(digits)
+    try:
+        return unhexlify(digits)
+    except ValueError:
+        raise LogError from None
 
 
 def packed(word: str) -> str:
-    """A text, or a vector of texts, in a quarter of the room: its bytes are letters. Anything else
-    is as it was."""
+    """Packs a text, or a vector of texts, to a quarter of its size: each byte is one letter.
+    Anything else is returned unchanged."""
     try:
         found = data(word) if word.startswith('"') else vector(word) if '"' in word else None
-    except ValueError:
+    except LogError:
         return word
     return word if found is None else PACKED + found.decode('latin-1')
 
@@ -90,7 +100,7 @@ def data(word: str) -> Optional[bytes]:
 
 
 def path(word: str) -> Optional[str]:
-    """The text of a path; bytes that are no UTF-8 become surrogates, as in os.fsdecode."""
+    """The text of a path; bytes that are not UTF-8 become surrogates, as in os.fsdecode."""
     raw = data(word)
     return None if raw is None else raw.decode('utf-8', 'surrogateescape')
 
@@ -107,7 +117,19 @@ def shown_path(text: Optional[str]) -> Optional[str]:
 
 
 def integer(word: str) -> int:
-    return int(word, 16) if word.startswith('0x') else int(word)
+    """A number; LogError for another word."""
+    try:
+        return int(word, 16) if word.startswith('0x') else int(word)
+    except ValueError:
+        raise LogError from None
+
+
+def octal(word: str) -> int:
+    """A mode, by octal digits; LogError for another word."""
+    try:
+        return int(word, 8)
+    except ValueError:
+        raise LogError from None
 
 
 def descriptor(word: str) -> Descriptor:
@@ -140,6 +162,6 @@ def vectors(word: str) -> Optional[bytes]:
 
 
 def offset_cell(word: str) -> Optional[int]:
-    """An offset that is handed over by its address, as `[42]` or `[42] => [45]`; None for NULL."""
+    """An offset that is passed by its address, as `[42]` or `[42] => [45]`; None for NULL."""
     match = re.match(r'\[(\d+)', word)
     return int(match[1]) if match else None

@@ -8,50 +8,54 @@ from typing import Dict
 from crashfs_tools.common.trace import Header, Say, Start, StartLink, Trace
 from crashfs_tools.common.tree import Tree
 
-from .session import Session
+from .recording import Recording
 
 
-class BeginAfter:
+class LateStart:
     """Waits for the line that is wanted: the one of a number, or the first that a pattern
     matches."""
 
-    def __init__(self, session: Session, wanted: str) -> None:
-        self.session, self.wanted = session, wanted
+    def __init__(self, recording: Recording, wanted: str) -> None:
+        self.recording, self.wanted = recording, wanted
         self.count = 0
         self.has_begun = False
-        session.on_say = self.said
+        recording.on_acknowledged = self.count_line
 
-    def said(self, said: Say) -> None:
+    def count_line(self, said: Say) -> None:
+        """Counts an acknowledged line; at the wanted one the trace begins."""
         self.count += 1
-        number = self.wanted.isdigit() and self.count == int(self.wanted)
-        text = not self.wanted.isdigit() and fnmatch.fnmatchcase(said.text, self.wanted)
-        if not self.has_begun and (number or text):
+        if not self.has_begun and self.is_wanted(said.text):
             self.has_begun = True
-            begin_here(self.session)
+            begin_here(self.recording)
+
+    def is_wanted(self, text: str) -> bool:
+        if self.wanted.isdigit():
+            return self.count == int(self.wanted)
+        return fnmatch.fnmatchcase(text, self.wanted)
 
 
-def begin_here(session: Session) -> None:
-    """The trace begins again. What wasn't synced up to here counts as durable."""
-    old, tree = session.trace, session.told
-    root = tree.entries['/']
+def begin_here(recording: Recording) -> None:
+    """Begins the trace again. What wasn't synced up to here counts as durable."""
+    old, entries = recording.trace, recording.tree.entries
+    root = entries['/']
     trace = Trace(
         Header(root.owner, root.group, root.mode),
         version=old.version,
         profile=old.profile,
         block=old.block,
     )
-    told = Tree(root.owner, root.group, root.mode, old.block)
-    firsts: Dict[int, str] = {}
-    for path in sorted(tree.entries.keys() - {'/'}):
-        entry = tree.entries[path]
-        first = firsts.setdefault(id(entry), path)
+    tree = Tree(root.owner, root.group, root.mode, old.block)
+    first_paths: Dict[int, str] = {}
+    for path in sorted(entries.keys() - {'/'}):
+        entry = entries[path]
+        first = first_paths.setdefault(id(entry), path)
         line: object = StartLink(path, first)
         if first == path:
             data = None if entry.data is None else bytes(entry.data)
             line = Start(path, entry.owner, entry.group, entry.mode, data)
         assert isinstance(line, (Start, StartLink))
         trace.start.append(line)
-        told.start(line)
-    session.trace, session.told = trace, told
-    session.troubles.forget_lines()
-    session.begins_later = True
+        tree.start(line)
+    recording.trace, recording.tree = trace, tree
+    recording.troubles.forget_lines()
+    recording.begins_later = True

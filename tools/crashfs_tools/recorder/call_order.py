@@ -1,9 +1,8 @@
-"""The order of calls: where each is in the trace, since calls of several threads overlap.
+"""The order of calls in the trace: calls of several threads overlap in the log.
 
-A change, and an acknowledged line, counts from when it begins; a sync, and anything else, from
-when it has ended. So nothing is after a sync that didn't wait for it. A change that overlaps a
-sync of the same file is not surely covered: it counts from when it ends, and the sync is before
-it.
+A change, and an acknowledged line, is placed where it begins; a sync, and anything else, where it
+ends. So a sync covers no change that began after it. A change that overlaps a sync of the same file
+may not be covered: it is placed where it ends, after the sync.
 """
 
 from __future__ import annotations
@@ -75,7 +74,7 @@ def in_order(calls: List[Call]) -> List[Tuple[int, Call]]:
     """The calls in the order of their operations in the trace, each with the log's line that it
     counts from."""
     moments: Dict[int, Moment] = {id(call): moment_of(call) for call in calls}
-    changes = Changes([call for call in calls if is_change(call)])
+    changes = ChangeIndex([call for call in calls if is_change(call)])
     for sync in calls:
         if sync.name in FILE_SYNCS or sync.name in WHOLE_SYNCS:
             stand_apart(sync, changes.beside(sync), moments)
@@ -92,8 +91,8 @@ def moment_of(call: Call) -> Moment:
     return (call.begin if begins else call.end, 1)
 
 
-class Changes:
-    """The changes of a log. Most are in one line: these are found by their line."""
+class ChangeIndex:
+    """The changes of a log. Most are one line, and are found by a binary search."""
 
     def __init__(self, changes: List[Call]) -> None:
         self.long = [call for call in changes if call.begin != call.end]

@@ -1,4 +1,5 @@
-"""The directory at the end against the trace's last state: what differs was recorded wrongly."""
+"""Compares the directory at the end with the trace's last state: a difference is an error of the
+recording."""
 
 from __future__ import annotations
 
@@ -15,7 +16,7 @@ from .troubles import Trouble
 
 
 class LastState(ABC):
-    """What gives a trace's last state."""
+    """A way to compute a trace's last state."""
 
     name: str
 
@@ -25,7 +26,7 @@ class LastState(ABC):
 
 
 class Replayed(LastState):
-    """By an own reading of the trace, from these lines if it can't be read from a file."""
+    """By the recorder's own replay, from these lines if the trace is not in a file."""
 
     name = "the recorder's replay"
 
@@ -43,7 +44,7 @@ class Replayed(LastState):
 
 
 class ByProgram(LastState):
-    """By `crashfs tar`: the last prefix has the number of the micro-operations."""
+    """By `crashfs tar`: the last prefix is the state with the number of all micro-operations."""
 
     name = 'crashfs tar'
 
@@ -54,13 +55,13 @@ class ByProgram(LastState):
         return self.program.tree(trace, self.program.states(trace, holes=False) - 1)
 
 
-def differences(directory: Scan, last: Entries, told: Iterable[str]) -> List[str]:
-    """Lines on what differs, but for paths of which something is reported already."""
-    known = set(told)
+def differences(directory: Scan, last: Entries, reported: Iterable[str]) -> List[str]:
+    """Lines on what differs, except for paths of which something is reported already."""
+    known = set(reported)
     there = {entry.path: entry for entry in directory.entries}
     lines = []
     for path in sorted(there.keys() | last.keys()):
-        if stands_below(path, known):
+        if is_below(path, known):
             continue
         if path not in last:
             lines.append(f'{path}: it is there at the end, and the trace has it not')
@@ -74,47 +75,47 @@ def differences(directory: Scan, last: Entries, told: Iterable[str]) -> List[str
     return lines
 
 
-def stands_below(path: str, known: Set[str]) -> bool:
+def is_below(path: str, known: Set[str]) -> bool:
     parts = path.split('/')
     return any('/'.join(parts[:count]) in known for count in range(2, len(parts) + 1))
 
 
-def entry_differences(real: Entry, said: Entry) -> List[str]:
+def entry_differences(real: Entry, traced: Entry) -> List[str]:
     found = []
-    if real.data != said.data:
+    if real.data != traced.data:
         found.append('its bytes at the end are not those that the trace gives it')
-    if real.mode != said.mode:
-        found.append(f'its mode is {real.mode:03o} at the end, and {said.mode:03o} in the trace')
-    if (real.owner, real.group) != (said.owner, said.group):
+    if real.mode != traced.mode:
+        found.append(f'its mode is {real.mode:03o} at the end, and {traced.mode:03o} in the trace')
+    if (real.owner, real.group) != (traced.owner, traced.group):
         found.append(
             f'its owner is {real.owner}:{real.group} at the end, and '
-            f'{said.owner}:{said.group} in the trace'
+            f'{traced.owner}:{traced.group} in the trace'
         )
     return found
 
 
-def links_that_differ(directory: Scan, last: Tree, told: Iterable[str]) -> List[str]:
+def links_that_differ(directory: Scan, last: Tree, reported: Iterable[str]) -> List[str]:
     """Lines on paths that are one file in the directory, and two in the trace, or the other way."""
-    known = set(told)
+    known = set(reported)
     groups: Dict[int, List[str]] = {}
     for path, entry in last.entries.items():
         groups.setdefault(id(entry), []).append(path)
-    said = {path: min(group) for group in groups.values() for path in group}
+    traced = {path: min(group) for group in groups.values() for path in group}
     lines = []
-    for path in sorted(said.keys() & {entry.path for entry in directory.entries}):
+    for path in sorted(traced.keys() & {entry.path for entry in directory.entries}):
         real = directory.links.get(path, path)
-        if real != said[path] and not stands_below(path, known):
+        if real != traced[path] and not is_below(path, known):
             what = 'a link to' if real != path else 'no link to'
             lines.append(
-                f'{path}: it is {what} {min(real, said[path])} at the end, and not so in '
+                f'{path}: it is {what} {min(real, traced[path])} at the end, and not so in '
                 'the trace'
             )
     return lines
 
 
 def notes_on(before: Scan, now: Scan, troubles: List[Trouble]) -> List[str]:
-    """What a scan sees and no trace has words for, if nothing was reported of it."""
-    told = {trouble.where for trouble in troubles}
+    """What a scan sees and no trace has, if nothing was reported of it."""
+    reported = {trouble.where for trouble in troubles}
     changed = [
         path
         for path in sorted(before.attributes.keys() | now.attributes.keys())
@@ -126,14 +127,14 @@ def notes_on(before: Scan, now: Scan, troubles: List[Trouble]) -> List[str]:
         for path, why in now.noted
         if (path, why) not in before.noted and 'mode bits' not in why
     ]
-    return [f'not in the trace: {line}' for line in lines if line.partition(':')[0] not in told]
+    return [f'not in the trace: {line}' for line in lines if line.partition(':')[0] not in reported]
 
 
-def left_out_at_the_end(before: Scan, now: Scan, told: Iterable[str]) -> List[str]:
+def left_out_at_the_end(before: Scan, now: Scan, reported: Iterable[str]) -> List[str]:
     """Lines on devices, links and such that are new, if nothing was reported of them."""
-    known = set(told)
+    known = set(reported)
     return [
         f'{path}: at the end it is {why}, which no trace has'
         for path, why in now.left_out
-        if (path, why) not in before.left_out and not stands_below(path, known)
+        if (path, why) not in before.left_out and not is_below(path, known)
     ]

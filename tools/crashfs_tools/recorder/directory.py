@@ -1,4 +1,4 @@
-"""A directory on the disk: what a trace can say of it, and what it can't."""
+"""Scans a directory on the disk: what a trace can have of it, and what it can't."""
 
 from __future__ import annotations
 

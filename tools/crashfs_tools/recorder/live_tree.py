@@ -26,7 +26,7 @@ class Change:
     grows: bool
 
     def is_unordered(self, other: Change) -> bool:
-        """Whether two changes ran at once, and their order decides what the file has."""
+        """Whether two changes ran at once, and their order decides the file's bytes."""
         if self.process == other.process or self.begin > other.end or other.begin > self.end:
             return False
         meet = self.first < other.last and other.first < self.last
@@ -38,16 +38,16 @@ class Change:
 class Node:
     """A file or directory.
 
-    told has the paths at which the trace has it. data is None for a directory, and for a file
-    whose bytes are lost: the trace has no more of them. size is kept. was_synced counts for a file
-    that has no name yet.
+    traced_paths has the paths at which the trace has it. data is None for a directory, and for a
+    file whose bytes are not followed any more. size is kept. was_synced counts for a file that has
+    no name yet.
     """
 
     is_directory: bool
     mode: int
     data: Optional[bytearray] = None
     size: int = 0
-    told: Set[str] = field(default_factory=set)
+    traced_paths: Set[str] = field(default_factory=set)
     names: Set[str] = field(default_factory=set)
     is_temporary: bool = False
     was_synced: bool = False
@@ -63,7 +63,7 @@ class Node:
 
     @staticmethod
     def unknown() -> Node:
-        """A file whose bytes nobody knows: no trace has it."""
+        """A file whose bytes aren't known: no trace has it."""
         return Node(False, 0)
 
     @property
@@ -71,16 +71,16 @@ class Node:
         return min(self.names) if self.names else '(a file without a name)'
 
     @property
-    def told_path(self) -> Optional[str]:
+    def traced_path(self) -> Optional[str]:
         """One of the paths at which the trace has it, or None."""
-        return min(self.told, default=None)
+        return min(self.traced_paths, default=None)
 
     @property
-    def path_of_told_bytes(self) -> Optional[str]:
+    def path_of_traced_bytes(self) -> Optional[str]:
         """The path in the trace of a file whose bytes it has up to now."""
-        return None if self.data is None else self.told_path
+        return None if self.data is None else self.traced_path
 
-    def lose_bytes(self) -> None:
+    def drop_bytes(self) -> None:
         self.data = None
 
     def put(self, offset: int, data: bytes) -> None:
@@ -93,12 +93,12 @@ class Node:
         """Cuts the file, or adds zeros; bytes of one that is too large are lost."""
         self.size = length
         if length > limits.FILE_BYTES:
-            self.lose_bytes()
+            self.drop_bytes()
         if self.data is not None:
             resize(self.data, length)
 
-    def is_unordered(self, change: Change) -> bool:
-        """Takes a change in, and returns whether another ran at once whose order counts."""
+    def add_change(self, change: Change) -> bool:
+        """Adds a change, and returns whether another ran at once whose order counts."""
         self.recent = [one for one in self.recent if one.end >= change.begin]
         unordered = any(change.is_unordered(one) for one in self.recent)
         self.recent.append(change)

@@ -1,5 +1,5 @@
-"""strace's log as it comes: read by a thread through a named pipe, so that no disk has to hold
-it."""
+"""Reads strace's log while COMMAND runs: by a thread, through a named pipe, so that it needs no
+disk."""
 
 from __future__ import annotations
 
@@ -13,6 +13,7 @@ from typing import List, Optional, Set, TextIO
 from . import stopped_processes
 from .mapped_files import MappedFiles
 from .pipe_lines import PipeLines
+from .stopped_processes import Stop
 from .strace_log import Log, LogReader
 
 # Seconds in which strace reports all threads of a process as stopped.
@@ -48,7 +49,7 @@ class LogStream:
         return self.reader.log
 
     def release(self) -> None:
-        """Ends the wait for a strace that never opened the pipe."""
+        """Ends the wait for a strace that has never opened the pipe."""
         while not self.opened.is_set():
             try:
                 os.close(os.open(self.pipe, os.O_WRONLY | os.O_NONBLOCK))
@@ -61,7 +62,7 @@ class LogStream:
         self.opened.set()
         try:
             lines = PipeLines(descriptor)
-            while self.take(lines.next(), lines):
+            while self.process_line(lines.next(), lines):
                 pass
         finally:
             os.close(descriptor)
@@ -69,15 +70,15 @@ class LogStream:
             self.mapped.end(self.lines)
         self.close_kept()
 
-    def take(self, line: Optional[str], lines: PipeLines) -> bool:
-        """One line, and what it asks for; False for the end."""
-        stopped = self.note(line)
+    def process_line(self, line: Optional[str], lines: PipeLines) -> bool:
+        """Does what one line asks for; False for the end."""
+        stopped = self.add_line(line)
         if stopped is not None and self.mapped is not None:
-            self.go_on(self.mapped, stopped, lines)
+            self.copy_and_continue(self.mapped, stopped, lines)
         return line is not None
 
-    def note(self, line: Optional[str]) -> Optional[int]:
-        """Takes a line in, and returns the thread that it says is stopped."""
+    def add_line(self, line: Optional[str]) -> Optional[int]:
+        """Reads a line, and returns the thread that is stopped by it."""
         if line is None:
             return None
         self.lines += 1
@@ -88,16 +89,18 @@ class LogStream:
         stopped = STOPPED.match(line)
         return int(stopped[1]) if stopped else None
 
-    def go_on(self, mapped: MappedFiles, thread: int, lines: PipeLines) -> None:
-        """A process whose threads are all stopped is copied from, and goes on."""
+    def copy_and_continue(self, mapped: MappedFiles, thread: int, lines: PipeLines) -> None:
+        """Copies the mapped files of a process whose threads are all stopped, and continues it."""
         process = stopped_processes.group_of(thread)
-        stopped = None if process is None else stopped_processes.wait_until_stopped(thread, process)
-        if process is None or stopped is None:
+        if process is None:
+            return
+        stop = stopped_processes.wait_until_stopped(thread, process)
+        if stop is Stop.RESUMED:
             return
         threads = stopped_processes.threads_of(process)
-        later = self.note_stops({thread}, set(threads), lines)
-        is_alone = stopped and not self.was_late and len(threads) == 1
-        self.was_late = not stopped
+        later = self.collect_stops({thread}, set(threads), lines)
+        is_alone = stop is Stop.ALL_STOPPED and not self.was_late and len(threads) == 1
+        self.was_late = stop is Stop.SOME_RUN
         others = self.reader.processes - set(self.reader.log.ended) - {process}
         mapped.copy(self.lines, thread, is_alone, others)
         try:
@@ -105,17 +108,17 @@ class LogStream:
         except ProcessLookupError:
             pass
         for other in later:
-            self.go_on(mapped, other, lines)
+            self.copy_and_continue(mapped, other, lines)
 
-    def note_stops(self, seen: Set[int], threads: Set[int], lines: PipeLines) -> List[int]:
-        """Takes the lines by which a process's other threads say that they are stopped too, so
-        that none is taken for a later stop; returns the stopped threads of other processes."""
+    def collect_stops(self, seen: Set[int], threads: Set[int], lines: PipeLines) -> List[int]:
+        """Reads the lines by which a process's other threads are stopped too, so that none is
+        taken for a later stop; returns the stopped threads of other processes."""
         later = []
         while not threads <= seen:
             line = lines.next(SAME_STOP)
             if line is None:
                 break
-            stopped = self.note(line)
+            stopped = self.add_line(line)
             if stopped in threads:
                 seen.add(stopped)
             elif stopped is not None:
@@ -123,7 +126,7 @@ class LogStream:
         return later
 
     def keep(self, line: str) -> None:
-        """A line that can't be kept is the last that is tried: the program runs to its end."""
+        """Keeps a line. After one that can't be kept no other is tried, and COMMAND runs on."""
         try:
             if self.kept is not None and self.fault is None:
                 self.kept.write(line)
@@ -140,5 +143,5 @@ class LogStream:
 
 
 def named(error: OSError, file: Optional[TextIO]) -> OSError:
-    """An error with the file's name, which those of a write have not."""
+    """The error with the file's name, which errors of a write don't have."""
     return OSError(error.errno, error.strerror, None if file is None else file.name)

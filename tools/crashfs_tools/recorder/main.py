@@ -14,13 +14,15 @@ from crashfs_tools.common.program import Crashfs
 from crashfs_tools.common.trace import Say
 
 from . import stacks, strace_run, summary
-from .begin_after import BeginAfter
+from .begin_after import LateStart
+from .arguments import LogError
 from .directory import group_name, scan, user_name
+from .live_files import LiveFiles, StartConditions
 from .log_stream import LogStream
-from .mapped_files import Copies, MappedFiles
-from .options import NAME, Options, check, read_options
-from .session import Beginning, Session
-from .strace_log import Log, LogError, read_log
+from .mapped_files import FileCopies, MappedFiles
+from .options import NAME, RecordOptions, check, read_options
+from .recording import Recording, TraceSettings
+from .strace_log import Log, read_log
 from .translate import Translator
 
 NOTHING = 1
@@ -28,23 +30,23 @@ BEGINS = 'it begins after an acknowledged line: what was not yet synced then cou
 
 
 @dataclass
-class Recorded:
-    """What came of a run of COMMAND: strace's log, the copies of mapped files, its status, and
+class RecordedRun:
+    """The results of a run of COMMAND: strace's log, the copies of mapped files, its status, and
     the signals that were passed on to it."""
 
     log: Log
-    copies: Optional[Copies] = None
+    copies: Optional[FileCopies] = None
     status: int = 0
     stops: Tuple[int, ...] = ()
     output: Optional[str] = None
 
 
-def run_command(options: Options, guard: Guard) -> Recorded:
+def run_command(options: RecordOptions, guard: Guard) -> RecordedRun:
     strace = strace_run.find_strace()
     mapped = MappedFiles(options.directory, options.ignored) if options.mapped else None
     stream = LogStream(guard.directory, options.keep_log, mapped)
-    line = strace_run.words(strace, stream.pipe, options)
-    running = strace_run.Running(line, options, stream, guard)
+    line = strace_run.command_line(strace, stream.pipe, options)
+    running = strace_run.StraceRun(line, options, stream, guard)
     status = running.run()
     log = stream.end()
     if log.first is None:
@@ -53,7 +55,7 @@ def run_command(options: Options, guard: Guard) -> Recorded:
         raise Refused("strace's log ends before COMMAND did")
     if not log.has_begun:
         raise Refused(f'{options.command[0]} could not be started (strace prints why)')
-    return Recorded(
+    return RecordedRun(
         log, mapped.copies if mapped else None, status, tuple(running.stops), running.output
     )
 
@@ -66,71 +68,70 @@ def load_log(path: str) -> Log:
     return log
 
 
-def beginning(options: Options) -> Beginning:
+def start_conditions(options: RecordOptions) -> StartConditions:
     is_here = options.from_log is None
     umask = os.umask(0)
     os.umask(umask)
     top = options.directory if is_here else options.log_directory or options.directory
-    return Beginning(
+    return StartConditions(
         top if is_here else os.path.normpath(top),
         umask if is_here else 0o022,
         user_name(os.geteuid()),
         group_name(os.getegid()),
-        resolved if is_here else os.path.normpath,
-        options.said,
-        options.profile,
-        options.block,
+        resolve if is_here else os.path.normpath,
     )
 
 
-def resolved(path: str) -> str:
-    """A path without symbolic links, but for its own last name."""
+def resolve(path: str) -> str:
+    """A path without symbolic links, except for its last name."""
     parent, name = os.path.split(os.path.normpath(path))
     return os.path.join(os.path.realpath(parent), name) if name else path
 
 
-def record(options: Options) -> int:
+def record(options: RecordOptions) -> int:
     check(options)
     Crashfs.find(options.crashfs)
     before = scan(options.directory, options.ignored)
-    session = Session(beginning(options), before, options.ignored)
+    settings = TraceSettings(options.acknowledged, options.profile, options.block)
+    recording = Recording(before.header, settings)
+    files = LiveFiles(recording, start_conditions(options), before, options.ignored)
     if options.from_log is not None:
-        recorded = Recorded(load_log(options.from_log))
-        if not recorded.log.is_whole:
-            session.trouble('the log ends before the program did', '/')
+        run = RecordedRun(load_log(options.from_log))
+        if not run.log.is_whole:
+            recording.report('the log ends before the program did', '/')
     else:
         with Guard('crashfs-record-') as guard:
-            recorded = run_command(options, guard)
-    translate(options, session, recorded)
-    write_whole(options.out, (line + '\n' for line in session.trace.lines()))
-    ending = summary.ending_of(recorded.status, recorded.stops)
-    found = summary.outcome(session, options, ending)
+            run = run_command(options, guard)
+    translate(options, files, run)
+    write_whole(options.out, (line + '\n' for line in recording.trace.lines()))
+    found = summary.final_report(recording, options, summary.ending_of(run.status, run.stops))
     how = 'its last state was compared with nothing'
     if options.from_log is None:
-        how = summary.compared(options, session, before, found)
-    begins = [BEGINS] if session.begins_later else []
+        how = summary.compare(options, recording, before, found)
+    begins = [BEGINS] if recording.begins_later else []
     for line in found.lines + found.notes + begins:
         tell(NAME, line)
-    tell(NAME, summary.summary(options, session, how))
+    tell(NAME, summary.summary(options, recording, how))
     return found.status
 
 
-def translate(options: Options, session: Session, recorded: Recorded) -> None:
-    """Makes the log the session's operations."""
-    session.voices.know_output(recorded.output)
-    if options.stacks or any(call.frames for call in recorded.log.calls):
-        stacks.note_all(recorded.log.calls)
+def translate(options: RecordOptions, files: LiveFiles, run: RecordedRun) -> None:
+    """Translates the log into the recording's operations."""
+    recording = files.recording
+    recording.streams.set_standard_output(run.output)
+    if options.stacks or any(call.frames for call in run.log.calls):
+        stacks.note_all(run.log.calls)
     wanted = options.begin_after
-    begin = None if wanted is None else BeginAfter(session, wanted)
-    Translator(session, recorded.log, recorded.copies).run()
-    if begin is not None and not begin.has_begun:
-        session.trouble(
+    start = None if wanted is None else LateStart(recording, wanted)
+    Translator(files, run.log, run.copies).run()
+    if start is not None and not start.has_begun:
+        recording.report(
             f'no acknowledged line is {wanted}: the trace begins with COMMAND', '--begin-after'
         )
-    operations = session.trace.operations
+    operations = recording.trace.operations
     if options.from_log is not None and all(isinstance(it, Say) for it in operations):
         raise Refused(
-            f'{options.from_log} changes nothing below {beginning(options).top}: '
+            f'{options.from_log} changes nothing below {files.conditions.top}: '
             '--log-dir is the path that DIR had there'
         )
 

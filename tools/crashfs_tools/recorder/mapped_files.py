@@ -49,7 +49,7 @@ MAPPED = re.compile(
 
 
 @dataclass
-class Copy:
+class FileCopy:
     """The bytes of files that changed since the copy before, by the file's number; taken when so
     many lines of the log had been read. It is alone if the process has no other thread; shared
     has the files that other processes have mapped too. process is 0 for the copy at the end."""
@@ -66,11 +66,11 @@ class Copy:
 
 
 @dataclass
-class Copies:
+class FileCopies:
     """All copies of a run. numbers gives the files' by the log's lines of their mappings; missed
     has the paths of mapped files that could not be opened."""
 
-    taken: List[Copy] = field(default_factory=list)
+    taken: List[FileCopy] = field(default_factory=list)
     numbers: Dict[int, int] = field(default_factory=dict)
     missed: List[str] = field(default_factory=list)
 
@@ -80,7 +80,7 @@ class MappedFiles:
 
     def __init__(self, top: str, ignored: Ignored) -> None:
         self.top, self.ignored = top, ignored
-        self.copies = Copies()
+        self.copies = FileCopies()
         self.inodes: Dict[Tuple[int, int], int] = {}
         self.descriptors: List[int] = []
         self.last: Dict[int, bytes] = {}
@@ -120,7 +120,7 @@ class MappedFiles:
             if self.last.get(number) != data:
                 changed[number] = self.last[number] = data
         shared = self.mapped_by(others) & changed.keys() if changed else set()
-        self.copies.taken.append(Copy(line, process, is_alone, changed, shared))
+        self.copies.taken.append(FileCopy(line, process, is_alone, changed, shared))
 
     def mapped_by(self, processes: Iterable[int]) -> Set[int]:
         """The files that processes have mapped."""

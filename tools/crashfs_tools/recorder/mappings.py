@@ -39,7 +39,7 @@ class Memory:
         self.mappings.append(mapping)
 
     def unmap(self, address: int, length: int) -> None:
-        """Nothing of ours is in a range any more: also if another mapping takes its place."""
+        """Unmaps a range, also if another mapping takes its place."""
         end = address + rounded(length)
         kept = []
         for mapping in self.mappings:
@@ -48,7 +48,7 @@ class Memory:
         self.mappings = [mapping for mapping in kept if mapping.length > 0]
 
     def move(self, old: int, old_length: int, new: int, new_length: int, keeps: bool) -> None:
-        """mremap; the old range stays mapped only if the call says so."""
+        """Moves a mapping, as mremap does; the old range stays mapped only if `keeps`."""
         moved = [part for part, _ in self.parts(old, old_length or 1)]
         if not keeps and old_length:
             self.unmap(old, old_length)

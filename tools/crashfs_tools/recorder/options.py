@@ -34,7 +34,7 @@ example: crashfs-record store.d store.trace -- sqlite3 test.db ".read session.sq
 
 
 @dataclass
-class Options:
+class RecordOptions:
     directory: str
     out: str
     command: List[str]
@@ -42,7 +42,7 @@ class Options:
     mapped: bool
     stacks: bool
     begin_after: Optional[str]
-    said: List[str]
+    acknowledged: List[str]
     no_say: bool
     keep_log: Optional[str]
     from_log: Optional[str]
@@ -53,7 +53,7 @@ class Options:
     ignored: Ignore = field(init=False)
 
     def __post_init__(self) -> None:
-        self.said = self.said or ['1']
+        self.acknowledged = self.acknowledged or ['1']
         self.ignored = Ignore(self.ignore, self.directory)
 
 
@@ -93,7 +93,7 @@ def add_what_is_recorded(made: argparse.ArgumentParser) -> None:
         metavar='N',
         action='append',
         default=[],
-        dest='said',
+        dest='acknowledged',
         type=descriptor,
         help="take the acknowledged lines from COMMAND's descriptor N, not from "
         f"standard output; `{SOCKETS}`: from each connection that it accepts "
@@ -162,7 +162,7 @@ def descriptor(word: str) -> str:
     return word
 
 
-def read_options(arguments: List[str]) -> Options:
+def read_options(arguments: List[str]) -> RecordOptions:
     made = parser()
     values, command = parse(made, arguments)
     if values.from_log is None and not command:
@@ -171,11 +171,11 @@ def read_options(arguments: List[str]) -> Options:
         command or values.mapped or values.keep_log or values.stacks
     ):
         made.error('--from-log goes with no COMMAND, --mapped, --stacks or --keep-log')
-    return Options(command=command, **vars(values))
+    return RecordOptions(command=command, **vars(values))
 
 
-def check(options: Options) -> None:
-    """Refuses what can be seen to fail before anything runs."""
+def check(options: RecordOptions) -> None:
+    """Refuses, before anything runs, options that can't work."""
     if not os.path.isdir(options.directory):
         raise Refused(f'{options.directory} is no directory')
     options.directory = os.path.realpath(options.directory)

@@ -7,7 +7,7 @@ from typing import Dict, Optional, Set
 
 from .live_tree import Node
 from .mappings import Memory
-from .output_streams import Voice
+from .output_streams import OutputStream
 from .strace_log import Call
 
 
@@ -19,7 +19,7 @@ class OpenFile:
     position: int = 0
     appends: bool = False
     syncs: bool = False
-    voice: Optional[Voice] = None
+    stream: Optional[OutputStream] = None
 
     @staticmethod
     def of(node: Node, flags: str) -> OpenFile:
@@ -38,7 +38,7 @@ class Descriptors:
     closed_by_exec: Set[int] = field(default_factory=set)
 
     def put(self, number: int, file: Optional[OpenFile], closed_by_exec: bool) -> None:
-        """A descriptor that a call made; None for a file that is none of the directory's."""
+        """Adds a descriptor that a call made; None for a file outside the directory."""
         self.close(number)
         if file is not None:
             self.files[number] = file
@@ -58,33 +58,33 @@ class Descriptors:
 
 
 @dataclass
-class Place:
+class PathContext:
     """The working directory and the umask; threads share one."""
 
     directory: str
     umask: int
 
-    def copy(self) -> Place:
-        return Place(self.directory, self.umask)
+    def copy(self) -> PathContext:
+        return PathContext(self.directory, self.umask)
 
 
 @dataclass
 class Process:
     descriptors: Descriptors
-    place: Place
+    paths: PathContext
     memory: Memory = field(default_factory=Memory)
 
     def child(self, fork: Call) -> Process:
-        """What a process begins with that a fork makes."""
+        """The process that a fork makes."""
         flags = ' '.join(fork.words)
         shares_memory = 'CLONE_VM' in flags or fork.name == 'vfork'
         return Process(
             self.descriptors if 'CLONE_FILES' in flags else self.descriptors.copy(),
-            self.place if 'CLONE_FS' in flags else self.place.copy(),
+            self.paths if 'CLONE_FS' in flags else self.paths.copy(),
             self.memory if shares_memory else self.memory.copy(),
         )
 
     def exec(self) -> None:
         self.descriptors = self.descriptors.after_exec()
-        self.place = self.place.copy()
+        self.paths = self.paths.copy()
         self.memory = Memory()

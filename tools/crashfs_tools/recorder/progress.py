@@ -12,7 +12,7 @@ from crashfs_tools.common.command import tell
 SECONDS = 5.0
 
 
-class Progress:
+class CallProgress:
     """Used by `with`. count gives how many calls there are so far."""
 
     def __init__(self, program: str, count: Callable[[], int], seconds: float = SECONDS) -> None:
@@ -20,7 +20,7 @@ class Progress:
         self.ended = threading.Event()
         self.thread = threading.Thread(target=self.run, daemon=True)
 
-    def __enter__(self) -> Progress:
+    def __enter__(self) -> CallProgress:
         if sys.stderr.isatty():
             self.thread.start()
         return self

@@ -27,7 +27,7 @@ Address = Tuple[str, str]
 
 
 def environment(before: Dict[str, str]) -> Dict[str, str]:
-    """With the hook, which Python programs find by themselves."""
+    """The environment with the hook, which Python programs load by themselves."""
     paths = [HOOK, *filter(None, [before.get('PYTHONPATH')])]
     return {**before, 'PYTHONPATH': os.pathsep.join(paths)}
 
@@ -98,8 +98,8 @@ def source_lines(addresses: List[Address]) -> Dict[Address, str]:
             stdout=subprocess.PIPE,
             stderr=subprocess.DEVNULL,
         )
-        told = ran.stdout.splitlines()
-        for address, function, line in zip(here, told[::2], told[1::2]):
+        printed = ran.stdout.splitlines()
+        for address, function, line in zip(here, printed[::2], printed[1::2]):
             place = os.path.basename(line.partition(' ')[0])
             if not place.startswith('?'):
                 found[path, address] = f'{place} {function}'

@@ -4,11 +4,21 @@ from __future__ import annotations
 
 import os
 import time
+from enum import Enum
 from typing import List, Optional, Set
 
 # So long a group of threads may take until all of them are stopped: one may be in a slow sync.
 SECONDS = 2.0
 STOPPED = {'t', 'T'}
+
+
+class Stop(Enum):
+    """How the wait for a process's stop ended: all its threads are stopped, some still run, or
+    the thread runs again, since its stop was one with another's."""
+
+    ALL_STOPPED = 'all threads are stopped'
+    SOME_RUN = 'some threads still run'
+    RESUMED = 'the thread runs again'
 
 
 def group_of(thread: int) -> Optional[int]:
@@ -35,17 +45,16 @@ def is_stopped(thread: int) -> bool:
         return False
 
 
-def wait_until_stopped(thread: int, process: int) -> Optional[bool]:
-    """Waits until all threads of a process are stopped: True then, False if they take too long,
-    and None if the thread has gone on already: its stop was one with another's."""
+def wait_until_stopped(thread: int, process: int) -> Stop:
+    """Waits until all threads of a process are stopped, up to a limit."""
     deadline = time.monotonic() + SECONDS
     while is_stopped(thread):
         if all(map(is_stopped, threads_of(process))):
-            return True
+            return Stop.ALL_STOPPED
         if time.monotonic() > deadline:
-            return False
+            return Stop.SOME_RUN
         time.sleep(0.0005)
-    return None
+    return Stop.RESUMED
 
 
 def inodes_mapped(process: int) -> Set[str]:

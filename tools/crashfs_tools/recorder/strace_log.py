@@ -28,10 +28,6 @@ EXIT = '+exit'
 SUPERSEDE = '+supersede'
 
 
-class LogError(Exception):
-    """A log that isn't as strace writes it with the options that it needs."""
-
-
 @dataclass
 class Call:
     """A call that returned, or was cut by its thread's end. Lines count from 1; they order all

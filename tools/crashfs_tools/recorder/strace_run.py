@@ -18,8 +18,8 @@ from crashfs_tools.common.guard import Guard, stops_heard
 from . import stacks
 from .log_stream import LogStream
 from .mapped_files import STOPPING_CALLS
-from .options import NAME, Options
-from .progress import Progress
+from .options import NAME, RecordOptions
+from .progress import CallProgress
 from .strace_log import FORKS
 from .translate import HANDLERS, SOCKET_HANDLERS
 
@@ -35,20 +35,20 @@ def find_strace() -> str:
     path = shutil.which('strace')
     if path is None:
         raise Refused('strace: command not found; it is in the package strace of most systems')
-    told = subprocess.run(
+    version_text = subprocess.run(
         [path, '-V'], stdin=subprocess.DEVNULL, check=False, text=True, stdout=subprocess.PIPE
     ).stdout
-    version = re.search(r'version (\d+)\.(\d+)', told)
+    version = re.search(r'version (\d+)\.(\d+)', version_text)
     if version and (int(version[1]), int(version[2])) < OLDEST:
         raise Refused(f'strace is {version[1]}.{version[2]}; 5.18 or later is needed')
     return path
 
 
-def words(strace: str, log: str, options: Options) -> List[str]:
+def command_line(strace: str, log: str, options: RecordOptions) -> List[str]:
     """The command line of strace, with COMMAND."""
-    heard = [] if set(options.said) <= {'1', '2'} else SOCKET_HANDLERS
+    sockets = [] if set(options.acknowledged) <= {'1', '2'} else SOCKET_HANDLERS
     marks = stacks.MARKS if options.stacks else ()
-    traced = dict.fromkeys([*FORKS, *HANDLERS, *heard, *marks])
+    traced = dict.fromkeys([*FORKS, *HANDLERS, *sockets, *marks])
     calls = ','.join(f'?{name}' for name in traced)
     line = [
         strace,
@@ -75,11 +75,13 @@ def words(strace: str, log: str, options: Options) -> List[str]:
     return line + options.command
 
 
-class Running:
+class StraceRun:
     """COMMAND while it runs under strace. SIGINT, SIGTERM and SIGHUP are passed on to it, and a
     second one kills it: what it did up to there is recorded."""
 
-    def __init__(self, line: List[str], options: Options, stream: LogStream, guard: Guard) -> None:
+    def __init__(
+        self, line: List[str], options: RecordOptions, stream: LogStream, guard: Guard
+    ) -> None:
         self.line, self.options, self.stream, self.guard = line, options, stream, guard
         self.stops: List[int] = []
         self.first_stop = 0.0
@@ -92,7 +94,7 @@ class Running:
 
         Its standard output is a pipe: a program that writes by stdio has to flush its lines.
         """
-        before = {number: signal.signal(number, self.stop) for number in stops_heard()}
+        before = {number: signal.signal(number, self.note_stop) for number in stops_heard()}
         try:
             environment = self.guard.environment
             if self.options.stacks:
@@ -104,17 +106,17 @@ class Running:
             assert child.stdout is not None
             self.output = f'pipe:[{os.fstat(child.stdout.fileno()).st_ino}]'
             self.stream.begin()
-            with Progress(NAME, lambda: len(self.stream.reader.log.calls)):
-                self.hand_on(child.stdout.fileno())
+            with CallProgress(NAME, lambda: len(self.stream.reader.log.calls)):
+                self.pass_output(child.stdout.fileno())
                 return self.status_of(child)
         finally:
             signal.set_wakeup_fd(-1)
             for number, handler in before.items():
                 signal.signal(number, handler)
 
-    def hand_on(self, source: int) -> None:
+    def pass_output(self, source: int) -> None:
         """Copies a pipe to standard output; if nobody reads that any more, the pipe is still read,
-        so that COMMAND isn't disturbed. A signal ends the wait, whichever thread takes it."""
+        so that COMMAND continues. A signal ends the wait, whichever thread takes it."""
         waiting, wake = os.pipe2(os.O_NONBLOCK | os.O_CLOEXEC)
         signal.set_wakeup_fd(wake, warn_on_full_buffer=False)
         while True:
@@ -122,7 +124,7 @@ class Running:
             ready = select.select([source, waiting], [], [], seconds)[0]
             if waiting in ready:
                 os.read(waiting, 64)
-            self.send()
+            self.send_wanted()
             piece = os.read(source, 65_536) if source in ready else None
             if piece == b'':
                 break
@@ -138,10 +140,10 @@ class Running:
             try:
                 return child.wait(0.2)
             except subprocess.TimeoutExpired:
-                self.send()
+                self.send_wanted()
 
-    def stop(self, number: int, _: object) -> None:
-        """The first signal goes to COMMAND, unless the terminal sent it there too."""
+    def note_stop(self, number: int, _: object) -> None:
+        """Notes a signal. The first one is passed to COMMAND, unless the terminal sent it there."""
         if self.stops and time.monotonic() < self.first_stop + SAME_STOP:
             return
         self.stops.append(number)
@@ -152,7 +154,7 @@ class Running:
         if number != signal.SIGINT or not is_on_terminal():
             self.wanted = number
 
-    def send(self) -> None:
+    def send_wanted(self) -> None:
         """Sends COMMAND the signal that is wanted, as soon as it has begun."""
         if self.wanted is not None and self.guard.signal(self.wanted, spared=self.strace):
             self.wanted = None

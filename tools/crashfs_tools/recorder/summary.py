@@ -22,9 +22,9 @@ from .comparison import (
     notes_on,
 )
 from .directory import Scan, scan
-from .options import Options
+from .options import RecordOptions
 from .output_streams import ERRORS
-from .session import Session
+from .recording import Recording
 from .troubles import Trouble
 
 WHOLE, NOT_WHOLE, NOTED = 0, 3, 4
@@ -32,7 +32,7 @@ IN_WINDOWS = 'states in windows (crashfs-check makes them)'
 
 
 @dataclass
-class Outcome:
+class FinalReport:
     """The lines that are printed: those of status 3, and those that are only noted."""
 
     lines: List[str] = field(default_factory=list)
@@ -43,20 +43,22 @@ class Outcome:
         return NOT_WHOLE if self.lines else NOTED if self.notes else WHOLE
 
 
-def outcome(session: Session, options: Options, ending: Optional[str]) -> Outcome:
-    """What the trace doesn't say, but for what a comparison shows."""
-    found = Outcome()
-    troubles = session.troubles.values()
+def final_report(
+    recording: Recording, options: RecordOptions, ending: Optional[str]
+) -> FinalReport:
+    """What the trace doesn't have, without the result of the comparison."""
+    found = FinalReport()
+    troubles = recording.troubles.values()
     found.lines = [f'not in the trace: {trouble}' for trouble in troubles if not trouble.is_note]
     found.notes = [f'not in the trace: {line}' for line in notes_of(troubles)]
     if ending is not None:
         found.lines += ['COMMAND ' + ending, *relative_hints(options)]
     if not options.no_say:
-        found.lines += silence(session)
+        found.lines += acknowledgement_faults(recording)
     return found
 
 
-def relative_hints(options: Options) -> List[str]:
+def relative_hints(options: RecordOptions) -> List[str]:
     """The likely cause if COMMAND failed: an argument that names a file elsewhere."""
     return [
         f'{word} is a relative path, but COMMAND runs in {options.directory}: use '
@@ -79,12 +81,14 @@ def notes_of(troubles: List[Trouble]) -> List[str]:
     ]
 
 
-def silence(session: Session) -> List[str]:
-    """Why no loss could be seen: nothing was acknowledged, or all at once."""
-    said = [voice for voice in session.voices.all() if voice.is_said and voice.lines]
-    lines, writes = sum(voice.lines for voice in said), sum(voice.writes for voice in said)
+def acknowledgement_faults(recording: Recording) -> List[str]:
+    """Why no loss can be seen: nothing was acknowledged, or all at once."""
+    streams = list(recording.streams.all())
+    counted_ones = [stream for stream in streams if stream.is_acknowledged and stream.lines]
+    lines = sum(stream.lines for stream in counted_ones)
+    writes = sum(stream.writes for stream in counted_ones)
     errors = sum(
-        voice.lines for voice in session.voices.all() if voice.name == ERRORS and not voice.is_said
+        stream.lines for stream in streams if stream.name == ERRORS and not stream.is_acknowledged
     )
     if lines == 0:
         where = f', and {counted(errors, "line")} on standard error' if errors else ''
@@ -101,69 +105,69 @@ def silence(session: Session) -> List[str]:
     return []
 
 
-def compared(options: Options, session: Session, before: Scan, found: Outcome) -> str:
+def compare(options: RecordOptions, recording: Recording, before: Scan, found: FinalReport) -> str:
     """Compares the directory with the last state, adds what differs, and returns the verdict."""
     now = scan(options.directory, options.ignored)
-    told = session.troubles.places() | session.differing
-    for last in last_states(options, session):
+    reported = recording.troubles.places() | recording.differing
+    for last in last_states(options, recording):
         try:
             entries = last.entries(options.out)
         except ProgramFault:
             continue
         different = (
-            differences(now, entries, told)
-            + left_out_at_the_end(before, now, told)
-            + links_that_differ(now, session.told, told)
+            differences(now, entries, reported)
+            + left_out_at_the_end(before, now, reported)
+            + links_that_differ(now, recording.tree, reported)
         )
-        found.notes += notes_on(before, now, session.troubles.values())
+        found.notes += notes_on(before, now, recording.troubles.values())
         verdict = 'differs from' if different else 'equals'
-        but = ', except for what is reported' if told and not different else ''
+        but = ', except for what is reported' if reported and not different else ''
         found.lines += different
         return f'its last state {verdict} the directory{but} (by {last.name})'
     return 'its last state was compared with nothing'
 
 
-def last_states(options: Options, session: Session) -> List[LastState]:
-    """What gives the last state: the program if it can read the trace, and else the text."""
+def last_states(options: RecordOptions, recording: Recording) -> List[LastState]:
+    """The ways to compute the last state: the program, if it can read the trace, then a replay."""
     if not os.path.isfile(options.out):
-        return [Replayed(session.trace.lines())]
-    program = None if is_long(session) else Crashfs.find(options.crashfs)
+        return [Replayed(recording.trace.lines())]
+    program = None if is_long(recording) else Crashfs.find(options.crashfs)
     return ([ByProgram(program)] if program else []) + [Replayed()]
 
 
-def is_long(session: Session) -> bool:
+def is_long(recording: Recording) -> bool:
     """Whether the program takes the trace only in windows."""
-    return session.told.micro_operations > MICRO_OPERATIONS
+    return recording.tree.micro_operations > MICRO_OPERATIONS
 
 
-def text_of(session: Session) -> str:
-    return ''.join(line + '\n' for line in session.trace.lines())
+def text_of(recording: Recording) -> str:
+    return ''.join(line + '\n' for line in recording.trace.lines())
 
 
-def summary(options: Options, session: Session, how: str) -> str:
+def summary(options: RecordOptions, recording: Recording, how: str) -> str:
     """The last line: what the trace has."""
-    trace = session.trace
+    trace = recording.trace
     counts = [
         counted(len(trace.start), 'start line'),
         counted(len(trace.operations), 'operation'),
-        counted(session.told.micro_operations, 'micro-operation'),
-        states(options, session),
-        acknowledged(session),
+        counted(recording.tree.micro_operations, 'micro-operation'),
+        states(options, recording),
+        acknowledged(recording),
     ]
     return f'{options.out}: {", ".join(counts)}; {how}'
 
 
-def acknowledged(session: Session) -> str:
-    lines = sum(isinstance(one, Say) for one in session.trace.operations)
+def acknowledged(recording: Recording) -> str:
+    lines = sum(isinstance(one, Say) for one in recording.trace.operations)
     names = dict.fromkeys(
-        voice.name for voice in session.voices.all() if voice.is_said and voice.lines
+        stream.name for stream in recording.streams.all() if stream.is_acknowledged and stream.lines
     )
     return counted(lines, 'acknowledged line') + (f' ({", ".join(names)})' if names else '')
 
 
-def states(options: Options, session: Session) -> str:
+def states(options: RecordOptions, recording: Recording) -> str:
     """How many states the check has, by the program or else by the second reading."""
-    if is_long(session):
+    if is_long(recording):
         return IN_WINDOWS
     program = Crashfs.find(options.crashfs)
     if program is not None and os.path.isfile(options.out):
@@ -173,7 +177,7 @@ def states(options: Options, session: Session) -> str:
             if is_too_large(fault):
                 return IN_WINDOWS
     try:
-        return counted(count_states(text_of(session)), 'state')
+        return counted(count_states(text_of(recording)), 'state')
     except ReadingFault as fault:
         return IN_WINDOWS if is_too_large(fault) else f'no states ({fault})'
 
@@ -183,6 +187,6 @@ def counted(count: int, what: str) -> str:
 
 
 def ending_of(status: int, stops: Tuple[int, ...]) -> Optional[str]:
-    """How COMMAND failed, or None; a signal that was passed on to it is no failure."""
+    """How COMMAND failed, or None; a signal that was passed to it is no failure."""
     passed = [-number for number in stops] + [128 + number for number in stops]
     return None if status == 0 or status in passed else ended(status)

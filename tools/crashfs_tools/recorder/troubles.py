@@ -1,4 +1,4 @@
-"""What happened and the trace doesn't say."""
+"""What happened and the trace doesn't have."""
 
 from __future__ import annotations
 
@@ -8,7 +8,7 @@ from typing import Dict, List, Optional, Set, Tuple
 
 @dataclass
 class Trouble:
-    """Something that the trace doesn't say: what, where, and after which lines of the trace. One
+    """Something that the trace doesn't have: what, where, and after which lines of the trace. One
     that is only noted changes no verdict on the crash states."""
 
     what: str
@@ -24,7 +24,7 @@ class Trouble:
 
 @dataclass
 class Troubles:
-    """Each once, by what and where."""
+    """All troubles, each once, by what and where."""
 
     found: Dict[Tuple[str, str], Trouble] = field(default_factory=dict)
 
@@ -34,7 +34,7 @@ class Troubles:
             trouble.lines.append(line)
 
     def forget_lines(self) -> None:
-        """The trace begins again: what happened before has no line of it."""
+        """Forgets the lines: the trace begins again."""
         for trouble in self.found.values():
             trouble.lines.clear()
 

@@ -1,4 +1,4 @@
-"""Calls that make, move and take away names."""
+"""Calls that make, rename and remove names."""
 
 from __future__ import annotations
 
@@ -6,269 +6,277 @@ from typing import Optional
 
 from crashfs_tools.common.entry import parent_of
 from crashfs_tools.common.trace import Link, Rename, Rmdir, Unlink
+from crashfs_tools.recorder.arguments import octal
 from crashfs_tools.recorder.live_tree import Node
 from crashfs_tools.recorder.processes import Process
-from crashfs_tools.recorder.session import Session
+from crashfs_tools.recorder.live_files import LiveFiles
 from crashfs_tools.recorder.strace_log import Call
 
 
-def unlink(session: Session, process: Process, call: Call) -> None:
-    unlinked(session, session.path(process, call, 0))
+def on_unlink(files: LiveFiles, process: Process, call: Call) -> None:
+    remove_name(files, files.path_argument(process, call, 0))
 
 
-def rmdir(session: Session, process: Process, call: Call) -> None:
-    removed(session, session.path(process, call, 0))
+def on_rmdir(files: LiveFiles, process: Process, call: Call) -> None:
+    remove_directory(files, files.path_argument(process, call, 0))
 
 
-def unlinkat(session: Session, process: Process, call: Call) -> None:
-    path = session.path_at(process, call, 0)
+def on_unlinkat(files: LiveFiles, process: Process, call: Call) -> None:
+    path = files.path_argument_at(process, call, 0)
     if 'AT_REMOVEDIR' in call.word(2):
-        removed(session, path)
+        remove_directory(files, path)
     else:
-        unlinked(session, path)
+        remove_name(files, path)
 
 
-def unlinked(session: Session, path: Optional[str]) -> None:
-    """A name that goes. A file that has another which the trace lacks is renamed to that."""
-    if path is None or path not in session.tree.nodes:
+def remove_name(files: LiveFiles, path: Optional[str]) -> None:
+    """Removes a name. If the file keeps a name that the trace lacks, the trace renames it to
+    that."""
+    if path is None or path not in files.tree.nodes:
         return
-    node = session.tree.remove(path)
-    if path not in node.told:
-        if node.names and node.told:
-            session.trouble('a hard link was made, and removed again', path)
+    node = files.tree.remove(path)
+    if path not in node.traced_paths:
+        if node.names and node.traced_paths:
+            files.report('a hard link was made, and removed again', path)
         return
-    node.told.discard(path)
-    if node.names and not node.told:
-        take_name(session, node, path, node.name)
+    node.traced_paths.discard(path)
+    if node.names and not node.traced_paths:
+        rename_traced(files, node, path, node.name)
     else:
-        session.tell(Unlink(path))
+        files.recording.add(Unlink(path))
 
 
-def take_name(session: Session, node: Node, source: str, target: str) -> None:
-    """The trace has a file at source; from here on at target."""
-    node.told.discard(source)
-    if session.tell(Rename(source, target)):
-        node.told.add(target)
+def rename_traced(files: LiveFiles, node: Node, source: str, target: str) -> None:
+    """Renames a file in the trace, from source to target."""
+    node.traced_paths.discard(source)
+    if files.recording.add(Rename(source, target)):
+        node.traced_paths.add(target)
 
 
-def removed(session: Session, path: Optional[str]) -> None:
-    if path is None or path not in session.tree.nodes:
+def remove_directory(files: LiveFiles, path: Optional[str]) -> None:
+    if path is None or path not in files.tree.nodes:
         return
-    node = session.tree.remove(path)
-    if path in node.told:
-        session.tell(Rmdir(path))
-        node.told.discard(path)
+    node = files.tree.remove(path)
+    if path in node.traced_paths:
+        files.recording.add(Rmdir(path))
+        node.traced_paths.discard(path)
 
 
-def mkdir(session: Session, process: Process, call: Call) -> None:
-    made(session, process, session.path(process, call, 0), call.word(1))
+def on_mkdir(files: LiveFiles, process: Process, call: Call) -> None:
+    make_directory(files, process, files.path_argument(process, call, 0), call.word(1))
 
 
-def mkdirat(session: Session, process: Process, call: Call) -> None:
-    made(session, process, session.path_at(process, call, 0), call.word(2))
+def on_mkdirat(files: LiveFiles, process: Process, call: Call) -> None:
+    make_directory(files, process, files.path_argument_at(process, call, 0), call.word(2))
 
 
-def made(session: Session, process: Process, path: Optional[str], mode: str) -> None:
+def make_directory(files: LiveFiles, process: Process, path: Optional[str], mode: str) -> None:
     if path is not None:
-        bits = int(mode, 8) & ~process.place.umask & 0o777
-        session.appear(path, Node.directory(bits))
+        bits = octal(mode) & ~process.paths.umask & 0o777
+        files.add_new(path, Node.directory(bits))
 
 
-def rename(session: Session, process: Process, call: Call) -> None:
-    moved(session, session.path(process, call, 0), session.path(process, call, 1), '')
+def on_rename(files: LiveFiles, process: Process, call: Call) -> None:
+    rename_path(
+        files, files.path_argument(process, call, 0), files.path_argument(process, call, 1), ''
+    )
 
 
-def renameat(session: Session, process: Process, call: Call) -> None:
-    source, target = session.path_at(process, call, 0), session.path_at(process, call, 2)
-    moved(session, source, target, call.word(4))
+def on_renameat(files: LiveFiles, process: Process, call: Call) -> None:
+    source, target = files.path_argument_at(process, call, 0), files.path_argument_at(
+        process, call, 2
+    )
+    rename_path(files, source, target, call.word(4))
 
 
-def moved(session: Session, source: Optional[str], target: Optional[str], flags: str) -> None:
+def rename_path(files: LiveFiles, source: Optional[str], target: Optional[str], flags: str) -> None:
     if source is None and target is None:
         return
-    node = session.tree.get(source)
+    node = files.tree.get(source)
     if source is not None and 'RENAME_WHITEOUT' in flags:
-        session.trouble('RENAME_WHITEOUT left a device', source)
+        files.report('RENAME_WHITEOUT left a device', source)
     if source is None or node is None:
-        comes_in(session, target)
+        add_from_outside(files, target)
     elif target is None:
-        goes_out(session, source, node)
+        move_outside(files, source, node)
     elif 'RENAME_EXCHANGE' in flags:
-        exchanged(session, source, target)
-    elif session.tree.get(target) is not node:
-        renamed(session, source, target, node)
+        exchange_names(files, source, target)
+    elif files.tree.get(target) is not node:
+        rename_file(files, source, target, node)
 
 
-def comes_in(session: Session, target: Optional[str]) -> None:
-    """From outside, or from an ignored name: its bytes aren't known."""
+def add_from_outside(files: LiveFiles, target: Optional[str]) -> None:
+    """Takes a file from outside, or from an ignored name: its bytes aren't known."""
     if target is None:
         return
-    session.trouble('renamed to from outside the directory, or from an ignored name', target)
-    if target in session.tree.nodes:
-        session.tree.remove(target)
-    session.tree.add(target, Node.unknown())
+    files.report('renamed to from outside the directory, or from an ignored name', target)
+    if target in files.tree.nodes:
+        files.tree.remove(target)
+    files.tree.add(target, Node.unknown())
 
 
-def goes_out(session: Session, source: str, node: Node) -> None:
-    """To the outside, or to an ignored name: it is gone."""
-    if node.is_directory and session.tree.below(source):
-        session.trouble('a directory with entries was renamed out of the directory', source)
-        leave(session, source)
+def move_outside(files: LiveFiles, source: str, node: Node) -> None:
+    """Removes what was renamed to the outside, or to an ignored name."""
+    if node.is_directory and files.tree.below(source):
+        files.report('a directory with entries was renamed out of the directory', source)
+        forget_below(files, source)
     elif node.is_directory:
-        removed(session, source)
+        remove_directory(files, source)
     else:
-        unlinked(session, source)
+        remove_name(files, source)
 
 
-def leave(session: Session, path: str) -> None:
-    """What is at a path and below it has gone, and the trace keeps it."""
-    for gone in [path] + session.tree.below(path):
-        session.tree.remove(gone).told.discard(gone)
+def forget_below(files: LiveFiles, path: str) -> None:
+    """Forgets a path and what is below it. The trace keeps both."""
+    for gone in [path] + files.tree.below(path):
+        files.tree.remove(gone).traced_paths.discard(gone)
 
 
-def exchanged(session: Session, source: str, target: str) -> None:
-    session.trouble(f'exchanged with {target}, which no trace can say', source)
-    session.differing.add(target)
+def exchange_names(files: LiveFiles, source: str, target: str) -> None:
+    files.report(f'exchanged with {target}, which no trace can say', source)
+    files.recording.differing.add(target)
     for path in (source, target):
-        node = session.tree.get(path)
+        node = files.tree.get(path)
         if node is not None and node.is_directory:
-            leave(session, path)
+            forget_below(files, path)
         elif node is not None:
-            node.told.discard(path)
-    one, other = session.tree.get(source), session.tree.get(target)
+            node.traced_paths.discard(path)
+    one, other = files.tree.get(source), files.tree.get(target)
     if one is not None and other is not None:
-        session.tree.remove(source)
-        session.tree.remove(target)
-        session.tree.add(target, one)
-        session.tree.add(source, other)
+        files.tree.remove(source)
+        files.tree.remove(target)
+        files.tree.add(target, one)
+        files.tree.add(source, other)
 
 
-def renamed(session: Session, source: str, target: str, node: Node) -> None:
-    if target in session.tree.nodes:
-        replaced(session, session.tree.remove(target), target)
-    session.tree.move(source, target)
+def rename_file(files: LiveFiles, source: str, target: str, node: Node) -> None:
+    if target in files.tree.nodes:
+        replace_name(files, files.tree.remove(target), target)
+    files.tree.move(source, target)
     if node.is_directory:
-        directory_renamed(session, source, target)
-    elif source in node.told:
-        take_name(session, node, source, target)
-    elif not node.told:
-        session.trouble('renamed to from a file that is not in the trace', target)
+        rename_directory(files, source, target)
+    elif source in node.traced_paths:
+        rename_traced(files, node, source, target)
+    elif not node.traced_paths:
+        files.report('renamed to from a file that is not in the trace', target)
 
 
-def replaced(session: Session, node: Node, path: str) -> None:
-    """A file that another takes the name of."""
-    if path in node.told:
-        node.told.discard(path)
-        if node.names and not node.told:
-            session.trouble('a file was replaced that has another name by a link', path)
+def replace_name(files: LiveFiles, node: Node, path: str) -> None:
+    """Takes a path from a file: another file is renamed to it."""
+    if path in node.traced_paths:
+        node.traced_paths.discard(path)
+        if node.names and not node.traced_paths:
+            files.report('a file was replaced that has another name by a link', path)
 
 
-def directory_renamed(session: Session, source: str, target: str) -> None:
-    session.trouble(
+def rename_directory(files: LiveFiles, source: str, target: str) -> None:
+    files.report(
         f'a directory was renamed to {target}: no trace can say it; what is done '
         'below it is left out',
         source,
     )
-    session.differing.add(target)
-    for path in [target] + session.tree.below(target):
-        session.tree.nodes[path].told.discard(source + path[len(target) :])
+    files.recording.differing.add(target)
+    for path in [target] + files.tree.below(target):
+        files.tree.nodes[path].traced_paths.discard(source + path[len(target) :])
 
 
-def link(session: Session, process: Process, call: Call) -> None:
-    linked(session, session.node(process, call, 0), session.path(process, call, 1))
+def on_link(files: LiveFiles, process: Process, call: Call) -> None:
+    add_link(files, files.node_argument(process, call, 0), files.path_argument(process, call, 1))
 
 
-def linkat(session: Session, process: Process, call: Call) -> None:
-    linked(session, session.node_at(process, call, 0), session.path_at(process, call, 2))
+def on_linkat(files: LiveFiles, process: Process, call: Call) -> None:
+    add_link(
+        files, files.node_argument_at(process, call, 0), files.path_argument_at(process, call, 2)
+    )
 
 
-def linked(session: Session, node: Optional[Node], target: Optional[str]) -> None:
-    """A second name, or the first one of a file of O_TMPFILE."""
+def add_link(files: LiveFiles, node: Optional[Node], target: Optional[str]) -> None:
+    """Adds a second name, or the first one of a file of O_TMPFILE."""
     if target is None:
         return
     if node is None:
-        session.trouble('a link to a file without a name, or from outside the directory', target)
-        session.tree.add(target, Node.unknown())
+        files.report('a link to a file without a name, or from outside the directory', target)
+        files.tree.add(target, Node.unknown())
     elif node.is_temporary and not node.names:
-        named(session, node, target)
+        name_temporary_file(files, node, target)
     else:
-        session.tree.add(target, node)
-        source = node.told_path
-        if source is not None and session.tell(Link(source, target)):
-            node.told.add(target)
+        files.tree.add(target, node)
+        source = node.traced_path
+        if source is not None and files.recording.add(Link(source, target)):
+            node.traced_paths.add(target)
 
 
-def named(session: Session, node: Node, path: str) -> None:
-    """A file of O_TMPFILE gets its first name: it is made there, with all its bytes."""
-    session.appear(path, node)
-    if node.data and path in node.told:
-        session.store(node, 0, bytes(node.data))
+def name_temporary_file(files: LiveFiles, node: Node, path: str) -> None:
+    """Gives a file of O_TMPFILE its first name: the trace makes it there, with all its bytes."""
+    files.add_new(path, node)
+    if node.data and path in node.traced_paths:
+        files.write_bytes(node, 0, bytes(node.data))
     if node.was_synced:
-        session.trouble(
+        files.report(
             'a file of O_TMPFILE that was synced before it had this name: the trace '
             'has the sync after the name',
             path,
         )
-        session.fsync(node)
+        files.sync_file(node)
 
 
-def symlink(session: Session, process: Process, call: Call) -> None:
-    unsayable(session, session.path(process, call, 1), 'a symbolic link was made')
+def on_symlink(files: LiveFiles, process: Process, call: Call) -> None:
+    add_untraceable(files, files.path_argument(process, call, 1), 'a symbolic link was made')
 
 
-def symlinkat(session: Session, process: Process, call: Call) -> None:
-    unsayable(session, session.path_at(process, call, 1), 'a symbolic link was made')
+def on_symlinkat(files: LiveFiles, process: Process, call: Call) -> None:
+    add_untraceable(files, files.path_argument_at(process, call, 1), 'a symbolic link was made')
 
 
-def mknod(session: Session, process: Process, call: Call) -> None:
-    node_made(session, process, session.path(process, call, 0), call.word(1))
+def on_mknod(files: LiveFiles, process: Process, call: Call) -> None:
+    make_node(files, process, files.path_argument(process, call, 0), call.word(1))
 
 
-def mknodat(session: Session, process: Process, call: Call) -> None:
-    node_made(session, process, session.path_at(process, call, 0), call.word(2))
+def on_mknodat(files: LiveFiles, process: Process, call: Call) -> None:
+    make_node(files, process, files.path_argument_at(process, call, 0), call.word(2))
 
 
-def node_made(session: Session, process: Process, path: Optional[str], mode: str) -> None:
+def make_node(files: LiveFiles, process: Process, path: Optional[str], mode: str) -> None:
     if path is None:
         return
     if 'S_IFREG' in mode or not mode.startswith('S_IF'):
-        bits = int(mode.rpartition('|')[2], 8) & ~process.place.umask & 0o777
-        session.appear(path, Node.file(bits))
+        bits = octal(mode.rpartition('|')[2]) & ~process.paths.umask & 0o777
+        files.add_new(path, Node.file(bits))
     else:
-        unsayable(session, path, 'a device or a named pipe was made')
+        add_untraceable(files, path, 'a device or a named pipe was made')
 
 
-def bind(session: Session, process: Process, call: Call) -> None:
-    """A socket that is bound to a path."""
+def on_bind(files: LiveFiles, process: Process, call: Call) -> None:
+    """Reports a socket that is bound to a path."""
     shown = call.word(1).partition('sun_path=')[2].partition('}')[0]
     if shown.startswith('"'):
-        path = session.joined(process.place.directory, shown)
-        unsayable(session, path, 'a socket was bound')
+        path = files.join_path(process.paths.directory, shown)
+        add_untraceable(files, path, 'a socket was bound')
 
 
-def unsayable(session: Session, path: Optional[str], what: str) -> None:
+def add_untraceable(files: LiveFiles, path: Optional[str], what: str) -> None:
     if path is None:
         return
-    parent = session.tree.get(parent_of(path))
-    if parent is not None and parent.told_path is not None:
-        session.trouble(what, path)
-    session.tree.add(path, Node.unknown())
+    parent = files.tree.get(parent_of(path))
+    if parent is not None and parent.traced_path is not None:
+        files.report(what, path)
+    files.tree.add(path, Node.unknown())
 
 
 HANDLERS = {
-    'unlink': unlink,
-    'unlinkat': unlinkat,
-    'rmdir': rmdir,
-    'mkdir': mkdir,
-    'mkdirat': mkdirat,
-    'rename': rename,
-    'renameat': renameat,
-    'renameat2': renameat,
-    'link': link,
-    'linkat': linkat,
-    'symlink': symlink,
-    'symlinkat': symlinkat,
-    'mknod': mknod,
-    'mknodat': mknodat,
-    'bind': bind,
+    'unlink': on_unlink,
+    'unlinkat': on_unlinkat,
+    'rmdir': on_rmdir,
+    'mkdir': on_mkdir,
+    'mkdirat': on_mkdirat,
+    'rename': on_rename,
+    'renameat': on_renameat,
+    'renameat2': on_renameat,
+    'link': on_link,
+    'linkat': on_linkat,
+    'symlink': on_symlink,
+    'symlinkat': on_symlinkat,
+    'mknod': on_mknod,
+    'mknodat': on_mknodat,
+    'bind': on_bind,
 }

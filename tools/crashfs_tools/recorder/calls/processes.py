@@ -6,47 +6,47 @@ import os.path
 
 from crashfs_tools.recorder import arguments
 from crashfs_tools.recorder.processes import Process
-from crashfs_tools.recorder.session import Session
+from crashfs_tools.recorder.live_files import LiveFiles
 from crashfs_tools.recorder.strace_log import Call
 
 
-def clone(session: Session, process: Process, call: Call) -> None:
-    if call.result > 0 and call.result not in session.processes:
-        session.processes[call.result] = process.child(call)
+def on_clone(files: LiveFiles, process: Process, call: Call) -> None:
+    if call.result > 0 and call.result not in files.processes:
+        files.processes[call.result] = process.child(call)
 
 
-def execve(session: Session, process: Process, call: Call) -> None:
+def on_execve(files: LiveFiles, process: Process, call: Call) -> None:
     process.exec()
 
 
-def chdir(session: Session, process: Process, call: Call) -> None:
+def on_chdir(files: LiveFiles, process: Process, call: Call) -> None:
     path = arguments.path(call.word(0))
     if path is not None:
-        place = process.place
+        place = process.paths
         place.directory = os.path.normpath(os.path.join(place.directory, path))
 
 
-def fchdir(session: Session, process: Process, call: Call) -> None:
-    process.place.directory = call.descriptor().path or process.place.directory
+def on_fchdir(files: LiveFiles, process: Process, call: Call) -> None:
+    process.paths.directory = call.descriptor().path or process.paths.directory
 
 
-def umask(session: Session, process: Process, call: Call) -> None:
-    process.place.umask = int(call.word(0), 8)
+def on_umask(files: LiveFiles, process: Process, call: Call) -> None:
+    process.paths.umask = arguments.octal(call.word(0))
 
 
-def chroot(session: Session, process: Process, call: Call) -> None:
-    session.trouble('chroot: paths of that process mean other files from here on', call.word(0))
+def on_chroot(files: LiveFiles, process: Process, call: Call) -> None:
+    files.report('chroot: paths of that process mean other files from here on', call.word(0))
 
 
 HANDLERS = {
-    'clone': clone,
-    'clone3': clone,
-    'fork': clone,
-    'vfork': clone,
-    'execve': execve,
-    'execveat': execve,
-    'chdir': chdir,
-    'fchdir': fchdir,
-    'umask': umask,
-    'chroot': chroot,
+    'clone': on_clone,
+    'clone3': on_clone,
+    'fork': on_clone,
+    'vfork': on_clone,
+    'execve': on_execve,
+    'execveat': on_execve,
+    'chdir': on_chdir,
+    'fchdir': on_fchdir,
+    'umask': on_umask,
+    'chroot': on_chroot,
 }

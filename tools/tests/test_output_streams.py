@@ -3,32 +3,22 @@
 import unittest
 from typing import List, Sequence
 
-from crashfs_tools.common.trace import Header, Say, Start
-from crashfs_tools.recorder.directory import Scan
-from crashfs_tools.recorder.session import Beginning, Session
-from crashfs_tools.recorder.strace_log import read_log
-from crashfs_tools.recorder.translate import Translator
+from crashfs_tools.common.trace import Say, Start
+from crashfs_tools.recorder.recording import Recording
 
-from .support import as_strace
+from .support import recording_of
 
 FILE = [Start('/f', 'u', 'u', 0o644, b'one\ntwo\n')]
 OPEN_F = '1 openat(AT_FDCWD</d>, "f", O_RDONLY) = 3</d/f>'
 
 
-def session_of(log: List[str], said: Sequence[str] = ('1',)) -> Session:
-    """The session of a log whose standard output is pipe 7."""
-    session = Session(
-        Beginning('/d', 0o022, 'u', 'u', said=said),
-        Scan(Header('u', 'u', 0o755), FILE),
-        lambda path: False,
-    )
-    session.voices.know_output('pipe:[7]')
-    Translator(session, read_log(map(as_strace, log))).run()
-    return session
+def output_of(log: List[str], acknowledged: Sequence[str] = ('1',)) -> Recording:
+    """What a log becomes whose standard output is pipe 7."""
+    return recording_of(log, FILE, acknowledged=acknowledged, output='pipe:[7]')
 
 
-def lines_of(log: List[str], said: Sequence[str] = ('1',)) -> List[str]:
-    operations = session_of(log, said).trace.operations
+def lines_of(log: List[str], acknowledged: Sequence[str] = ('1',)) -> List[str]:
+    operations = output_of(log, acknowledged).trace.operations
     return [one.text for one in operations if isinstance(one, Say)]
 
 
@@ -65,10 +55,10 @@ class Lines(unittest.TestCase):
         ]
         self.assertEqual(lines_of(log), ['one', 'two'])
 
-    def test_standard_error_is_counted_and_not_said(self):
-        session = session_of(['1 write(2</dev/tty>, "one\ntw", 6) = 6'])
-        self.assertEqual(session.trace.operations, [])
-        self.assertEqual(session.voices.standard[2].lines, 2)
+    def test_standard_error_is_counted_and_not_acknowledged(self):
+        recording = output_of(['1 write(2</dev/tty>, "one\ntw", 6) = 6'])
+        self.assertEqual(recording.trace.operations, [])
+        self.assertEqual(recording.streams.standard[2].lines, 2)
         self.assertEqual(
             lines_of(
                 ['1 write(2</dev/tty>, "one\n", 4) = 4', '1 write(1<pipe:[7]>, "no\n", 3) = 3'],

@@ -1,0 +1,108 @@
+"""A recording: the trace, what COMMAND acknowledged, and what the trace doesn't have."""
+
+from __future__ import annotations
+
+from dataclasses import dataclass
+from typing import Callable, Optional, Sequence, Set
+
+from crashfs_tools.common.trace import (
+    BLOCK_SIZES,
+    BLOCKS,
+    WRITTEN_VERSION,
+    Fsync,
+    FsyncRange,
+    Header,
+    Link,
+    Operation,
+    Rename,
+    Say,
+    Sync,
+    Trace,
+)
+from crashfs_tools.common.tree import Tree
+
+from .output_streams import OutputStream, OutputStreams
+from .strace_log import Call
+from .troubles import Troubles
+
+
+@dataclass(frozen=True)
+class TraceSettings:
+    """What a trace is to be: which descriptors' lines count as acknowledged, which directory
+    operations the file system keeps in order, and how many bytes the disk writes whole."""
+
+    acknowledged: Sequence[str] = ('1',)
+    profile: str = BLOCKS
+    block: int = BLOCK_SIZES[-1]
+
+
+def place_of(operation: Operation) -> str:
+    """The path that an operation is about."""
+    if isinstance(operation, (Rename, Link)):
+        return operation.source
+    return '/' if isinstance(operation, (Sync, Say)) else operation.path
+
+
+class Recording:
+    """The trace, the tree at its end, the streams that COMMAND writes to, and the troubles.
+
+    call is the call that is translated now; differing has the paths that differ at the end from
+    the directory, apart from those of the troubles.
+    """
+
+    def __init__(self, header: Header, settings: TraceSettings) -> None:
+        self.trace = Trace(
+            header, version=WRITTEN_VERSION, profile=settings.profile, block=settings.block
+        )
+        self.tree = Tree(header.owner, header.group, header.mode, settings.block)
+        self.streams = OutputStreams(settings.acknowledged)
+        self.troubles = Troubles()
+        self.differing: Set[str] = set()
+        self.call: Optional[Call] = None
+        self.on_acknowledged: Callable[[Say], None] = lambda said: None
+        self.begins_later = False
+
+    def report(self, what: str, where: str, is_note: bool = False) -> None:
+        """Reports what the trace doesn't have, once for each thing and place."""
+        line = self.trace.line_of_operation(len(self.trace.operations)) - 1
+        self.troubles.add(what, where, None if self.call is None else line, is_note)
+
+    def note(self, what: str, where: str) -> None:
+        """Reports what no trace has, and what changes no verdict."""
+        self.report(what, where, is_note=True)
+
+    def add(self, operation: Operation) -> bool:
+        """Adds an operation to the trace, and returns whether it could: one that `crashfs` would
+        refuse is reported."""
+        if not self.trace.has(type(operation)):
+            return self.add_in_older_version(operation)
+        fault = self.tree.fault(operation)
+        if fault:
+            name = self.call.name if self.call else 'a change'
+            self.report(f'{name} is left out: {fault}', place_of(operation))
+            return False
+        self.tree.apply(operation)
+        if self.call is not None and self.call.note:
+            self.trace.notes[len(self.trace.operations)] = self.call.note
+        self.trace.operations.append(operation)
+        return True
+
+    def add_in_older_version(self, operation: Operation) -> bool:
+        """Adds an operation that the trace's version has no line for, as far as it can."""
+        if not isinstance(operation, FsyncRange):
+            return False
+        self.report('a sync of a part is written as one of the file', operation.path)
+        return self.add(Fsync(operation.path))
+
+    def add_output(self, stream: OutputStream, data: bytes) -> None:
+        """Bytes that COMMAND wrote to a stream: each whole line is acknowledged."""
+        for line in stream.complete_lines(data):
+            if stream.is_acknowledged:
+                self.acknowledge(stream, line)
+
+    def acknowledge(self, stream: OutputStream, line: bytes) -> None:
+        said = Say.cut(line)
+        if said.text.encode() != line:
+            self.report('a line is cut at 1,024 bytes, or is no UTF-8', stream.name)
+        self.add(said)
+        self.on_acknowledged(said)
