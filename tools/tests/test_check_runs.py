@@ -185,7 +185,8 @@ class Stops(InCounted):
         )
         self.assertEqual((ran.returncode, ran.stderr), (1, ''))
         self.assertIn(', 5 tried (stopped by the first failure): 1 fails (status 1 1)', ran.stdout)
-        self.assertEqual(self.ran(), [11, 0, 1, 2, 3])
+        # State 3 fails, and is run once more.
+        self.assertEqual(self.ran(), [11, 0, 1, 2, 3, 3])
         ran = self.check('--fail-fast', self.good, command=['true'])
         self.assertEqual(
             ran.stdout.partition(': ')[2],

@@ -29,6 +29,8 @@ if TYPE_CHECKING:
     from crashfs_tools.checker.states.windows import Windows
 
 FIRST_FAILURE, TIME_LIMIT = 'the first failure', 'the time limit'
+# For so long examples are run again after the time limit.
+RERUN_SECONDS = 10.0
 
 
 class Checking:
@@ -116,6 +118,8 @@ class Run:
         # What the window before has found.
         self.last: Optional[Results] = None
         self.outcomes: Dict[int, Outcome] = {}
+        self.planned: Optional[Planned] = None
+        self.findings: Optional[Findings] = None
 
     def read_earlier(self) -> Optional[AllResults]:
         path = self.options.resume
@@ -134,6 +138,7 @@ class Run:
             with time_limit(self.options.time_limit):
                 for planned in self.checking.all_planned():
                     is_whole = self.window(planned)
+                    self.rerun_examples(planned)
                     is_over = planned.is_last and is_whole
                     if not is_whole:
                         self.head.stopped = FIRST_FAILURE
@@ -144,12 +149,26 @@ class Run:
         except Stopped as stopped:
             stop = stopped
             self.head.stopped = self.head.stopped or ('' if is_over else str(stopped))
+        if self.head.stopped == TIME_LIMIT:
+            try:
+                self.rerun_examples(self.planned, RERUN_SECONDS)
+            except Stopped as stopped:
+                stop = stopped
         if self.checking.windows is not None:
             self.head.cut_off = [(one.line, one.tried) for one in self.checking.windows.cut_off]
         return self.report, stop
 
+    def rerun_examples(self, planned: Optional[Planned], seconds: float = float('inf')) -> None:
+        """Runs each entry's example of the last window again, alone."""
+        if planned is not None and self.findings is not None and self.findings.groups:
+            from crashfs_tools.checker.findings.reruns import rerun_examples
+
+            rerun_examples(self.checking.trying(planned), self.findings, seconds)
+            self.report.replace_last(self.findings)
+
     def window(self, planned: Planned) -> bool:
         """Tries the states of a window; returns whether it tried all."""
+        self.planned = planned
         known = known_states(self.last.plan, planned.plan) if self.last else {}
         results = Results(planned.plan, known=known)
         self.take_earlier(results)
@@ -160,9 +179,9 @@ class Run:
                 First(trying, results, self.checking.end()).run()
             return trying.run(results)
         finally:
-            self.findings = Findings(self.head, results, self.outcomes)
-            self.last, self.outcomes = results, self.findings.by_state
-            self.report.add(self.findings)
+            self.findings = findings = Findings(self.head, results, self.outcomes)
+            self.last, self.outcomes = results, findings.by_state
+            self.report.add(findings)
 
     def take_earlier(self, results: Results) -> None:
         place = self.report.windows
@@ -174,7 +193,7 @@ class Run:
 
     def add_details(self, planned: Planned) -> None:
         """Differences and advice; a part of the states is not enough for them."""
-        if self.head.shard.parts == 1 and not self.options.serve:
+        if self.findings is not None and self.head.shard.parts == 1 and not self.options.serve:
             trying = self.checking.trying(planned)
             if self.findings.groups:
                 from crashfs_tools.checker.findings.advice_trials import add_details

@@ -9,8 +9,8 @@ import sys
 # Control characters, marks that change the direction or join letters, separators of lines,
 # characters of no meaning, and halves of surrogate pairs, which are bytes that aren't UTF-8.
 UNPRINTABLE = re.compile(
-    '[\x00-\x1f\x7f-\x9f\xad\u061c\u180e\u200b-\u200f\u2028-\u202e\u2060-\u206f\ufeff\ufff9-\ufffc\ufffe\uffff'
-    '\ud800-\udfff\U000e0000-\U000e007f]'
+    '[\x00-\x1f\x7f-\x9f\xad\u061c\u180e\u200b-\u200f\u2028-\u202e\u2060-\u206f'
+    '\ufeff\ufff9-\ufffc\ufffe\uffff\ud800-\udfff\U000e0000-\U000e007f]'
 )
 SHORT = {'\n': '\\n', '\t': '\\t', '\r': '\\r'}
 

@@ -8,6 +8,10 @@ from typing import Dict, List, Optional, Tuple
 from crashfs_tools.common.trace_lines import TraceLine
 
 ATOMIC = 'write a new file, sync it, rename it, sync the directory'
+NOT_REPRODUCIBLE = (
+    'not reproducible: 1 of 2 runs failed',
+    'does COMMAND share a port or a place with other runs? (try --jobs 1)',
+)
 
 
 @dataclass

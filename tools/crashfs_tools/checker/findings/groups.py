@@ -7,10 +7,10 @@ from typing import Dict, Iterable, List, NamedTuple, Optional, Tuple
 
 from crashfs_tools.checker.running.results import Head, Results
 from crashfs_tools.checker.running.runner import GOOD, GOOD_OUTCOME, Outcome
-from crashfs_tools.checker.states.plan import Plan, State, count, places_of
+from crashfs_tools.checker.states.plan import Plan, State, Trial, count, places_of
 from crashfs_tools.common.trace_lines import SYNCS, TraceLine, without_numbers
 
-from .advice import Advice, advice_for
+from .advice import NOT_REPRODUCIBLE, Advice, advice_for
 from .pairs import Pair, Pairs
 
 
@@ -25,7 +25,8 @@ class Difference(NamedTuple):
 class Group:
     """Failing states whose causes agree but for numbers, and whose pairs are of lines of the same
     kind. The example is the state that lacks the least; kept, lost, pair, lost_lines and
-    other_syncs are the example's. places are all pairs of lines, the lost one first."""
+    other_syncs are the example's; rerun is the outcome of its second run, if there was one. places
+    are all pairs of lines, the lost one first."""
 
     outcome: Outcome
     example: State
@@ -38,6 +39,7 @@ class Group:
     other_syncs: List[TraceLine] = field(default_factory=list)
     advice: Advice = field(default_factory=Advice)
     difference: Optional[Difference] = None
+    rerun: Optional[Outcome] = None
 
     @property
     def cause(self) -> str:
@@ -46,6 +48,11 @@ class Group:
     @property
     def result(self) -> str:
         return self.outcome.result
+
+    @property
+    def is_reproducible(self) -> bool:
+        """Whether the example failed again, or was run only once."""
+        return self.rerun is None or self.rerun.result != GOOD
 
     @property
     def is_torn(self) -> bool:
@@ -62,7 +69,14 @@ class Group:
     @property
     def key(self) -> Tuple[object, ...]:
         kinds = [line.kind if line else '' for line in (self.kept, self.lost)]
-        return (without_numbers(self.cause), self.result, self.is_torn, self.is_span, *kinds)
+        return (
+            self.is_reproducible,
+            without_numbers(self.cause),
+            self.result,
+            self.is_torn,
+            self.is_span,
+            *kinds,
+        )
 
     def add_group(self, other: Group) -> None:
         """Adds the states and pairs of a group with the same key."""
@@ -72,6 +86,9 @@ class Group:
         self.advice.tried = mine + others if mine and others else None
 
     def set_advice(self, lines: Dict[int, TraceLine]) -> None:
+        if not self.is_reproducible:
+            self.advice = Advice(list(NOT_REPRODUCIBLE))
+            return
         tried = self.advice.tried
         self.advice = advice_for(self.kept, self.lost, self.is_span, self.places, lines)
         self.advice.tried = tried
@@ -96,6 +113,7 @@ class Findings:
         self.by_state = results.of_states(before)
         self.pairs = Pairs(self.plan, self.by_state)
         self.groups = self.all_groups()
+        self.take_reruns()
 
     def own_outcomes(self) -> List[Outcome]:
         return [
@@ -110,8 +128,14 @@ class Findings:
         for group in groups:
             group.lost_lines = self.lost_lines(group.example)
             group.other_syncs = self.other_syncs(group)
-            group.set_advice(self.head.lines)
         return groups
+
+    def take_reruns(self) -> None:
+        """Takes the second runs of the examples: no advice is given for what passed."""
+        for group in self.groups:
+            number = self.results.first_of[Trial(group.example.same, group.example.says)]
+            group.rerun = self.results.reruns.get(number)
+            group.set_advice(self.head.lines)
 
     def is_failure(self, state: State) -> bool:
         """Whether a state fails, and with another cause than the known failure."""

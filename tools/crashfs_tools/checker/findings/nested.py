@@ -20,6 +20,7 @@ from crashfs_tools.common.program import LIBRARY
 from crashfs_tools.common.trace_lines import operation_lines, without_numbers
 
 from .groups import Findings, Group
+from .reruns import rerun_examples
 from .second_crashes import Recovery
 
 RECORD = (
@@ -118,6 +119,7 @@ class Nested:
         with open(trying.planned.trace, **TEXT) as file:
             head = Head('', '', [], lines=operation_lines(file.read()))
         found = Findings(head, results, {}, first if first.result != GOOD else None)
+        rerun_examples(trying, found)
         failing = sum(len(group.states) for group in found.groups)
         return Recovery(
             state.number,

@@ -59,6 +59,14 @@ class Report:
         self.groups_of_windows.append(findings.groups)
         if self.has_json:
             self.packed_windows.append(packed(as_json(results.fields())))
+        self.add_drawing(findings)
+
+    def replace_last(self, findings: Findings) -> None:
+        """Takes what was added to the results of the last window."""
+        if self.has_json:
+            self.packed_windows[-1] = packed(as_json(findings.results.fields()))
+
+    def add_drawing(self, findings: Findings) -> None:
         if self.has_page and (findings.groups or not self.drawings):
             from .drawing import drawing_of
 

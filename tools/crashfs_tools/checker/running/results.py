@@ -67,11 +67,12 @@ class Head:
 @dataclass
 class Results:
     """A window's plan, and the outcomes by the states tried. known are the states that the window
-    before has too, with their numbers there: they are tried there."""
+    before has too, with their numbers there: they are tried there. reruns are second outcomes."""
 
     plan: Plan
     outcomes: Dict[int, Outcome] = field(default_factory=dict)
     known: Dict[int, int] = field(default_factory=dict)
+    reruns: Dict[int, Outcome] = field(default_factory=dict)
 
     def __post_init__(self) -> None:
         first: Dict[Trial, int] = {}
@@ -106,6 +107,7 @@ class Results:
         return {
             'first': self.plan.first,
             'outcomes': {str(state): list(one) for state, one in sorted(self.outcomes.items())},
+            'reruns': {str(state): list(one) for state, one in sorted(self.reruns.items())},
             'known': {str(state): other for state, other in self.known.items()},
             'needs': [f'{mask:x}' for mask in self.plan.needs.masks],
             'operations': [list(one) for one in self.plan.operations],
@@ -127,6 +129,7 @@ class Results:
             plan,
             {int(state): Outcome(*one) for state, one in fields['outcomes'].items()},
             {int(state): other for state, other in fields['known'].items()},
+            {int(state): Outcome(*one) for state, one in fields.get('reruns', {}).items()},
         )
 
 
@@ -196,4 +199,5 @@ def merged(parts: List[AllResults]) -> AllResults:
     for one in parts:
         for whole, window in zip(first.windows, one.windows):
             whole.outcomes.update(window.outcomes)
+            whole.reruns.update(window.reruns)
     return AllResults(head, first.windows)
