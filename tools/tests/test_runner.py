@@ -13,7 +13,7 @@ from .support import FAKE, PATIENCE, TOOLS, InFolder
 from .test_check_command import InStore
 
 
-class Runs(InFolder):
+class InRuns(InFolder):
     def checker(self, script: str, **more) -> Checker:
         os.makedirs(self.path('state'), exist_ok=True)
         says = Says(['one', 'zwölf', 'three'], self.temporary)
@@ -24,6 +24,8 @@ class Runs(InFolder):
     def run_once(self, script: str, says: int = 0, **more):
         return self.checker(script, **more).run(7, says, self.path('state'))
 
+
+class Runs(InRuns):
     def test_lines_are_those_of_the_state_in_one_file(self):
         checker = self.checker('printf "%s:" "$CRASHFS_SAYS"; cat | tr "\\n" ,; exit 1')
         for says, lines in [

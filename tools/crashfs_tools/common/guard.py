@@ -2,7 +2,8 @@
 
 A second process waits for the end of the first, also by a kill. It then ends every process that
 still has the run's token in its environment, unmounts what is mounted in the directory's own folder
-for mounts, and removes the directory.
+for mounts, and removes the directory. The first one is a reaper: what it started, and what came of
+that, it ends itself. A run within another one keeps the tokens of both.
 """
 
 from __future__ import annotations
@@ -15,7 +16,9 @@ import tempfile
 import time
 from contextlib import contextmanager
 from types import TracebackType
-from typing import Dict, Iterator, List, Optional, Tuple, Type
+from typing import Dict, Iterable, Iterator, Mapping, Optional, Set, Tuple, Type
+
+from . import descendants
 
 VARIABLE = 'CRASHFS_GUARD'
 STOPS = (signal.SIGINT, signal.SIGTERM, signal.SIGHUP)
@@ -28,6 +31,9 @@ class Guard:
         self.prefix = prefix
         self.token = os.urandom(16).hex()
         self.directory = ''
+        self.is_reaper = False
+        # Processes that could not be ended, with the names of their programs.
+        self.left: Dict[int, str] = {}
 
     def __enter__(self) -> Guard:
         try:
@@ -36,6 +42,7 @@ class Guard:
             # Where no place for temporary files can be written, the error has no name.
             name = error.filename or 'temporary files'
             raise OSError(error.errno, error.strerror, name) from error
+        self.is_reaper = is_reaper_now()
         waiting, self.alive = os.pipe()
         # A signal waits meanwhile: it must not reach the second process before that ignores it.
         before = signal.pthread_sigmask(signal.SIG_BLOCK, STOPS)
@@ -49,27 +56,28 @@ class Guard:
 
     @property
     def environment(self) -> Dict[str, str]:
-        return {**os.environ, VARIABLE: self.token}
+        return with_token(os.environ, self.token)
 
-    @property
-    def mark(self) -> bytes:
-        return f'{VARIABLE}={self.token}'.encode()
-
-    def end_processes(self) -> None:
-        """Ends all that was started with the environment, and all that came of it."""
-        end_all(self.mark)
+    def end_processes(self, spared: Iterable[int] = ()) -> Dict[int, str]:
+        """Ends all that came of this process, but for spared children, and all that was started
+        with the environment. Returns what could not be ended, with the names of the programs; it
+        isn't tried again."""
+        end_bearers(self.token)
+        if self.is_reaper:
+            self.left.update(descendants.end_children({self.watcher, *self.left, *spared}))
+        return self.left
 
     def signal(self, number: int, spared: int) -> int:
-        """Sends a signal to all that was started with the environment, but for one process, and
-        returns to how many."""
+        """Sends a signal to all that came of this process or was started with the environment, but
+        for one process, and returns to how many."""
         sent = 0
-        for process in bearers(self.mark):
-            if process != spared:
-                try:
-                    os.kill(process, number)
-                    sent += 1
-                except OSError:
-                    pass
+        found = descendants.descendants() if self.is_reaper else set()
+        for process in (found | bearers(self.token)) - {self.watcher, spared}:
+            try:
+                os.kill(process, number)
+                sent += 1
+            except OSError:
+                pass
         return sent
 
     def __exit__(
@@ -87,43 +95,60 @@ class Guard:
             for number in STOPS:
                 signal.signal(number, signal.SIG_IGN)
             os.setsid()
+            descendants.become_cleaner()
             nothing = os.open(os.devnull, os.O_RDWR)
             for stream in (0, 1, 2):
                 os.dup2(nothing, stream)
             os.read(waiting, 1)
-            self.end_processes()
+            end_bearers(self.token)
             if unmount_all(mount_folder(self.directory)):
                 remove_tree(self.directory)
         finally:
             os._exit(0)
 
 
-def bearers(mark: bytes) -> List[int]:
-    """The processes that have a mark in their environment."""
-    found = []
-    for name in os.listdir('/proc'):
-        if not name.isdigit():
-            continue
-        try:
-            with open(f'/proc/{name}/environ', 'rb') as file:
-                if mark in file.read().split(b'\0'):
-                    found.append(int(name))
-        except OSError:
-            continue
-    return found
+def is_reaper_now() -> bool:
+    """Makes this process a reaper, and returns whether it is one."""
+    try:
+        descendants.become_reaper()
+    except descendants.NoReaper:
+        return False
+    return True
 
 
-def end_all(mark: bytes) -> None:
-    """Ends all bearers; again until none is found, since one may have just forked."""
-    for _ in range(100):
-        found = bearers(mark)
+def with_token(environment: Mapping[str, str], token: str) -> Dict[str, str]:
+    """An environment with a further token."""
+    tokens = [*filter(None, environment.get(VARIABLE, '').split(':')), token]
+    return {**environment, VARIABLE: ':'.join(tokens)}
+
+
+def bearers(token: str) -> Set[int]:
+    """The processes that have a token in their environment."""
+    return {process for process in descendants.processes() if has_token(process, token.encode())}
+
+
+def has_token(process: int, token: bytes) -> bool:
+    """Whether a process was started with a token; one that may not be read was not."""
+    try:
+        with open(f'/proc/{process}/environ', 'rb') as file:
+            variables = file.read().split(b'\0')
+    except OSError:
+        return False
+    name = VARIABLE.encode() + b'='
+    return any(one.startswith(name) and token in one[len(name) :].split(b':') for one in variables)
+
+
+def end_bearers(token: str) -> None:
+    """Ends all bearers of a token; again until none is found, since one may have just forked."""
+    begun = time.monotonic()
+    while time.monotonic() < begun + descendants.ENDING_SECONDS:
+        found = bearers(token)
         if not found:
             return
+        is_late = time.monotonic() > begun + descendants.CLEANING_SECONDS
         for process in found:
-            try:
-                os.kill(process, signal.SIGKILL)
-            except OSError:
-                pass
+            if is_late or descendants.name_of(process) != descendants.CLEANER:
+                descendants.attempt(os.kill, process)
         time.sleep(0.01)
 
 

@@ -7,11 +7,12 @@ import os
 import select
 import signal
 import time
-from dataclasses import dataclass
+from dataclasses import dataclass, field
 from functools import cached_property
 from itertools import accumulate
-from typing import Callable, Dict, List, NamedTuple, Optional
+from typing import Callable, Dict, List, NamedTuple, Optional, Set
 
+from crashfs_tools.common import descendants
 from crashfs_tools.common.command import Refused, ended
 from crashfs_tools.common.program import last_line
 from crashfs_tools.common.trace_lines import without_numbers
@@ -93,7 +94,8 @@ def nothing() -> None:
 @dataclass
 class Checker:
     """One command, and what it is run with. life is the end of a pipe that is closed when the check
-    is over; when_slow is called once for each command that takes long."""
+    is over; when_slow is called once for each command that takes long. end_bearers ends what was
+    started with the environment, if this process isn't the reaper of what a command leaves."""
 
     command: List[str]
     timeout: float
@@ -101,6 +103,9 @@ class Checker:
     says: Says
     life: Optional[int] = None
     when_slow: Callable[[], None] = nothing
+    end_bearers: Callable[[], None] = nothing
+    # What commands left that could not be ended, with the names of the programs.
+    left: Dict[int, str] = field(default_factory=dict)
 
     @cached_property
     def whole_environment(self) -> Dict[bytes, bytes]:
@@ -121,7 +126,11 @@ class Checker:
         return poll
 
     def run(self, state: int, says: int, directory: str) -> Outcome:
-        """Runs the command in a state's directory; what it leaves running is ended."""
+        """Runs the command in a state's directory, and ends all that it leaves running. If that
+        can't be ended, neither this state nor a later one has an answer."""
+        if self.left and self.end_left(descendants.children() - set(self.left)):
+            return self.left_outcome()
+        before = descendants.children()
         output = os.open(f'{directory}.out', NEW_FILE, 0o600)
         try:
             os.unlink(f'{directory}.out')
@@ -138,12 +147,26 @@ class Checker:
                 # Until it is waited for, no other group has its number.
                 end_group(process)
                 status = os.waitstatus_to_exitcode(os.waitpid(process, 0)[1])
+                self.end_left(before, descendants.ENDING_SECONDS)
+            if self.left:
+                return self.left_outcome()
             if has_ended and status == 0:
                 return GOOD_OUTCOME
             printed = tail(output).replace(os.fsencode(directory), b'.')
             return self.outcome(status if has_ended else None, printed.decode('utf-8', 'replace'))
         finally:
             os.close(output)
+
+    def end_left(self, before: Set[int], seconds: float = 0) -> Dict[int, str]:
+        """Ends the children that weren't there before; returns those that can't be ended."""
+        self.end_bearers()
+        self.left = descendants.end_children(before, seconds)
+        return self.left
+
+    def left_outcome(self) -> Outcome:
+        return Outcome(
+            NO_ANSWER, f'a process that it left could not be ended: {descendants.shown(self.left)}'
+        )
 
     def start(self, directory: str, environment: Dict[bytes, bytes], told: str, output: int) -> int:
         """Starts the command in a session of its own; its directory is this process's meanwhile."""

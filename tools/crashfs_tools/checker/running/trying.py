@@ -3,7 +3,7 @@
 from __future__ import annotations
 
 import re
-from typing import TYPE_CHECKING, Callable, Set
+from typing import TYPE_CHECKING, Dict, Set
 
 from crashfs_tools.checker.options import Options
 from crashfs_tools.checker.states.layout import Archive, Layout
@@ -17,7 +17,7 @@ from crashfs_tools.common.trace_text import root_owner
 from .progress import Progress
 from .results import Results
 from .runner import Checker, Outcome, Says
-from .workers import Workers
+from .workers import OnOutcome, Workers
 
 if TYPE_CHECKING:
     from crashfs_tools.common.entry import Entries
@@ -81,29 +81,33 @@ class Trying:
         return self.program.tree_of(words, self.guard.environment)
 
     def try_one(self, state: State) -> Outcome:
-        layout = self.layout()
-        ((number, directory),) = layout.states({state.number})
-        with layout.laid_out(number, directory):
-            return self.checker().run(number, state.says, directory)
+        found: Dict[int, Outcome] = {}
+        self.run_workers(self.layout(), {state.number}, found.__setitem__)
+        return found[state.number]
 
-    def try_states(self, wanted: Set[int], told: Callable[[int, Outcome], None]) -> None:
+    def try_states(self, wanted: Set[int], on_outcome: OnOutcome) -> None:
         """Tries states; a stop may come meanwhile."""
         progress = self.progress
         progress.begin(len(wanted), self.planned.part())
 
         def step(number: int, outcome: Outcome) -> None:
-            told(number, outcome)
+            on_outcome(number, outcome)
             progress.step(outcome)
 
-        workers = Workers(
-            self.checker(), self.layout(many=True), self.options.jobs, step, self.options.fail_fast
-        )
+        try:
+            self.run_workers(self.layout(many=True), wanted, step)
+        finally:
+            progress.end()
+
+    def run_workers(self, layout: Layout, wanted: Set[int], on_outcome: OnOutcome) -> None:
+        """Runs COMMAND in other processes: nothing of it is left if this one is killed."""
+        options = self.options
+        workers = Workers(self.checker(), layout, options.jobs, on_outcome, options.fail_fast)
         try:
             workers.run(wanted, {state.number: state.says for state in self.plan.listed})
         finally:
             workers.end(self.guard.end_processes)
             self.guard.end_processes()
-            progress.end()
 
     def wanted(self, results: Results) -> Set[int]:
         """The states that are tried: of the shard, the first of each that are alike."""
@@ -123,11 +127,8 @@ class Trying:
         """Tries each different state of the shard that has no outcome yet; returns whether it
         tried all."""
 
-        def told(number: int, outcome: Outcome) -> None:
-            results.outcomes[number] = outcome
-
         left = self.wanted(results) - set(results.outcomes)
-        self.try_states(left, told)
+        self.try_states(left, results.outcomes.__setitem__)
         return left <= set(results.outcomes)
 
 

@@ -9,11 +9,13 @@ import select
 import signal
 import time
 from dataclasses import replace
+from functools import partial
 from typing import Any, Callable, Dict, List, NoReturn, Optional, Set
 
 from crashfs_tools.checker.states.layout import Layout
 from crashfs_tools.common.command import Refused, ended
-from crashfs_tools.common.guard import STOPS
+from crashfs_tools.common.descendants import NoReaper, become_reaper
+from crashfs_tools.common.guard import STOPS, end_bearers, with_token
 from crashfs_tools.common.program import ProgramFault
 
 from .runner import BAD, GOOD, GOOD_OUTCOME, TURN_SECONDS, Checker, Outcome, Over
@@ -23,7 +25,7 @@ PIECE_BYTES = 1 << 16
 # A process says what it knows after so long.
 SENT_SECONDS = 0.05
 
-Told = Callable[[int, Outcome], None]
+OnOutcome = Callable[[int, Outcome], None]
 
 
 class Worker:
@@ -74,12 +76,17 @@ class Workers:
     also if that is because this process was killed."""
 
     def __init__(
-        self, checker: Checker, layout: Layout, jobs: int, told: Told, fail_fast: bool = False
+        self,
+        checker: Checker,
+        layout: Layout,
+        jobs: int,
+        on_outcome: OnOutcome,
+        fail_fast: bool = False,
     ) -> None:
         self.checker = checker
         self.layout = layout
         self.jobs = jobs
-        self.told = told
+        self.on_outcome = on_outcome
         self.fail_fast = fail_fast
         self.ending = False
         self.workers: List[Worker] = []
@@ -128,7 +135,7 @@ class Workers:
         """The new process: it never returns."""
         gc.freeze()
         outbox = Outbox(pipe)
-        checker = replace(self.checker, life=self.life, when_slow=outbox.send)
+        checker = self.own_checker(outbox)
         try:
             for number, directory in self.layout.states(set(share)):
                 with self.layout.laid_out(number, directory):
@@ -144,16 +151,28 @@ class Workers:
             outbox.send()
             os._exit(0)
 
+    def own_checker(self, outbox: Outbox) -> Checker:
+        """The checker of a new process, which is the reaper of what its commands leave. If the
+        system doesn't make it one, a token of its own is in their environment."""
+        checker = replace(self.checker, life=self.life, when_slow=outbox.send)
+        try:
+            become_reaper()
+        except NoReaper:
+            token = os.urandom(16).hex()
+            checker.environment = with_token(checker.environment, token)
+            checker.end_bearers = partial(end_bearers, token)
+        return checker
+
     def take(self, line: bytes) -> None:
         """Takes an outcome; raises what another process can't do."""
         if line.isdigit():
-            self.told(int(line), GOOD_OUTCOME)
+            self.on_outcome(int(line), GOOD_OUTCOME)
             return
         said = json.loads(line)
         if 'state' not in said:
             raise as_fault(said)
         outcome = Outcome(*said['outcome'])
-        self.told(said['state'], outcome)
+        self.on_outcome(said['state'], outcome)
         self.ending = self.ending or self.fail_fast and outcome.result == BAD
 
     def reap(self, worker: Worker) -> None:
@@ -163,14 +182,14 @@ class Workers:
         if status != 0:
             raise Refused(f'a process of this check {ended(status)}')
 
-    def end(self, end_processes: Callable[[], None]) -> None:
-        """Ends all: first the commands, by what is handed over. It waits a moment for processes
-        that have to undo what they laid out, and takes what they still say."""
+    def end(self, end_processes: Callable[[Set[int]], object]) -> None:
+        """Ends all: first the commands, by what is passed, which spares processes. It waits a
+        moment for processes that must undo what they laid out, and takes what they still say."""
         self.ending = True
         os.close(self.alive)
         deadline = time.monotonic() + ENDING_SECONDS
         while self.workers:
-            end_processes()
+            end_processes({worker.process for worker in self.workers})
             for worker in list(self.workers):
                 self.end_one(worker, time.monotonic() > deadline)
             if self.workers:

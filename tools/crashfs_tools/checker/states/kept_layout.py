@@ -7,7 +7,6 @@ import os
 from contextlib import contextmanager
 from typing import Dict, Iterator, Optional, Set, Tuple
 
-from crashfs_tools.common.descendants import NoDescendants, adopt, children, left_since
 from crashfs_tools.common.program import Crashfs, ProgramFault
 
 from .changes import Tree, read_changes
@@ -26,14 +25,6 @@ class KeptLayout(Archive):
         self.kept: Optional[KeptTree] = None
 
     def states(self, wanted: Set[int]) -> Iterator[Tuple[int, str]]:
-        """As its base, unless the system says whether COMMAND left processes: these could change a
-        tree that stays."""
-        try:
-            adopt()
-            children()
-        except NoDescendants:
-            yield from super().states(wanted)
-            return
         self.kept = KeptTree(os.path.join(self.folder, f'kept-{os.getpid()}'))
         try:
             for number, tree in self.trees(wanted):
@@ -44,15 +35,9 @@ class KeptLayout(Archive):
 
     @contextmanager
     def laid_out(self, number: int, directory: str) -> Iterator[None]:
-        if self.kept is None:
-            with super().laid_out(number, directory):
-                yield
-            return
-        before = children()
+        assert self.kept is not None
         self.kept.begin()
         yield
-        if left_since(before):
-            self.kept.abandon()
 
     def trees(self, wanted: Set[int]) -> Iterator[Tuple[int, Tree]]:
         left = set(wanted)

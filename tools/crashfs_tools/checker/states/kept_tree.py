@@ -82,10 +82,6 @@ class KeptTree:
         """COMMAND starts after this."""
         self.started = time.clock_gettime_ns(REALTIME_COARSE)
 
-    def abandon(self) -> None:
-        """Something may still change the directory: the next tree is laid out in a new one."""
-        self.is_whole = False
-
     def remove(self) -> None:
         if os.path.lexists(self.directory):
             remove_tree(self.directory)
