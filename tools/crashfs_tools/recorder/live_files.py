@@ -97,8 +97,8 @@ class LiveFiles:
         self.recording.report(what, where)
 
     def first_process(self) -> Process:
-        standard = self.recording.streams.standard
-        files = {number: OpenFile(None, stream=stream) for number, stream in standard.items()}
+        inherited = self.recording.streams.inherited()
+        files = {number: OpenFile(None, stream=stream) for number, stream in inherited.items()}
         return Process(Descriptors(files), PathContext(self.conditions.top, self.conditions.umask))
 
     # Paths

@@ -21,6 +21,7 @@ from .live_files import LiveFiles, StartConditions
 from .log_stream import LogStream
 from .mapped_files import FileCopies, MappedFiles
 from .options import NAME, RecordOptions, check, read_options
+from .output_streams import SayEach
 from .recording import Recording, TraceSettings
 from .strace_log import Log, read_log
 from .translate import Translator
@@ -92,7 +93,12 @@ def record(options: RecordOptions) -> int:
     check(options)
     Crashfs.find(options.crashfs)
     before = scan(options.directory, options.ignored)
-    settings = TraceSettings(options.acknowledged, options.profile, options.block)
+    settings = TraceSettings(
+        options.acknowledged,
+        SayEach(options.each) if options.each else None,
+        options.profile,
+        options.block,
+    )
     recording = Recording(before.header, settings)
     files = LiveFiles(recording, start_conditions(options), before, options.ignored)
     if options.from_log is not None:

@@ -12,7 +12,7 @@ from crashfs_tools.common.trace import BLOCK_SIZES, BLOCKS, PROFILES
 from crashfs_tools.common.version import version_of
 
 from .ignore import Ignore
-from .output_streams import SOCKETS
+from .output_streams import SOCKETS, SayEach
 
 NAME = 'crashfs-record'
 
@@ -43,6 +43,7 @@ class RecordOptions:
     stacks: bool
     begin_after: Optional[str]
     acknowledged: List[str]
+    each: Optional[str]
     no_say: bool
     keep_log: Optional[str]
     from_log: Optional[str]
@@ -100,9 +101,18 @@ def add_what_is_recorded(made: argparse.ArgumentParser) -> None:
         '(may be repeated)',
     )
     made.add_argument(
+        '--say-each',
+        metavar='WHAT',
+        dest='each',
+        choices=[each.value for each in SayEach],
+        help='what acknowledges something: each `line`, or each `write`, as in binary '
+        'protocols (default: line; over a connection without line feeds: write)',
+    )
+    made.add_argument(
         '--no-say',
         action='store_true',
-        help='do not warn if no line is acknowledged, or all are in one write',
+        help='do not warn if no line is acknowledged, if all are in one write, or if one is held '
+        'for long',
     )
     made.add_argument(
         '--stacks',

@@ -21,17 +21,19 @@ from crashfs_tools.common.trace import (
 )
 from crashfs_tools.common.tree import Tree
 
-from .output_streams import OutputStream, OutputStreams
+from .output_streams import OutputStream, OutputStreams, SayEach
 from .strace_log import Call
 from .troubles import Troubles
 
 
 @dataclass(frozen=True)
 class TraceSettings:
-    """What a trace is to be: which descriptors' lines count as acknowledged, which directory
-    operations the file system keeps in order, and how many bytes the disk writes whole."""
+    """How a trace is made: which descriptors acknowledge something, and whether by lines or by
+    writes; which directory operations the file system keeps in order; how many bytes the disk
+    writes whole."""
 
     acknowledged: Sequence[str] = ('1',)
+    each: Optional[SayEach] = None
     profile: str = BLOCKS
     block: int = BLOCK_SIZES[-1]
 
@@ -47,7 +49,8 @@ class Recording:
     """The trace, the tree at its end, the streams that COMMAND writes to, and the troubles.
 
     call is the call that is translated now; differing has the paths that differ at the end from
-    the directory, apart from those of the troubles.
+    the directory, apart from those of the troubles; changes counts the operations that are no
+    acknowledgements.
     """
 
     def __init__(self, header: Header, settings: TraceSettings) -> None:
@@ -55,12 +58,13 @@ class Recording:
             header, version=WRITTEN_VERSION, profile=settings.profile, block=settings.block
         )
         self.tree = Tree(header.owner, header.group, header.mode, settings.block)
-        self.streams = OutputStreams(settings.acknowledged)
+        self.streams = OutputStreams(settings.acknowledged, settings.each)
         self.troubles = Troubles()
         self.differing: Set[str] = set()
         self.call: Optional[Call] = None
         self.on_acknowledged: Callable[[Say], None] = lambda said: None
         self.begins_later = False
+        self.changes = 0
 
     def report(self, what: str, where: str, is_note: bool = False) -> None:
         """Reports what the trace doesn't have, once for each thing and place."""
@@ -85,6 +89,7 @@ class Recording:
         if self.call is not None and self.call.note:
             self.trace.notes[len(self.trace.operations)] = self.call.note
         self.trace.operations.append(operation)
+        self.changes += not isinstance(operation, Say)
         return True
 
     def add_in_older_version(self, operation: Operation) -> bool:
@@ -95,14 +100,23 @@ class Recording:
         return self.add(Fsync(operation.path))
 
     def add_output(self, stream: OutputStream, data: bytes) -> None:
-        """Bytes that COMMAND wrote to a stream: each whole line is acknowledged."""
-        for line in stream.complete_lines(data):
+        """Bytes that COMMAND wrote to a stream: each whole line is acknowledged, or each write."""
+        for text in stream.texts_of(data, self.changes):
             if stream.is_acknowledged:
-                self.acknowledge(stream, line)
+                self.acknowledge(stream, text)
 
-    def acknowledge(self, stream: OutputStream, line: bytes) -> None:
-        said = Say.cut(line)
-        if said.text.encode() != line:
+    def acknowledge(self, stream: OutputStream, text: bytes) -> None:
+        said = Say.cut(text)
+        if said.text.encode() != text and stream.each is SayEach.WRITE:
+            self.note('an acknowledgement is cut at 1,024 bytes', stream.name)
+        elif said.text.encode() != text:
             self.report('a line is cut at 1,024 bytes, or is no UTF-8', stream.name)
         self.add(said)
         self.on_acknowledged(said)
+
+    def end_streams(self) -> None:
+        """Ends the last line of each stream, if that has no end."""
+        for stream in self.streams.all():
+            if stream.pieces:
+                self.add_output(stream, b'\n')
+                stream.is_held = stream.gaps > 0

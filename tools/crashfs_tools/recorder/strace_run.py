@@ -10,7 +10,7 @@ import signal
 import subprocess
 import sys
 import time
-from typing import List, Optional
+from typing import List, Optional, Sequence
 
 from crashfs_tools.common.command import Refused, standard_output
 from crashfs_tools.common.guard import Guard, stops_heard
@@ -100,7 +100,11 @@ class StraceRun:
             if self.options.stacks:
                 environment = stacks.environment(environment)
             child = subprocess.Popen(
-                self.line, cwd=self.options.directory, stdout=subprocess.PIPE, env=environment
+                self.line,
+                cwd=self.options.directory,
+                stdout=subprocess.PIPE,
+                env=environment,
+                pass_fds=inherited(self.options.acknowledged),
             )
             self.strace = child.pid
             assert child.stdout is not None
@@ -158,6 +162,20 @@ class StraceRun:
         """Sends COMMAND the signal that is wanted, as soon as it has begun."""
         if self.wanted is not None and self.guard.signal(self.wanted, spared=self.strace):
             self.wanted = None
+
+
+def inherited(acknowledged: Sequence[str]) -> List[int]:
+    """The descriptors that acknowledge something and that COMMAND inherits. Those that the recorder
+    has opened itself aren't inherited."""
+    numbers = [int(number) for number in acknowledged if number.isdigit() and int(number) > 2]
+    return [number for number in numbers if is_inherited(number)]
+
+
+def is_inherited(number: int) -> bool:
+    try:
+        return os.get_inheritable(number)
+    except OSError:
+        return False
 
 
 def is_on_terminal() -> bool:

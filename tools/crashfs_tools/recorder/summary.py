@@ -23,7 +23,7 @@ from .comparison import (
 )
 from .directory import Scan, scan
 from .options import RecordOptions
-from .output_streams import ERRORS
+from .output_streams import ERRORS, OutputStream
 from .recording import Recording
 from .troubles import Trouble
 
@@ -102,7 +102,22 @@ def acknowledgement_faults(recording: Recording) -> List[str]:
             f'all {lines:,} acknowledged lines came in one write: is standard output flushed '
             'after each? (--no-say if that is intended)'
         ]
-    return []
+    return [line for stream in counted_ones for line in held_text(stream)]
+
+
+def held_text(stream: OutputStream) -> List[str]:
+    """Whether writes may have acknowledged something before their line was complete. One change
+    between two of them is usual: a program prints what it does, and then that it is done."""
+    if stream.is_held:
+        what = 'its last text has no line feed, so it counts from the end'
+    elif stream.most_gaps > 1:
+        what = 'one line is of several writes, and counts from the last'
+    else:
+        return []
+    return [
+        f'{stream.name}: {what}, but files were changed after it began; --say-each write counts '
+        'each write (--no-say if that is intended)'
+    ]
 
 
 def compare(options: RecordOptions, recording: Recording, before: Scan, found: FinalReport) -> str:

@@ -13,6 +13,7 @@ from .calls import syncs
 from .live_files import LiveFiles
 from .live_tree import Node
 from .mapped_files import FileCopies, FileCopy
+from .output_streams import SOCKETS, connections_with_lines
 from .processes import Descriptors, PathContext, Process
 from .strace_log import EXIT, FORKS, SUPERSEDE, WRITES, Call, Log
 
@@ -65,6 +66,8 @@ class Translator:
         self.end()
 
     def translate_calls(self) -> None:
+        if SOCKETS in self.recording.streams.acknowledged:
+            self.recording.streams.with_lines = connections_with_lines(self.log.calls)
         ordered = call_order.in_order(self.log.calls)
         self.stores = mapped_stores.copies_by_call(
             self.log.calls, [call for _, call in ordered], self.copies
@@ -79,9 +82,7 @@ class Translator:
 
     def end(self) -> None:
         """Adds what is left when all calls are translated."""
-        for stream in self.recording.streams.all():
-            if stream.text:
-                self.recording.add_output(stream, b'\n')
+        self.recording.end_streams()
         for copy in self.copies.taken:
             if copy.process == 0:
                 self.add_stores(copy, None, False)

@@ -108,21 +108,28 @@ def on_close_range(files: LiveFiles, process: Process, call: Call) -> None:
             descriptors.close(number)
 
 
-def duplicate(process: Process, call: Call, closed_by_exec: bool) -> None:
-    old = call.descriptor().number
-    if old != call.result:
-        file = process.descriptors.files.get(old)
-        process.descriptors.put(call.result, file, closed_by_exec)
+def duplicate(files: LiveFiles, process: Process, call: Call, closed_by_exec: bool) -> None:
+    """Duplicates a descriptor; of one that acknowledges something, both are one stream."""
+    old, streams = call.descriptor(), files.recording.streams
+    if old.number == call.result:
+        return
+    file = process.descriptors.files.get(old.number)
+    if file is None and streams.is_asked(old.number):
+        file = OpenFile(None, stream=streams.find(old.number, old.text))
+        process.descriptors.files[old.number] = file
+    if file is not None and file.stream is not None and streams.is_asked(call.result):
+        file.stream.is_acknowledged = True
+    process.descriptors.put(call.result, file, closed_by_exec)
 
 
 def on_dup(files: LiveFiles, process: Process, call: Call) -> None:
-    duplicate(process, call, 'O_CLOEXEC' in call.word(2))
+    duplicate(files, process, call, 'O_CLOEXEC' in call.word(2))
 
 
 def on_fcntl(files: LiveFiles, process: Process, call: Call) -> None:
     number, command = call.descriptor().number, call.word(1)
     if command.startswith('F_DUPFD'):
-        duplicate(process, call, 'CLOEXEC' in command)
+        duplicate(files, process, call, 'CLOEXEC' in command)
     elif command == 'F_SETFD' and 'FD_CLOEXEC' in call.word(2):
         process.descriptors.closed_by_exec.add(number)
     elif command == 'F_SETFD':
