@@ -8,6 +8,8 @@ from typing import Dict, List
 
 from .sources import (
     TOP,
+    case_areas,
+    cases_of,
     citations,
     comment_of_file,
     crate_names,
@@ -49,6 +51,15 @@ def tests_of_tools() -> List[str]:
     return ['', '### tools/tests', '', '| What it shows | File |', '|---|---|', *rows]
 
 
+def tests_as_data() -> List[str]:
+    """The examples that are files: a table for each folder."""
+    lines: List[str] = []
+    for area in case_areas():
+        lines += ['', f'### tools/tests/data/cases/{area}', '', '| Example | File |', '|---|---|']
+        lines += [f'| {cell(it.sentence)} | `{it.name}` |' for it in cases_of(area)]
+    return lines
+
+
 def must_fail_edits() -> List[str]:
     """The table of wrong bodies, a row for each crate that has some."""
     lines = [
@@ -66,9 +77,9 @@ def must_fail_edits() -> List[str]:
 
 
 def examples() -> str:
-    """All tests of the crates and of the tools, and all wrong bodies."""
+    """All tests of the crates, as data and of the tools, and all wrong bodies."""
     crates = [line for crate in crate_names() for line in tests_of(crate)]
-    return '\n'.join(crates + tests_of_tools() + must_fail_edits()).strip()
+    return '\n'.join(crates + tests_as_data() + tests_of_tools() + must_fail_edits()).strip()
 
 
 def calls_shown(calls: List[str]) -> str:

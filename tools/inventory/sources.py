@@ -11,6 +11,7 @@ from typing import Dict, Iterator, List, Tuple
 TOP = Path(__file__).resolve().parent.parent.parent
 CRATES = TOP / 'crates'
 TOOLS_TESTS = TOP / 'tools' / 'tests'
+CASES = TOOLS_TESTS / 'data' / 'cases'
 
 # inside a module with parameters a word is indented
 WORD = re.compile(r" *(?:abbrev pub|unfoldable pub|opaque pub|pub record|pub data) ([^\s:({]+)")
@@ -88,6 +89,18 @@ def tools_tests() -> List[Example]:
         text = ast.get_docstring(ast.parse(path.read_text(encoding='utf-8'))) or ''
         found.append(Example(path.name, ' '.join(text.split())))
     return found
+
+
+def case_areas() -> List[str]:
+    """The folders of the examples that are files."""
+    return sorted(path.name for path in CASES.iterdir() if path.is_dir())
+
+
+def cases_of(area: str) -> List[Example]:
+    """The examples of a folder, each with the text before its first section."""
+    paths = sorted((CASES / area).glob('*.case'))
+    texts = (path.read_text(encoding='utf-8').partition('\n== ')[0] for path in paths)
+    return [Example(path.stem, ' '.join(text.split())) for path, text in zip(paths, texts)]
 
 
 def edits_of(crate: str) -> List[str]:
