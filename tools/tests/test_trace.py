@@ -23,6 +23,7 @@ from crashfs_tools.common.trace import (
     Unlink,
     Write,
 )
+from crashfs_tools.common.trace_lines import operation_lines
 from crashfs_tools.common.trace_read import read_trace, replay
 from crashfs_tools.common.tree import Tree
 from crashfs_tools.recorder.comparison import ByProgram, Replayed, differences
@@ -116,6 +117,16 @@ class Traces(unittest.TestCase):
             self.assertIn(shown, list(trace.lines())[1])
             trace.version = 2
             self.assertIn(f'"bytes":"{data.hex()}"', list(trace.lines())[1])
+
+    def test_a_sync_of_all_bytes_is_shown_as_such(self):
+        line = '{"op":"fsync_range","path":"/a","offset":%d,"length":%d}'
+        for offset, length, shown in [
+            (0, limits.FILE_BYTES, 'fsync_range /a, all bytes'),
+            (1, limits.FILE_BYTES, 'fsync_range /a, 16,777,216 bytes at 1'),
+            (0, 4096, 'fsync_range /a, 4,096 bytes at 0'),
+        ]:
+            (found,) = operation_lines(line % (offset, length)).values()
+            self.assertEqual(found.text, shown)
 
     def test_what_is_no_trace_is_refused_with_its_line(self):
         header = '{"trace":1,"owner":"u","group":"u","mode":"755"}\n'

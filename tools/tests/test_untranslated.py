@@ -19,6 +19,15 @@ TROUBLES = [
         ],
     ),
     (
+        '/s: fdatasync of a directory whose mode or owner was changed',
+        IN_DIRECTORY,
+        [
+            '1 openat(AT_FDCWD</d>, "s", O_RDONLY|O_DIRECTORY) = 4</d/s>',
+            '1 fchmod(4</d/s>, 0700) = 0',
+            '1 fdatasync(4</d/s>) = 0',
+        ],
+    ),
+    (
         '/f: RENAME_WHITEOUT left a device',
         FILE,
         ['1 renameat2(AT_FDCWD</d>, "f", AT_FDCWD</d>, "g", RENAME_WHITEOUT) = 0'],

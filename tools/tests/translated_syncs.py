@@ -1,6 +1,6 @@
 """Syncs and mappings as strace writes them, and the operations that they become."""
 
-from .translated_calls import FILE, OPEN_F, TWO_FILES
+from .translated_calls import FILE, IN_DIRECTORY, OPEN_F, TWO_FILES
 
 SYNCS = [
     (
@@ -23,6 +23,28 @@ SYNCS = [
             '1 sync() = 0',
         ],
         ['fsync /', 'sync'],
+    ),
+    (
+        'fdatasync covers no mode and no owner, so it is a sync of all bytes; of a directory, all',
+        IN_DIRECTORY,
+        [
+            '1 openat(AT_FDCWD</d>, "s/f", O_RDWR) = 3</d/s/f>',
+            '1 fchmod(3</d/s/f>, 0600) = 0',
+            '1 fdatasync(3</d/s/f>) = 0',
+            '1 openat(AT_FDCWD</d>, "s", O_RDONLY|O_DIRECTORY) = 4</d/s>',
+            '1 fdatasync(4</d/s>) = 0',
+            '1 chmod("s", 0700) = 0',
+            '1 fsync(4</d/s>) = 0',
+            '1 fdatasync(4</d/s>) = 0',
+        ],
+        [
+            'chmod /s/f 600',
+            'fsyncrange /s/f 0 16777216',
+            'fsync /s',
+            'chmod /s 700',
+            'fsync /s',
+            'fsync /s',
+        ],
     ),
     (
         'msync is a sync of the pages that it names',

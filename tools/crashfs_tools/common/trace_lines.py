@@ -6,6 +6,7 @@ import json
 import re
 from typing import Any, Dict, List, NamedTuple, Optional
 
+from . import limits
 from .entry import parent_of
 
 # Lines that change the file or directory of their path, and lines that change an entry.
@@ -109,6 +110,8 @@ def details_of(fields: Dict[str, Any]) -> str:
     if fields['op'] == 'truncate':
         return f"{fields['length']:,} bytes"
     if fields['op'] == 'fsync_range':
+        if fields['offset'] == 0 and fields['length'] == limits.FILE_BYTES:
+            return 'all bytes'
         return f"{fields['length']:,} bytes at {fields['offset']:,}"
     return ' '.join(
         fields[key]

@@ -8,6 +8,7 @@ import re
 from dataclasses import dataclass
 from typing import Callable, Dict, List, Optional, Tuple
 
+from crashfs_tools.common import limits
 from crashfs_tools.common.entry import parent_of
 from crashfs_tools.common.trace import (
     Creat,
@@ -221,9 +222,19 @@ class LiveFiles:
     # Syncs
 
     def sync_file(self, node: Node) -> None:
-        node.was_synced = True
+        node.was_synced, node.has_new_rights = True, False
         if node.traced_path is not None:
             self.recording.add(Fsync(node.traced_path))
+
+    def sync_data(self, node: Node) -> None:
+        """Syncs a file's size and all its bytes, but not its mode and owner. Of a directory no
+        trace has such a sync: it is written as one that has both."""
+        if not node.is_directory:
+            self.sync_range(node, 0, limits.FILE_BYTES)
+            return
+        if node.has_new_rights:
+            self.report('fdatasync of a directory whose mode or owner was changed', node.name)
+        self.sync_file(node)
 
     def sync_range(self, node: Node, offset: int, length: int) -> None:
         node.was_synced = True

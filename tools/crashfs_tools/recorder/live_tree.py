@@ -40,7 +40,7 @@ class Node:
 
     traced_paths has the paths at which the trace has it. data is None for a directory, and for a
     file whose bytes are not followed any more. size is kept. was_synced counts for a file that has
-    no name yet.
+    no name yet; has_new_rights, of a directory, means a mode or owner since its last fsync.
     """
 
     is_directory: bool
@@ -51,6 +51,7 @@ class Node:
     names: Set[str] = field(default_factory=set)
     is_temporary: bool = False
     was_synced: bool = False
+    has_new_rights: bool = False
     recent: List[Change] = field(default_factory=list)
 
     @staticmethod

@@ -34,12 +34,12 @@ def set_mode(files: LiveFiles, node: Optional[Node], word: str) -> None:
     if node is not None:
         node.mode = mode & PERMISSIONS
     path = path_in_trace(node)
-    if path is None:
+    if node is None or path is None:
         return
     if mode & ~PERMISSIONS:
         files.recording.note(f'it gets the mode bits {mode & ~PERMISSIONS:o}, beyond 777', path)
     if mode & PERMISSIONS != files.recording.tree.entries[path].mode:
-        files.recording.add(Chmod(path, mode & PERMISSIONS))
+        node.has_new_rights = files.recording.add(Chmod(path, mode & PERMISSIONS))
 
 
 def on_chown(files: LiveFiles, process: Process, call: Call) -> None:
@@ -59,13 +59,13 @@ def on_fchownat(files: LiveFiles, process: Process, call: Call) -> None:
 
 def set_owner(files: LiveFiles, node: Optional[Node], user: str, group: str) -> None:
     path = path_in_trace(node)
-    if path is None:
+    if node is None or path is None:
         return
     entry = files.recording.tree.entries[path]
     owner = entry.owner if user in UNCHANGED else user_name(integer(user))
     owning_group = entry.group if group in UNCHANGED else group_name(integer(group))
     if (owner, owning_group) != (entry.owner, entry.group):
-        files.recording.add(Chown(path, owner, owning_group))
+        node.has_new_rights = files.recording.add(Chown(path, owner, owning_group))
 
 
 def path_in_trace(node: Optional[Node]) -> Optional[str]:

@@ -20,6 +20,12 @@ def on_fsync(files: LiveFiles, process: Process, call: Call) -> None:
         files.sync_file(file.node)
 
 
+def on_fdatasync(files: LiveFiles, process: Process, call: Call) -> None:
+    file = files.open_file(process, call)
+    if file is not None and file.node is not None:
+        files.sync_data(file.node)
+
+
 def on_sync(files: LiveFiles, process: Process, call: Call) -> None:
     files.recording.add(Sync())
 
@@ -88,7 +94,7 @@ def on_msync(files: LiveFiles, process: Process, call: Call) -> None:
 
 HANDLERS = {
     'fsync': on_fsync,
-    'fdatasync': on_fsync,
+    'fdatasync': on_fdatasync,
     'sync': on_sync,
     'syncfs': on_syncfs,
     'sync_file_range': on_sync_file_range,
