@@ -42,7 +42,7 @@ def options_of_tool(command: str) -> List[Option]:
 
 
 def help_of(action: argparse.Action) -> str:
-    """The first sentence of an option's help, without what stands in brackets: that may be of this
+    """The first sentence of an option's help, without what is in brackets, which may be of this
     machine."""
     text = ' '.join((action.help or '').split()) % {**vars(action), 'prog': ''}
     return re.split(r'; |\. |: ', re.sub(r' \([^)]*\)', '', text))[0].rstrip('.')

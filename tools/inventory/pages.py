@@ -1,4 +1,4 @@
-"""The parts of pages that are made from the sources, and where each stands."""
+"""The parts of pages that are made from the sources, and the page of each."""
 
 from __future__ import annotations
 

@@ -83,7 +83,7 @@ class Tally:
             self.fail(f'status {status}')
 
     def end(self) -> int:
-        """Prints what all came to, and gives the command's status."""
+        """Prints which rows are past and what isn't built, and returns the command's status."""
         for row in self.past:
             print(f'past: {row}')
         lacking = f'; not built: {", ".join(self.lacking)}' if self.lacking else ''

@@ -45,7 +45,7 @@ def file_of(path: str) -> Item:
 
 
 def tools() -> Items:
-    """The two commands with their package; a link in bin/ stands for each."""
+    """The two commands with their package; bin/ has a link to each."""
     items = {
         f'{LIBRARY}/{path[len("tools/"):]}': file_of(path)
         for path in tracked('tools/crashfs_tools')

@@ -4,7 +4,6 @@ from __future__ import annotations
 
 import hashlib
 import json
-import re
 from dataclasses import dataclass
 from datetime import datetime, timezone
 from pathlib import Path
@@ -13,7 +12,6 @@ from typing import Dict, List, Set
 NOT_RUN = 'the gate was not run'
 BUILT = 'as tools/build left it, which builds only what is proved'
 GIVEN = 'given by --objects; nothing here says that it was proved'
-LAST_LINE = re.compile(r'\d+ passed, \d+ failed\b.*')
 
 
 @dataclass(frozen=True)
@@ -33,14 +31,6 @@ class Made:
     def time(self) -> str:
         moment = datetime.fromtimestamp(self.seconds, timezone.utc)
         return moment.strftime('%Y-%m-%dT%H:%M:%SZ')
-
-
-def last_line_of_gate(said: str) -> str:
-    """The last line of what `.ci/run` printed that counts what passed."""
-    lines = [line.strip() for line in said.splitlines() if LAST_LINE.fullmatch(line.strip())]
-    if not lines:
-        raise ValueError('no line "N passed, M failed" in what the gate printed')
-    return lines[-1]
 
 
 def sha256_of(path: Path) -> str:
@@ -81,7 +71,7 @@ def dependencies(crates: str) -> Dict[str, List[str]]:
 
 
 def linked_by(program: str, crates: str) -> Set[str]:
-    """The crates that the program stands on, the kit's among them."""
+    """The crates that the program uses, directly or not, with those of the kit."""
     below, found, left = dependencies(crates), set(), [program]
     while left:
         for name in below.get(left.pop(), []):

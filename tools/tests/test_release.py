@@ -16,7 +16,7 @@ import unittest
 from functools import lru_cache
 from importlib.machinery import SourceFileLoader
 from pathlib import Path
-from typing import Any, Dict, List, Set, Tuple
+from typing import Any, Dict, Set
 
 from crashfs_tools import VERSION
 from releasing.archives import control_of, for_debian, write_package, write_tarball
@@ -29,7 +29,6 @@ from releasing.statements import (
     attestation,
     built_module,
     checksums,
-    last_line_of_gate,
     linked_by,
     spdx,
 )
@@ -83,18 +82,6 @@ def packages_of(text: str) -> Dict[str, str]:
 
 
 class Statements(InFolder):
-    def test_the_gate_s_last_count_is_taken(self) -> None:
-        rows: List[Tuple[str, str]] = [
-            ('1 passed, 1 failed\nrt: ok\n3 passed, 0 failed\n', '3 passed, 0 failed'),
-            ('  12 passed, 0 failed (4 kept)  \n\n', '12 passed, 0 failed (4 kept)'),
-            ('3 passed, 0 failed\nthen 4 passed, 0 failed\n', '3 passed, 0 failed'),
-        ]
-        for said, line in rows:
-            self.assertEqual(last_line_of_gate(said), line)
-        for said in ('', 'rt: ok\n', 'no 3 passed, 0 failed\n'):
-            with self.assertRaisesRegex(ValueError, 'no line "N passed, M failed"'):
-                last_line_of_gate(said)
-
     def test_the_attestation_has_the_checksums_of_what_was_linked(self) -> None:
         text = attestation(MADE, b'object', PROGRAM)
         fields = dict(line.split(': ', 1) for line in text.splitlines())

@@ -20,7 +20,7 @@ from crashfs_tools.common.command import TEXT, Refused
 from crashfs_tools.common.guard import Guard, Stopped, TimeUp, time_limit
 from crashfs_tools.common.program import Crashfs
 from crashfs_tools.common.trace_lines import operation_lines
-from crashfs_tools.common.trace_text import told_texts
+from crashfs_tools.common.trace_text import acknowledged_texts
 
 from .options import Options
 
@@ -63,7 +63,7 @@ class Checking:
     @cached_property
     def says(self) -> Says:
         """Asked for only when the program has taken the trace."""
-        return Says(told_texts(self.text), self.guard.directory)
+        return Says(acknowledged_texts(self.text), self.guard.directory)
 
     def trying(self, planned: Planned) -> Trying:
         return Trying(self.options, planned, self.program, self.guard, self.says, self.progress)

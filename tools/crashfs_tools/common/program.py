@@ -34,10 +34,10 @@ TOO_LARGE = ('plan too large', 'too many micro-operations')
 class ProgramFault(Exception):
     """`crashfs` refused what it was asked: its status, and its line."""
 
-    def __init__(self, status: int, told: bytes) -> None:
-        self.text = told.decode('utf-8', 'replace').strip()
+    def __init__(self, status: int, error_text: bytes) -> None:
+        self.text = error_text.decode('utf-8', 'replace').strip()
         lines = self.text.splitlines()
-        # A command line parser has its usage behind its first line.
+        # A command line parser prints its usage after its first line.
         line = lines[0 if status == UNKNOWN_OPTION else -1] if lines else f'crashfs {ended(status)}'
         super().__init__(line)
         self.status = status
@@ -82,9 +82,9 @@ class Crashfs:
     def text(self, words: List[str], environment: Optional[Dict[str, str]] = None) -> str:
         """What a command prints; ProgramFault where its status isn't 0."""
         child = self.start(words, environment)
-        out, told = child.communicate()
+        out, error_text = child.communicate()
         if child.returncode != 0:
-            raise ProgramFault(child.returncode, told)
+            raise ProgramFault(child.returncode, error_text)
         return out.decode('utf-8', 'surrogateescape')
 
     def start(
@@ -100,8 +100,8 @@ class Crashfs:
                 env=environment,
             )
         except OSError as error:
-            told = f'{self.path}: {error.strerror}'
-            raise ProgramFault(NOT_STARTED, told.encode()) from error
+            error_text = f'{self.path}: {error.strerror}'
+            raise ProgramFault(NOT_STARTED, error_text.encode()) from error
 
     @contextmanager
     def archive(
@@ -123,11 +123,11 @@ class Crashfs:
             raise
         else:
             fault = None
-        told = read_to_end(child)
+        error_text = read_to_end(child)
         if child.returncode != 0 or fault is not None:
             how = f'crashfs tar {ended(child.returncode)}'
             raise ProgramFault(
-                child.returncode, told or (f'{how}; {fault}' if fault else how).encode()
+                child.returncode, error_text or (f'{how}; {fault}' if fault else how).encode()
             )
 
     def states(self, trace: str, holes: bool = True) -> int:
@@ -166,11 +166,11 @@ def read_to_end(child: subprocess.Popen[bytes]) -> bytes:
     assert child.stdout is not None and child.stderr is not None
     while child.stdout.read(PIECE_BYTES):
         pass
-    told = child.stderr.read()
+    error_text = child.stderr.read()
     child.stdout.close()
     child.stderr.close()
     child.wait()
-    return told
+    return error_text
 
 
 def is_too_large(fault: Exception) -> bool:

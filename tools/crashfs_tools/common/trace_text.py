@@ -6,7 +6,7 @@ import json
 from typing import List
 
 
-def told_texts(text: str) -> List[str]:
+def acknowledged_texts(text: str) -> List[str]:
     """The texts of all `say` lines."""
     lines = [json.loads(line) for line in text.split('\n') if line.strip(' \t\r')]
     return [fields['text'] for fields in lines if fields.get('op') == 'say']

@@ -1,4 +1,4 @@
-"""The tree that a trace tells, operation by operation: what each needs, and what it does."""
+"""The tree under the operations of a trace: what each operation needs, and what it does."""
 
 from __future__ import annotations
 
