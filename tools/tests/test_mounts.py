@@ -201,7 +201,6 @@ class Stops(InMounts):
         child.kill()
         child.communicate(timeout=PATIENCE)
         self.wait_until(lambda: os.listdir(self.temporary) == [], 'nothing left')
-        self.assertIn('umount -l ', self.read('mounts.log'))
         self.assert_unmounted()
 
 

@@ -13,6 +13,9 @@ from .support import FAKE, PATIENCE, TOOLS, InFolder
 from .test_check_command import InStore
 
 
+FLOOD = 'it printed more than 16 MB'
+
+
 class InRuns(InFolder):
     def checker(self, script: str, **more) -> Checker:
         os.makedirs(self.path('state'), exist_ok=True)
@@ -49,6 +52,16 @@ class Runs(InRuns):
             outcome = self.run_once(script)
             self.assertEqual((outcome.result, outcome.cause), (result, cause), script)
         self.assertEqual(sorted(os.listdir(self.folder)), ['state', 'tmp'])
+
+    def test_what_is_printed_has_a_limit_and_its_end_is_kept(self):
+        for script, outcome in [
+            ('yes | head -c 16777216; echo; echo end; exit 1', (NO_ANSWER, FLOOD)),
+            ('yes', (NO_ANSWER, FLOOD)),
+            ('yes | head -c 3000000; echo; echo end; exit 1', (BAD, 'end')),
+            ('exec >&- 2>&-; sleep 0.1; exit 7', (BAD, 'status 7')),
+        ]:
+            with self.subTest(script):
+                self.assertEqual(self.run_once(script)[:2], outcome)
 
     def test_without_descriptors_of_processes_it_is_the_same(self):
         with mock.patch('os.pidfd_open', side_effect=OSError):

@@ -15,7 +15,7 @@ from crashfs_tools.common.command import (
     folder_of,
     found,
     standard_output,
-    tell,
+    print_line,
     write_whole,
 )
 from crashfs_tools.common.guard import Guard, Stopped, stop_by_exception
@@ -98,12 +98,12 @@ def main(arguments: Optional[List[str]] = None) -> int:
     try:
         return check(options)
     except Stopped as stopped:
-        tell(NAME, f'stopped by {stopped}')
+        print_line(NAME, f'stopped by {stopped}')
         return stopped.status
     except (Refused, PlanError) as refused:
         for line in str(refused).split('\n'):
-            tell(NAME, line)
+            print_line(NAME, line)
         return BAD_INPUT
     except OSError as error:
-        tell(NAME, f'{error.filename or tempfile.gettempdir()}: {error.strerror}')
+        print_line(NAME, f'{error.filename or tempfile.gettempdir()}: {error.strerror}')
         return NOT_ALL_TRIED

@@ -13,7 +13,7 @@ from crashfs_tools.checker.running.runner import BAD, GOOD, NO_ANSWER
 from crashfs_tools.checker.running.trying import Trying
 from crashfs_tools.checker.states.plan import State
 from crashfs_tools.common.command import TEXT, Refused, standard_output
-from crashfs_tools.common.guard import remove_tree
+from crashfs_tools.common.removal import remove_tree
 
 from .checking import Checking
 

@@ -57,7 +57,7 @@ def print_shown(program: str, text: str) -> None:
         with standard_output():
             print(text, end='')
     except OSError as error:
-        tell(program, f'{error.filename}: {error.strerror}')
+        print_line(program, f'{error.filename}: {error.strerror}')
         raise SystemExit(NOT_PRINTED) from error
 
 
@@ -157,6 +157,6 @@ def ended(status: int) -> str:
         return f'was ended by signal {-status}'
 
 
-def tell(program: str, text: str) -> None:
+def print_line(program: str, text: str) -> None:
     """One line on standard error."""
     print(f'{program}: {text}', file=sys.stderr, flush=True)

@@ -1,17 +1,15 @@
 """A temporary directory and processes that are gone when a run ends, whatever ends it.
 
 A second process waits for the end of the first, also by a kill. It then ends every process that
-still has the run's token in its environment, unmounts what is mounted in the directory's own folder
-for mounts, and removes the directory. The first one is a reaper: what it started, and what came of
+still has the run's token in its environment, unmounts what is mounted below the directory, and
+removes the directory. The first one is a reaper: what it started, and what came of
 that, it ends itself. A run within another one keeps the tokens of both.
 """
 
 from __future__ import annotations
 
 import os
-import shutil
 import signal
-import subprocess
 import tempfile
 import time
 from contextlib import contextmanager
@@ -19,6 +17,9 @@ from types import TracebackType
 from typing import Dict, Iterable, Iterator, Mapping, Optional, Set, Tuple, Type
 
 from . import descendants
+from .command import print_line
+from .mount_table import MountTable
+from .removal import LEFT, remove_tree
 
 VARIABLE = 'CRASHFS_GUARD'
 STOPS = (signal.SIGINT, signal.SIGTERM, signal.SIGHUP)
@@ -37,7 +38,7 @@ class Guard:
 
     def __enter__(self) -> Guard:
         try:
-            self.directory = tempfile.mkdtemp(prefix=self.prefix)
+            self.directory = os.path.realpath(tempfile.mkdtemp(prefix=self.prefix))
         except OSError as error:
             # Where no place for temporary files can be written, the error has no name.
             name = error.filename or 'temporary files'
@@ -88,6 +89,9 @@ class Guard:
     ) -> None:
         os.close(self.alive)
         os.waitpid(self.watcher, 0)
+        for path in (self.directory, self.directory + LEFT):
+            if os.path.lexists(path):
+                print_line(self.prefix.rstrip('-'), f'{path} could not be removed')
 
     def watch(self, waiting: int) -> None:
         """The second process: it never returns."""
@@ -101,8 +105,9 @@ class Guard:
                 os.dup2(nothing, stream)
             os.read(waiting, 1)
             end_bearers(self.token)
-            if unmount_all(mount_folder(self.directory)):
-                remove_tree(self.directory)
+            table = MountTable()
+            table.unmount(table.below(self.directory))
+            remove_tree(self.directory)
         finally:
             os._exit(0)
 
@@ -150,69 +155,6 @@ def end_bearers(token: str) -> None:
             if is_late or descendants.name_of(process) != descendants.CLEANER:
                 descendants.attempt(os.kill, process)
         time.sleep(0.01)
-
-
-def mount_folder(directory: str) -> str:
-    """The folder below a guard's directory in which all mounts stand."""
-    return os.path.join(directory, 'mounts')
-
-
-def unmount_all(folder: str) -> bool:
-    """Unmounts, also what is in use, and tells whether nothing stays mounted: what is below a
-    mount is none of the directory's, and isn't to be removed with it."""
-    if not os.path.isdir(folder):
-        return True
-    with os.scandir(folder) as entries:
-        paths = [entry.path for entry in entries if not entry.name.endswith('.out')]
-    for path in paths:
-        try:
-            subprocess.run(
-                ['umount', '-l', path],
-                stdin=subprocess.DEVNULL,
-                stdout=subprocess.DEVNULL,
-                stderr=subprocess.DEVNULL,
-                check=False,
-            )
-        except OSError:
-            break
-    return not any(map(os.path.ismount, paths))
-
-
-def remove_tree(path: str) -> None:
-    """Removes a directory, also where modes forbid it."""
-    try:
-        remove_plain(path)
-    except OSError:
-        open_up(path)
-        shutil.rmtree(path, ignore_errors=True)
-
-
-def remove_plain(path: str, at: Optional[int] = None) -> None:
-    """Removes a directory whose modes allow it, in fewer calls than `shutil.rmtree` makes."""
-    below = os.open(path, os.O_RDONLY | os.O_DIRECTORY | os.O_NOFOLLOW | os.O_CLOEXEC, dir_fd=at)
-    try:
-        with os.scandir(below) as entries:
-            found = [(entry.name, entry.is_dir(follow_symlinks=False)) for entry in entries]
-        for name, is_directory in found:
-            if is_directory:
-                remove_plain(name, below)
-            else:
-                os.unlink(name, dir_fd=below)
-    finally:
-        os.close(below)
-    os.rmdir(path, dir_fd=at)
-
-
-def open_up(path: str) -> None:
-    """Gives every directory the modes that its removal needs."""
-    try:
-        os.chmod(path, 0o700)
-        with os.scandir(path) as entries:
-            below = [entry.path for entry in entries if entry.is_dir(follow_symlinks=False)]
-    except OSError:
-        return
-    for directory in below:
-        open_up(directory)
 
 
 class Stopped(Exception):

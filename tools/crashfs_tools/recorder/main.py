@@ -8,7 +8,7 @@ import sys
 from dataclasses import dataclass
 from typing import List, Optional, Tuple
 
-from crashfs_tools.common.command import Refused, tell, write_whole
+from crashfs_tools.common.command import Refused, print_line, write_whole
 from crashfs_tools.common.guard import Guard, Stopped, stop_by_exception
 from crashfs_tools.common.program import Crashfs
 from crashfs_tools.common.trace import Say
@@ -116,8 +116,8 @@ def record(options: RecordOptions) -> int:
         how = summary.compare(options, recording, before, found)
     begins = [BEGINS] if recording.begins_later else []
     for line in found.lines + found.notes + begins:
-        tell(NAME, line)
-    tell(NAME, summary.summary(options, recording, how))
+        print_line(NAME, line)
+    print_line(NAME, summary.summary(options, recording, how))
     return found.status
 
 
@@ -148,12 +148,12 @@ def main(arguments: Optional[List[str]] = None) -> int:
     try:
         return record(options)
     except Stopped as stopped:
-        tell(NAME, f'stopped by {stopped}; nothing is written')
+        print_line(NAME, f'stopped by {stopped}; nothing is written')
         return stopped.status
     except (Refused, LogError) as refused:
-        tell(NAME, f'{refused}')
+        print_line(NAME, f'{refused}')
     except OSError as error:
-        tell(NAME, f'{error.filename or options.out}: {error.strerror}; no trace is written')
+        print_line(NAME, f'{error.filename or options.out}: {error.strerror}; no trace is written')
     except subprocess.SubprocessError as error:
-        tell(NAME, f'{error}')
+        print_line(NAME, f'{error}')
     return NOTHING

@@ -7,7 +7,7 @@ import threading
 from types import TracebackType
 from typing import Callable, Optional, Type
 
-from crashfs_tools.common.command import tell
+from crashfs_tools.common.command import print_line
 
 SECONDS = 5.0
 
@@ -27,7 +27,7 @@ class CallProgress:
 
     def run(self) -> None:
         while not self.ended.wait(self.seconds):
-            tell(
+            print_line(
                 self.program,
                 f'{self.count():,} calls so far; Ctrl-C ends COMMAND, and the trace ' 'is written',
             )

@@ -5,7 +5,6 @@ from __future__ import annotations
 
 import json
 import os
-import shutil
 import subprocess
 import sys
 from typing import Iterator, List, Optional, Set, Tuple
@@ -17,6 +16,7 @@ from crashfs_tools.checker.states.plan import Before, Planned, State
 from crashfs_tools.checker.states.planning import Planner, TooLarge
 from crashfs_tools.common.command import TEXT, Refused
 from crashfs_tools.common.program import LIBRARY
+from crashfs_tools.common.removal import remove_tree
 from crashfs_tools.common.trace_lines import operation_lines, without_numbers
 
 from .groups import Findings, Group
@@ -48,7 +48,7 @@ class Recorder:
         ((_, directory),) = self.trying.archive(folder).states({state.number})
         trace = os.path.join(folder, f'recovery-{state.number}.trace')
         self.record(state, directory, trace)
-        shutil.rmtree(directory, ignore_errors=True)
+        remove_tree(directory)
         with open(trace, **TEXT) as file:
             text = without_says(file.read())
         with open(trace, 'w', **TEXT) as file:

@@ -8,24 +8,26 @@ import select
 import signal
 import time
 from dataclasses import dataclass, field
+from enum import Enum
 from functools import cached_property
 from itertools import accumulate
 from typing import Callable, Dict, List, NamedTuple, Optional, Set
 
 from crashfs_tools.common import descendants
 from crashfs_tools.common.command import Refused, ended
+from crashfs_tools.common.mount_table import MountTable
 from crashfs_tools.common.program import last_line
 from crashfs_tools.common.trace_lines import without_numbers
 
+from .output import MOST_BYTES, Output
+
 GOOD, BAD, NO_ANSWER = 'good', 'bad', 'no answer'
-TAIL_BYTES = 65_536
 CAUSE_LETTERS = 200
 OUTPUT_LETTERS = 2_000
 TURN_SECONDS = 0.5
 # A command that takes longer lets others know what is known so far.
 SLOW_SECONDS = 0.01
 LOOK_SECONDS = 0.002
-NEW_FILE = os.O_RDWR | os.O_CREAT | os.O_EXCL | os.O_CLOEXEC
 # The signals that Python ignores, and that a command has as usual.
 IGNORED = (signal.SIGPIPE, signal.SIGXFSZ)
 
@@ -87,6 +89,15 @@ class Over(Exception):
     """The check is over: the command that ran was ended."""
 
 
+class End(Enum):
+    """Why a command runs no more: by itself, or because it was killed."""
+
+    EXITED = 'exited'
+    LATE = 'late'
+    FLOODED = 'flooded'
+    KILLED = 'killed'
+
+
 def nothing() -> None:
     pass
 
@@ -125,37 +136,43 @@ class Checker:
             poll.register(self.life, select.POLLIN)
         return poll
 
+    @cached_property
+    def mounts(self) -> MountTable:
+        return MountTable()
+
     def run(self, state: int, says: int, directory: str) -> Outcome:
-        """Runs the command in a state's directory, and ends all that it leaves running. If that
-        can't be ended, neither this state nor a later one has an answer."""
+        """Runs the command in a state's directory, and ends all that it leaves running or mounted.
+        If a process can't be ended, neither this state nor a later one has an answer."""
         if self.left and self.end_left(descendants.children() - set(self.left)):
-            return self.left_outcome()
-        before = descendants.children()
-        output = os.open(f'{directory}.out', NEW_FILE, 0o600)
+            return self.process_outcome()
+        before, mounted = descendants.children(), self.mounts.below(directory)
+        environment = {
+            **self.whole_environment,
+            b'CRASHFS_STATE': b'%d' % state,
+            b'CRASHFS_SAYS': b'%d' % says,
+        }
+        output = Output()
         try:
-            os.unlink(f'{directory}.out')
-            environment = {
-                **self.whole_environment,
-                b'CRASHFS_STATE': b'%d' % state,
-                b'CRASHFS_SAYS': b'%d' % says,
-            }
             process = self.start(directory, environment, self.says.path(says), output)
-            has_ended = False
+            end = End.KILLED
             try:
-                has_ended = self.wait(process)
+                end = self.wait(process, output)
             finally:
                 # Until it is waited for, no other group has its number.
                 end_group(process)
                 status = os.waitstatus_to_exitcode(os.waitpid(process, 0)[1])
                 self.end_left(before, descendants.ENDING_SECONDS)
+                stays = self.unmount(directory, set(mounted))
             if self.left:
-                return self.left_outcome()
-            if has_ended and status == 0:
+                return self.process_outcome()
+            if stays:
+                return Outcome(NO_ANSWER, f'a mount that it left can not be unmounted: {stays[0]}')
+            if end is End.EXITED and status == 0:
                 return GOOD_OUTCOME
-            printed = tail(output).replace(os.fsencode(directory), b'.')
-            return self.outcome(status if has_ended else None, printed.decode('utf-8', 'replace'))
+            printed = output.tail().replace(os.fsencode(directory), b'.')
+            return self.outcome(end, status, printed.decode('utf-8', 'replace'))
         finally:
-            os.close(output)
+            output.close()
 
     def end_left(self, before: Set[int], seconds: float = 0) -> Dict[int, str]:
         """Ends the children that weren't there before; returns those that can't be ended."""
@@ -163,12 +180,20 @@ class Checker:
         self.left = descendants.end_children(before, seconds)
         return self.left
 
-    def left_outcome(self) -> Outcome:
+    def process_outcome(self) -> Outcome:
         return Outcome(
             NO_ANSWER, f'a process that it left could not be ended: {descendants.shown(self.left)}'
         )
 
-    def start(self, directory: str, environment: Dict[bytes, bytes], told: str, output: int) -> int:
+    def unmount(self, directory: str, before: Set[int]) -> List[str]:
+        """Unmounts what wasn't mounted before; returns what stays, as paths in the directory."""
+        found = self.mounts.below(directory)
+        left = self.mounts.unmount({one: found[one] for one in found if one not in before})
+        return [os.path.relpath(point, directory) for point in left]
+
+    def start(
+        self, directory: str, environment: Dict[bytes, bytes], lines: str, output: Output
+    ) -> int:
         """Starts the command in a session of its own; its directory is this process's meanwhile."""
         here = self.here
         os.chdir(directory)
@@ -180,9 +205,9 @@ class Checker:
                 setsid=True,
                 setsigdef=IGNORED,
                 file_actions=[
-                    (os.POSIX_SPAWN_OPEN, 0, told, os.O_RDONLY, 0),
-                    (os.POSIX_SPAWN_DUP2, output, 1),
-                    (os.POSIX_SPAWN_DUP2, output, 2),
+                    (os.POSIX_SPAWN_OPEN, 0, lines, os.O_RDONLY, 0),
+                    (os.POSIX_SPAWN_DUP2, output.writing, 1),
+                    (os.POSIX_SPAWN_DUP2, output.writing, 2),
                 ],
             )
         except OSError as error:
@@ -191,49 +216,88 @@ class Checker:
             raise Refused(f'{self.command[0]}: {error.strerror}') from error
         finally:
             os.fchdir(here)
+            output.close_writing()
 
-    def wait(self, process: int) -> bool:
-        """Whether the command ends in time; Over if the check does before."""
-        deadline = time.monotonic() + self.timeout
+    def wait(self, process: int, output: Output) -> End:
+        """Waits for the command's end; Over if the check's comes before."""
+        waiting = Waiting(self.poll, process, output)
+        begun = time.monotonic()
+        is_slow = False
         try:
-            descriptor = os.pidfd_open(process)
-        except (AttributeError, OSError):
-            return self.look(process, deadline)
-        self.poll.register(descriptor, select.POLLIN)
-        try:
-            ready = self.poll.poll(min(self.timeout, SLOW_SECONDS) * 1000)
-            if not ready:
-                self.when_slow()
-            left = deadline - time.monotonic()
-            while left > 0 and not ready:
-                ready = self.poll.poll(min(left, TURN_SECONDS) * 1000)
-                left = deadline - time.monotonic()
+            while True:
+                passed = time.monotonic() - begun
+                if passed >= self.timeout:
+                    return End.LATE
+                if not is_slow and passed >= SLOW_SECONDS:
+                    is_slow = True
+                    self.when_slow()
+                left = self.timeout - passed if is_slow else SLOW_SECONDS - passed
+                ready = waiting.wait(min(left, self.timeout - passed, TURN_SECONDS))
+                if self.life in ready:
+                    raise Over
+                if waiting.has_ended(ready):
+                    return End.EXITED
+                if output.is_flood:
+                    return End.FLOODED
         finally:
-            self.poll.unregister(descriptor)
-            os.close(descriptor)
-        if any(one != descriptor for one, _ in ready):
-            raise Over
-        return bool(ready)
+            waiting.close()
 
-    def look(self, process: int, deadline: float) -> bool:
-        """The same on a system that has no descriptors of processes (before Linux 5.3)."""
-        self.when_slow()
-        while time.monotonic() < deadline:
-            if os.waitid(os.P_PID, process, os.WEXITED | os.WNOHANG | os.WNOWAIT):
-                return True
-            if self.poll.poll(LOOK_SECONDS * 1000):
-                raise Over
-        return False
-
-    def outcome(self, status: Optional[int], printed: str) -> Outcome:
+    def outcome(self, end: End, status: int, printed: str) -> Outcome:
         output = printed[-OUTPUT_LETTERS:]
-        if status is None:
+        if end is End.LATE:
             return Outcome(NO_ANSWER, f'it had not ended after {self.timeout:g} seconds', output)
+        if end is End.FLOODED:
+            return Outcome(NO_ANSWER, f'it printed more than {MOST_BYTES >> 20} MB', output)
         how = f'status {status}' if status > 0 else ended(status).replace('was ', '')
         line = last_line(printed)[:CAUSE_LETTERS]
         if status < 0:
             line = f'{how}: {line}' if line else how
         return Outcome(BAD, line or how, output)
+
+
+class Waiting:
+    """Waits for a process or for what it prints, besides what a poll object has already. A system
+    without descriptors of processes (before Linux 5.3) is asked again and again."""
+
+    def __init__(self, poll: select.poll, process: int, output: Output) -> None:
+        self.poll, self.process, self.output = poll, process, output
+        self.descriptor = opened_process(process)
+        self.registered = {output.reading}
+        if self.descriptor is not None:
+            self.registered.add(self.descriptor)
+        for one in self.registered:
+            poll.register(one, select.POLLIN)
+
+    def wait(self, seconds: float) -> Set[Optional[int]]:
+        """What is ready after at most so many seconds; what is printed is read."""
+        if self.descriptor is None:
+            seconds = min(seconds, LOOK_SECONDS)
+        ready: Set[Optional[int]] = {one for one, _ in self.poll.poll(seconds * 1000)}
+        if self.output.reading in ready and not self.output.read():
+            self.unregister(self.output.reading)
+        return ready
+
+    def has_ended(self, ready: Set[Optional[int]]) -> bool:
+        if self.descriptor is not None:
+            return self.descriptor in ready
+        return os.waitid(os.P_PID, self.process, os.WEXITED | os.WNOHANG | os.WNOWAIT) is not None
+
+    def unregister(self, one: int) -> None:
+        self.registered.remove(one)
+        self.poll.unregister(one)
+
+    def close(self) -> None:
+        for one in list(self.registered):
+            self.unregister(one)
+        if self.descriptor is not None:
+            os.close(self.descriptor)
+
+
+def opened_process(process: int) -> Optional[int]:
+    try:
+        return os.pidfd_open(process)
+    except (AttributeError, OSError):
+        return None
 
 
 def keep_descriptors() -> None:
@@ -258,8 +322,3 @@ def end_group(group: int) -> None:
         os.killpg(group, signal.SIGKILL)
     except OSError:
         pass
-
-
-def tail(descriptor: int) -> bytes:
-    size = os.fstat(descriptor).st_size
-    return os.pread(descriptor, TAIL_BYTES, max(0, size - TAIL_BYTES))

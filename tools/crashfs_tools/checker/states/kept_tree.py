@@ -15,15 +15,15 @@ import time
 from typing import Dict, List, Mapping, NamedTuple, Optional, Set, Tuple, Union
 
 from crashfs_tools.common.archive import Member
-from crashfs_tools.common.guard import remove_plain, remove_tree
+from crashfs_tools.common.mount_table import MountTable
+from crashfs_tools.common.removal import FOLDER, LEFT, remove_tree
 
-from .layout import FILLED_MODE, NEW_FILE, write_all
+from .layout import FILLED_MODE, NEW_FILE, unused, write_all
 from .rewriting import rewrite
 
 # File systems that change a file's times with the first store through a new mapping.
 WITH_TIMES = {'ext2', 'ext3', 'ext4', 'xfs', 'f2fs', 'overlay'}
 CHANGED_FILE = os.O_RDWR | os.O_NOFOLLOW | os.O_CLOEXEC
-FOLDER = os.O_RDONLY | os.O_DIRECTORY | os.O_NOFOLLOW | os.O_CLOEXEC
 # The clock that files have their times of; Python has no name for it.
 REALTIME_COARSE = 5
 # No clock of a system has longer ticks.
@@ -45,13 +45,14 @@ class Laid(NamedTuple):
     attributes: List[str]
 
 
-class OtherAttributes(Exception):
-    """A directory has extended attributes that it didn't have."""
+class Unchangeable(Exception):
+    """A directory has what no change can take from it: extended attributes, or a mount."""
 
 
 class KeptTree:
     def __init__(self, directory: str) -> None:
         self.directory = directory
+        self.mounts = MountTable()
         self.is_whole = False
         self.files: Dict[str, Laid] = {}
         # What is there, and the modes of directories that are.
@@ -67,7 +68,7 @@ class KeptTree:
             try:
                 self.change(tree)
                 return
-            except (OSError, OtherAttributes):
+            except (OSError, Unchangeable):
                 pass
         self.remove()
         os.mkdir(self.directory, FILLED_MODE)
@@ -83,11 +84,14 @@ class KeptTree:
         self.started = time.clock_gettime_ns(REALTIME_COARSE)
 
     def remove(self) -> None:
-        if os.path.lexists(self.directory):
-            remove_tree(self.directory)
+        """Removes the directory; what stays of it is beside, and another one takes its place."""
+        if not remove_tree(self.directory):
+            self.directory = unused(self.directory)
         self.is_whole, self.files = False, {}
 
     def change(self, tree: Mapping[str, Member]) -> None:
+        if self.mounts.below(self.directory):
+            raise Unchangeable
         self.there, self.modes = {''}, {}
         umask = os.umask(0)
         try:
@@ -108,7 +112,7 @@ class KeptTree:
     def clear(self, at: int, path: str, tree: Mapping[str, Member]) -> None:
         """Removes what isn't in the tree, or isn't as it was, below a directory."""
         if attributes_of(at) != self.attributes:
-            raise OtherAttributes
+            raise Unchangeable
         with os.scandir(at) as entries:
             found = list(entries)
         for entry in found:
@@ -124,7 +128,8 @@ class KeptTree:
                 else:
                     os.unlink(entry.name, dir_fd=at)
             elif wanted is None or wanted.data is not None:
-                remove_plain(entry.name, at)
+                if not remove_tree(entry.name, at, self.directory + LEFT):
+                    raise Unchangeable
             else:
                 self.clear_directory(at, entry.name, name, status, tree)
 

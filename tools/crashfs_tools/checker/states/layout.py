@@ -9,7 +9,7 @@ from itertools import groupby
 from typing import ContextManager, Dict, Iterable, Iterator, List, Set, Tuple
 
 from crashfs_tools.common.archive import Member
-from crashfs_tools.common.guard import remove_tree
+from crashfs_tools.common.removal import remove_tree
 from crashfs_tools.common.program import Crashfs, ProgramFault
 
 from .plan import Planned
@@ -58,11 +58,16 @@ class Archive(Layout):
                 if number not in left:
                     continue
                 left.remove(number)
-                directory = os.path.join(self.folder, str(number))
+                directory = unused(os.path.join(self.folder, str(number)))
                 lay_out(directory, (one._replace(path=one.path[len(top) + 1 :]) for one in tree))
                 yield number, directory
         if left:
             raise ProgramFault(0, f'crashfs tar wrote no state {min(left)}'.encode())
+
+
+def unused(path: str) -> str:
+    """A path where nothing is: what COMMAND left may be one that can't be removed."""
+    return unused(f'{path}+') if os.path.lexists(path) else path
 
 
 def top_of(member: Member) -> str:

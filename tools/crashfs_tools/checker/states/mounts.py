@@ -9,7 +9,6 @@ from typing import Dict, Iterator, List, Set, Tuple
 
 from crashfs_tools.checker.address import Address
 from crashfs_tools.common.command import Refused
-from crashfs_tools.common.guard import mount_folder
 
 from .layout import Layout
 
@@ -29,7 +28,7 @@ class Mounts(Layout):
         self.address = address
         self.host = address.numeric()
         self.uname = uname
-        self.folder = mount_folder(folder)
+        self.folder = os.path.join(folder, 'mounts')
         self.environment = environment
         self.run = f'check-{os.urandom(8).hex()}'
 
