@@ -14,48 +14,57 @@ TOP = Path(__file__).resolve().parents[2]
 CRATES = TOP / 'crates'
 TEST = re.compile(r'^\s*#\[test\]', re.M)
 RESULT = re.compile(r'^test (\S+) \.\.\. (\w+)$', re.M)
-# `rt try` has the memory of AddressSanitizer, in which no allocation can be made to fail.
-REFUSED = 'it makes allocations fail, which `rt try` has no memory for'
-# Crates that `rt try` can't run at all, and single tests of other crates, each with the reason.
+# These tests take all memory until malloc refuses some; `rt try` has AddressSanitizer's malloc.
+REFUSED = 'they let allocations fail, which only .ci/run can do'
+SLOW = 'it is slower than `rt try` allows; .ci/run has it'
+# What `rt try` can't run: crates, and single tests of other crates, each with the reason.
 LEFT_CRATES = {'cs_growth_tests': REFUSED}
 LEFT_TESTS = {
     'cs_run_tests': {'tests::endings::refused_removal_of_the_largest_file_leaves_it': REFUSED},
-    'cs_trace_tests': {
-        'tests::start_lines::a_file_has_at_most_16777216_bytes': 'it is slower than `rt try` allows'
-    },
+    'cs_trace_tests': {'tests::start_lines::a_file_has_at_most_16777216_bytes': SLOW},
 }
 
 
 class Crate(NamedTuple):
-    """A crate with tests: how many it has, and how many lines."""
+    """A crate with tests: how many it has, how many lines, and what of it is left to the gate."""
 
     name: str
     tests: int
     lines: int
+    left: Dict[str, str] = {}
 
 
 def crates_with_tests() -> List[Crate]:
     """The crates that have tests, those with most lines first: they take longest."""
     found = []
     for folder in sorted(CRATES.iterdir()):
-        texts = [path.read_text('utf-8') for path in sorted((folder / 'src').rglob('*.rt'))]
-        tests = sum(len(TEST.findall(text)) for text in texts)
+        text = ''.join(path.read_text('utf-8') for path in sorted((folder / 'src').rglob('*.rt')))
+        tests = len(TEST.findall(text))
         if tests:
-            found.append(Crate(folder.name, tests, sum(text.count('\n') for text in texts)))
+            known = LEFT_TESTS.get(folder.name, {})
+            left = {name: why for name, why in known.items() if function_of(name) in text}
+            found.append(Crate(folder.name, tests, text.count('\n'), left))
     return sorted(found, key=lambda crate: -crate.lines)
+
+
+def function_of(test: str) -> str:
+    """How a test's function begins, by the test's name."""
+    return f'fn {test.rpartition("::")[2]}('
 
 
 def outcome_of(crate: Crate, printed: str) -> Outcome:
     """What `rt try --test` printed of a crate. A test that it doesn't name counts as failed, unless
-    it is one that can't be run there."""
+    it is one that is left to the gate."""
     results = dict(RESULT.findall(printed))
-    known: Dict[str, str] = LEFT_TESTS.get(crate.name, {})
     passed = sum(word == 'ok' for word in results.values())
     left = [
-        f'{name} of {crate.name}: {why}' for name, why in known.items() if results.get(name) != 'ok'
+        f'{name} of {crate.name}: {why}'
+        for name, why in crate.left.items()
+        if results.get(name) != 'ok'
     ]
     failed = max(0, crate.tests - passed - len(left))
-    output = without_passed(printed) if failed else ''
+    head = f'{crate.name}: results of {len(results)} of {crate.tests} tests\n'
+    output = head + without_passed(printed) if failed else ''
     return Outcome(crate.name, passed, failed, left=left, output=output)
 
 

@@ -9,9 +9,11 @@ import sys
 from functools import partial
 from typing import Dict, Iterator, List
 
+from crashfs_tools.common.program import Crashfs
+
 from .at_once import Part, gigabytes_available, outcomes, places
 from .crates import LEFT_CRATES, crates_with_tests, try_tests
-from .examples import try_examples
+from .examples import scripts, try_examples, try_scripts
 from .outcome import Outcome
 from .tools_tests import try_tools
 
@@ -22,12 +24,17 @@ memory for. It prints a line for each part, then what it could not run, and last
 `N passed, M failed`. Status 0 means that no test failed."""
 
 
-def parts_of_crates() -> Dict[str, Part]:
-    return {
+def parts_with_rt() -> Dict[str, Part]:
+    """The crates, and the scripts of the examples if no program is built."""
+    parts: Dict[str, Part] = {
         crate.name: partial(try_tests, crate)
         for crate in crates_with_tests()
         if crate.name not in LEFT_CRATES
     }
+    if Crashfs.find(None) is None:
+        for files, names in scripts().items():
+            parts[f'scripts over {files.trace}'] = partial(try_scripts, files, names)
+    return parts
 
 
 def left_without_rt() -> List[str]:
@@ -37,16 +44,16 @@ def left_without_rt() -> List[str]:
 
 
 def left_with_rt() -> List[str]:
-    """The crates that are left to the gate."""
+    """The crates that only the gate tests."""
     tests = {crate.name: crate.tests for crate in crates_with_tests()}
     return [f'the {tests[name]} tests of {name}: {why}' for name, why in LEFT_CRATES.items()]
 
 
 def all_outcomes(has_rt: bool, count: int) -> Iterator[Outcome]:
     """The tools' tests and the examples first, since they take least, and then the crates."""
-    yield from outcomes({'tools': try_tools, 'examples': try_examples}, 2)
+    yield from outcomes({'tools': try_tools, 'examples': partial(try_examples, has_rt)}, 2)
     if has_rt:
-        yield from outcomes(parts_of_crates(), count)
+        yield from outcomes(parts_with_rt(), count)
 
 
 def main() -> int:
@@ -70,7 +77,7 @@ def main() -> int:
         print(one.line(), flush=True)
         if one.output:
             print(one.output.rstrip('\n'), file=sys.stderr, flush=True)
-    where = 'the gate (.ci/run)' if has_rt else 'the toolchain'
-    print(f'left to {where}: {"; ".join(left)}')
+    for what in left:
+        print(f'not run: {what}')
     print(f'{passed} passed, {failed} failed')
     return 1 if failed else 0

@@ -8,8 +8,8 @@ from typing import List
 
 @dataclass
 class Outcome:
-    """The counts of a part of the tests. left names tests that can't be run here, with the reason;
-    output is printed if some failed."""
+    """The counts of a part of the tests. left says which tests were not run, and
+    why; output is what to print of those that failed."""
 
     name: str
     passed: int = 0
@@ -23,6 +23,4 @@ class Outcome:
         """One line, such as `cs_tar: 3 passed, 24 s`."""
         counts = [(self.passed, 'passed'), (self.failed, 'FAILED'), (self.skipped, 'skipped')]
         shown = [f'{count} {word}' for count, word in counts if count or word == 'passed']
-        if self.left:
-            shown.append(f'{len(self.left)} left to the gate')
         return f'{self.name}: {", ".join(shown)}, {self.seconds:.0f} s'

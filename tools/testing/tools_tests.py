@@ -26,8 +26,11 @@ def outcome_of(printed: str, status: int) -> Outcome:
     if ran is None or (status != 0 and failed == 0):
         failed = max(failed, 1)
     passed = max(0, int(ran[1]) - failed - skipped) if ran else 0
-    output = printed if failed else '\n'.join(sorted(set(SKIPPED.findall(printed))))
-    return Outcome('tools', passed, failed, skipped, output=output)
+    outcome = Outcome('tools', passed, failed, skipped, output=printed if failed else '')
+    if skipped:
+        reasons = '; '.join(sorted(set(SKIPPED.findall(printed))))
+        outcome.left.append(f'{skipped} tests of the tools: {reasons}')
+    return outcome
 
 
 def try_tools() -> Outcome:

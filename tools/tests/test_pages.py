@@ -20,7 +20,7 @@ UNPROVED = re.compile(r'^unproved: .*\n', re.M)
 # Commands of the README that no test runs, with the reason.
 NOT_RUN = {
     'apt-get install git python3 strace': 'it needs root and a network',
-    'python3 -m unittest discover -s tools -t tools': 'it runs these tests',
+    'tools/test': 'it runs these tests',
     'tools/build': 'it needs the toolchain, and 150 minutes of processor time',
     'PATH="$PWD/crates/crashfs/out:$PATH"': 'it needs the proved program',
     'sleep infinity | crashfs serve examples/start.trace --users examples/users '
