@@ -14,6 +14,8 @@ from .test_record_command import InRecordings
 
 # The call that signals one thread.
 TGKILL = 234
+# A process of its own session that has nothing in its environment.
+UNMARKED = """setsid env -i sh -c 'echo $$ > ../pid; exec sleep 300'"""
 
 
 @needs_strace
@@ -90,6 +92,26 @@ class Stops(InRecordings):
         self.assertEqual(child.returncode, 3)
         self.assertIn('COMMAND was ended by SIGKILL', err)
         self.assert_gone(pid)
+
+    def test_a_stop_reaches_a_command_that_drops_its_environment(self):
+        child = self.start(
+            'crashfs-record', '--no-say', 'd', 'out.trace', '--', 'sh', '-c', f'exec {UNMARKED}'
+        )
+        pid = self.pid_of('pid', child)
+        child.terminate()
+        _, err = child.communicate(timeout=PATIENCE)
+        self.assertEqual(child.returncode, 0, err)
+        self.assertFalse(os.path.exists(f'/proc/{pid}'))
+
+    def test_what_strace_does_not_follow_is_ended_too(self):
+        script = f'{UNMARKED} & until test -s ../pid; do :; done; kill -9 $PPID; wait'
+        child = self.start('crashfs-record', '--no-say', 'd', 'out.trace', '--', 'sh', '-c', script)
+        pid = self.pid_of('pid', child)
+        _, err = child.communicate(timeout=PATIENCE)
+        self.assertEqual(child.returncode, 1, err)
+        self.assertIn("strace's log ends before COMMAND did", err)
+        self.assertFalse(os.path.exists(f'/proc/{pid}'))
+        self.assert_nothing_left()
 
     def test_a_kill_leaves_nothing(self):
         child = self.start(

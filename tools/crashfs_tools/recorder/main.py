@@ -8,6 +8,7 @@ import sys
 from dataclasses import dataclass
 from typing import List, Optional, Tuple
 
+from crashfs_tools.common import descendants
 from crashfs_tools.common.command import Refused, print_line, write_whole
 from crashfs_tools.common.guard import Guard, Stopped, stop_by_exception
 from crashfs_tools.common.program import Crashfs
@@ -32,14 +33,15 @@ BEGINS = 'it begins after an acknowledged line: what was not yet synced then cou
 
 @dataclass
 class RecordedRun:
-    """The results of a run of COMMAND: strace's log, the copies of mapped files, its status, and
-    the signals that were passed on to it."""
+    """The results of a run of COMMAND: strace's log, the copies of mapped files, its status, the
+    signals that were passed to it, and the processes that could not be ended."""
 
     log: Log
     copies: Optional[FileCopies] = None
     status: int = 0
     stops: Tuple[int, ...] = ()
     output: Optional[str] = None
+    left: str = ''
 
 
 def run_command(options: RecordOptions, guard: Guard) -> RecordedRun:
@@ -48,7 +50,10 @@ def run_command(options: RecordOptions, guard: Guard) -> RecordedRun:
     stream = LogStream(guard.directory, options.keep_log, mapped)
     line = strace_run.command_line(strace, stream.pipe, options)
     running = strace_run.StraceRun(line, options, stream, guard)
-    status = running.run()
+    try:
+        status = running.run()
+    finally:
+        left = guard.end_processes()
     log = stream.end()
     if log.first is None:
         raise Refused('strace recorded nothing (it may not trace here: see its message)')
@@ -57,7 +62,12 @@ def run_command(options: RecordOptions, guard: Guard) -> RecordedRun:
     if not log.has_begun:
         raise Refused(f'{options.command[0]} could not be started (strace prints why)')
     return RecordedRun(
-        log, mapped.copies if mapped else None, status, tuple(running.stops), running.output
+        log,
+        mapped.copies if mapped else None,
+        status,
+        tuple(running.stops),
+        running.output,
+        descendants.shown(left),
     )
 
 
@@ -124,6 +134,8 @@ def record(options: RecordOptions) -> int:
 def translate(options: RecordOptions, files: LiveFiles, run: RecordedRun) -> None:
     """Translates the log into the recording's operations."""
     recording = files.recording
+    if run.left:
+        recording.report(f'a process that COMMAND left could not be ended: {run.left}', '/')
     recording.streams.set_standard_output(run.output)
     if options.stacks or any(call.frames for call in run.log.calls):
         stacks.note_all(run.log.calls)

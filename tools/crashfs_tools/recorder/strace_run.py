@@ -28,6 +28,8 @@ OLDEST = (5, 18)
 TEXT_BYTES = 1 << 25
 # For so many seconds a second signal is the same stop: `timeout` sends its signal twice.
 SAME_STOP = 1.0
+# So long the recorder waits for output before it looks whether strace has ended.
+IDLE_SECONDS = 0.5
 
 
 def find_strace() -> str:
@@ -111,26 +113,28 @@ class StraceRun:
             self.output = f'pipe:[{os.fstat(child.stdout.fileno()).st_ino}]'
             self.stream.begin()
             with CallProgress(NAME, lambda: len(self.stream.reader.log.calls)):
-                self.pass_output(child.stdout.fileno())
+                self.pass_output(child, child.stdout.fileno())
                 return self.status_of(child)
         finally:
             signal.set_wakeup_fd(-1)
             for number, handler in before.items():
                 signal.signal(number, handler)
 
-    def pass_output(self, source: int) -> None:
-        """Copies a pipe to standard output; if nobody reads that any more, the pipe is still read,
-        so that COMMAND continues. A signal ends the wait, whichever thread takes it."""
+    def pass_output(self, child: subprocess.Popen[bytes], source: int) -> None:
+        """Copies a pipe to standard output until it ends, or until strace has: a process that
+        strace doesn't follow may keep the pipe open. If nobody reads standard output any more, the
+        pipe is still read, so that COMMAND continues. A signal ends the wait, whichever thread
+        takes it."""
         waiting, wake = os.pipe2(os.O_NONBLOCK | os.O_CLOEXEC)
         signal.set_wakeup_fd(wake, warn_on_full_buffer=False)
         while True:
-            seconds = None if self.wanted is None else 0.1
+            seconds = IDLE_SECONDS if self.wanted is None else 0.1
             ready = select.select([source, waiting], [], [], seconds)[0]
             if waiting in ready:
                 os.read(waiting, 64)
             self.send_wanted()
             piece = os.read(source, 65_536) if source in ready else None
-            if piece == b'':
+            if piece == b'' or piece is None and not ready and child.poll() is not None:
                 break
             with standard_output():
                 sys.stdout.buffer.write(piece or b'')
@@ -159,9 +163,10 @@ class StraceRun:
             self.wanted = number
 
     def send_wanted(self) -> None:
-        """Sends COMMAND the signal that is wanted, as soon as it has begun."""
+        """Sends COMMAND the signal that is wanted, as soon as it has begun; a kill again and
+        again, since a process may have just forked."""
         if self.wanted is not None and self.guard.signal(self.wanted, spared=self.strace):
-            self.wanted = None
+            self.wanted = self.wanted if self.wanted == signal.SIGKILL else None
 
 
 def inherited(acknowledged: Sequence[str]) -> List[int]:
