@@ -1,9 +1,9 @@
-//! The first states with equal trees, of the worked trace.
+//! The first states with equal trees, as two calls find them that no command makes.
 ghost use Rattle.std.specs.Prelude.{◌<◌, length};
 ghost use Rattle.std.specs.Arc.{arc_value};
 
 use cs_plan::Scene;
-use cs_same_states::{Parts, are_same_states, are_seen_same, first_same};
+use cs_same_states::{Parts, are_same_states, are_seen_same};
 use cs_trace::read_trace;
 use std::alloc::Global;
 use std::process::Abort;
@@ -83,34 +83,26 @@ fn is_seen(rt: &impl Abort, alloc: Global, scene: &Arc<Scene>, other: u32, numbe
     are_seen_same(alloc, scene, &parts, other, number).expect(rt, "memory")
 }
 
-/// Adds `count` zeros, as a trace spells them.
-fn push_zeros(rt: &impl Abort, text: &mut String, count: u32) {
-    for _ in 0..count {
-        text.push_str("00").expect(rt, "memory");
-    }
-}
-
 const IDLE_HEAD: &str = r#"{"trace":1,"owner":"kv","group":"kv","mode":"750"}
 {"start":"file","path":"/data","owner":"kv","group":"kv","mode":"640","bytes":""#;
 
-/// Adds a write of a zero into each of so many blocks.
-fn push_idle_writes(rt: &impl Abort, text: &mut String, blocks: u32) {
-    for block in 0..blocks {
-        let offset = u64::from(block) * 4096;
-        let written = "{\"op\":\"write\",\"path\":\"/data\",\"bytes\":\"00\",\"offset\":";
-        write!(text, "{written}{offset}}}\n").expect(rt, "memory");
-    }
-}
+/// Writes of a zero into each of eight blocks.
+const IDLE_TAIL: &str = r#""}
+{"op":"write","path":"/data","offset":0,"bytes":"00"}
+{"op":"write","path":"/data","offset":4096,"bytes":"00"}
+{"op":"write","path":"/data","offset":8192,"bytes":"00"}
+{"op":"write","path":"/data","offset":12288,"bytes":"00"}
+{"op":"write","path":"/data","offset":16384,"bytes":"00"}
+{"op":"write","path":"/data","offset":20480,"bytes":"00"}
+{"op":"write","path":"/data","offset":24576,"bytes":"00"}
+{"op":"write","path":"/data","offset":28672,"bytes":"00"}
+"#;
 
-/// A trace of a file of so many blocks of zeros, into each of which a zero is written.
-fn idle_text(rt: &impl Abort, alloc: Global, blocks: u32) -> String {
-    let mut text = String::from_str(alloc, IDLE_HEAD).expect(rt, "memory");
-    for _ in 0..blocks {
-        push_zeros(rt, &mut text, 4096);
-    }
-    text.push_str("\"}\n").expect(rt, "memory");
-    push_idle_writes(rt, &mut text, blocks);
-    text
+/// A file of eight blocks of zeros, into each of which a zero is written.
+fn idle_text(rt: &impl Abort, alloc: Global) -> String {
+    let zeros = "00".repeat(alloc, 32_768).expect(rt, "memory");
+    let pieces = [IDLE_HEAD, zeros.as_str(), IDLE_TAIL];
+    pieces.concat(alloc).expect(rt, "memory")
 }
 
 /// The states of a trace, with holes if they are asked for.
@@ -128,29 +120,27 @@ fn expect_first(rt: &impl Abort, alloc: Global, scene: &Arc<Scene>, number: u32,
     assert!(rt; first_by_trees(rt, alloc, scene, number) == first);
 }
 
-/// Each state has the first of its number, by the digests, without the trees and by whole trees.
+/// Each state has the first of its number, without the trees and by whole trees.
 fn expect_firsts(rt: &impl Abort, alloc: Global, scene: &Arc<Scene>, firsts: &[u32]) {
-    let found = first_same(alloc, scene).expect(rt, "memory");
-    assert!(rt; found.as_slice() == firsts);
+    assert!(rt; scene.plan().len() == firsts.len());
     for number in 0..scene.plan().len() as u32 {
         let first = firsts.get(number as usize).copied().unwrap_or(number);
         expect_first(rt, alloc, scene, number, first);
     }
 }
 
-/// The 26 states of the worked trace: the first states with equal trees, by digests, without the
-/// trees, and by whole trees.
+/// The 26 states of the worked trace: the first states with equal trees, without the trees and by
+/// whole trees.
 #[test]
-fn finds_the_first_states_with_equal_trees(rt: HostRuntime) {
+fn whole_trees_show_the_first_equal_states(rt: HostRuntime) {
     let scene = states_of(&rt, rt.alloc(), STORE, true);
     expect_firsts(&rt, rt.alloc(), &scene, &FIRSTS);
 }
 
 /// Bytes that are written back, a file that is cut and filled again, one that replaces an equal
-/// one, one that is removed, permissions that are set back: the first states with equal trees, by
-/// hand, found in each of these ways.
+/// one, one that is removed, permissions that are set back: the same.
 #[test]
-fn equal_states_are_found_in_each_way(rt: HostRuntime) {
+fn whole_trees_show_what_is_written_back(rt: HostRuntime) {
     let scene = states_of(&rt, rt.alloc(), BACK, false);
     expect_firsts(&rt, rt.alloc(), &scene, &BACK_FIRSTS);
 }
@@ -160,8 +150,8 @@ const ALL_EQUAL: [u32; 37] = [0; 37];
 
 /// A zero is written into each of eight blocks of zeros: all 37 states have the first one's tree.
 #[test]
-fn writes_of_the_bytes_that_are_there_leave_equal_states(rt: HostRuntime) {
-    let text = idle_text(&rt, rt.alloc(), 8);
+fn whole_trees_show_writes_that_change_nothing(rt: HostRuntime) {
+    let text = idle_text(&rt, rt.alloc());
     let scene = states_of(&rt, rt.alloc(), &text, true);
     expect_firsts(&rt, rt.alloc(), &scene, &ALL_EQUAL);
 }
