@@ -9,7 +9,8 @@ from crashfs_tools.checker.report.report import WIDTH, Report
 from crashfs_tools.checker.running.results import Head, Results
 from crashfs_tools.checker.running.runner import BAD, GOOD, Outcome
 from crashfs_tools.checker.states.plan import read_plan
-from crashfs_tools.common.trace_lines import TraceLine, operation_lines, with_syncs, without_numbers
+from crashfs_tools.common.trace_lines import TraceLine, without_numbers
+from crashfs_tools.common.trace_text import read_text, with_syncs
 from crashfs_tools.reading import plan_of, read
 from crashfs_tools.reading.listing import json_listing
 from crashfs_tools.reading.plan import different, file_sets, lost_sets
@@ -52,7 +53,7 @@ def plan_text(text, picks=True):
 
 def findings_of(text, cause):
     """What is found if a state's cause is what a function makes of its files and its lines."""
-    head = Head('a.trace', '', [], lines=operation_lines(text))
+    head = Head('a.trace', '', [], lines=read_text(text).operations)
     results = Results(read_plan(plan_text(text)))
     trees = plan_of(read(text.encode())).trees
     for state in results.plan.states:
@@ -331,11 +332,11 @@ class Texts(unittest.TestCase):
             self.assertEqual(tried.text(syncs), 'tried: ' + wanted)
 
     def test_the_sync_of_a_name_is_one_of_the_directory_that_it_is_in_then(self):
-        lines = operation_lines(
+        lines = read_text(
             line('rename', **{'from': '/d/t', 'to': '/f'})
             + line('unlink', '/d/x')
             + line('chmod', '/d', mode='700')
-        )
+        ).operations
         self.assertEqual([one.synced_by for one in lines.values()], ['/', '/d', '/d'])
 
     def test_syncs_stand_after_their_lines(self):

@@ -6,7 +6,7 @@ import time
 import unittest
 from unittest import mock
 
-from crashfs_tools.checker.running.trying import has_much
+from crashfs_tools.checker.running.trying import has_large_trees
 from crashfs_tools.checker.states import kept_tree
 from crashfs_tools.checker.states.kept_tree import KeptTree
 from crashfs_tools.common.archive import Member
@@ -19,6 +19,12 @@ RIGHTS = '"owner":"u","group":"u","mode"'
 
 def file(text: str, mode: int = 0o644) -> Member:
     return Member('', mode, 'u', 'g', text.encode())
+
+
+def say_of(size: int) -> str:
+    """A line of so many bytes."""
+    line = '{"op":"say","text":""}'
+    return line[:-2] + 'x' * (size - len(line)) + line[-2:]
 
 
 def folder(mode: int = 0o755) -> Member:
@@ -319,10 +325,10 @@ class Checks(InStore):
             (grown % 1_000_000, False),
             (grown % 500_000 * 3, True),
             (grown % 1_048_576, True),
-            ('x' * 1_048_575, False),
-            ('x' * 524_288 + '\n' + 'y' * 524_288, True),
+            (say_of(1_048_575), False),
+            (say_of(524_288) + '\n' + say_of(524_288), True),
         ):
-            self.assertEqual(has_much(self.write('much.trace', text)), expected, text[:99])
+            self.assertEqual(has_large_trees(self.write('much.trace', text)), expected, text[:99])
 
     def test_a_small_tree_is_laid_out_whole(self):
         no_changes = self.write(

@@ -23,8 +23,8 @@ from crashfs_tools.common.trace import (
     Unlink,
     Write,
 )
-from crashfs_tools.common.trace_lines import operation_lines
 from crashfs_tools.common.trace_read import read_trace, replay
+from crashfs_tools.common.trace_text import read_text
 from crashfs_tools.common.tree import Tree
 from crashfs_tools.recorder.comparison import ByProgram, Replayed, differences
 from crashfs_tools.recorder.directory import Scan
@@ -125,7 +125,7 @@ class Traces(unittest.TestCase):
             (1, limits.FILE_BYTES, 'fsync_range /a, 16,777,216 bytes at 1'),
             (0, 4096, 'fsync_range /a, 4,096 bytes at 0'),
         ]:
-            (found,) = operation_lines(line % (offset, length)).values()
+            (found,) = read_text(line % (offset, length)).operations.values()
             self.assertEqual(found.text, shown)
 
     def test_what_is_no_trace_is_refused_with_its_line(self):

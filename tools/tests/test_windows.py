@@ -14,7 +14,7 @@ from crashfs_tools.checker.states.windows import Windows
 from crashfs_tools.common import limits
 from crashfs_tools.common.entry import Entry
 from crashfs_tools.common.program import ProgramFault
-from crashfs_tools.common.trace_lines import operation_lines
+from crashfs_tools.common.trace_text import read_text
 from crashfs_tools.reading import ReadingFault, plan_of, read
 from crashfs_tools.reading.listing import json_listing
 from crashfs_tools.reading.main import read_options
@@ -227,7 +227,8 @@ class Cuts(InWindows):
             [(one.line, one.tried) for one in windows.cut_off[:5]],
             [(2, 7), (3, 6), (4, 5), (5, 4), (6, 7)],
         )
-        report = Report(Head('a', '', [], lines=operation_lines(text), cut_off=[(2, 7), (3, 6)]))
+        lines = read_text(text).operations
+        report = Report(Head('a', '', [], lines=lines, cut_off=[(2, 7), (3, 6)]))
         self.assertEqual(
             report.lines()[1:],
             [

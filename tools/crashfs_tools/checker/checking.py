@@ -19,8 +19,7 @@ from crashfs_tools.checker.states.planning import Planner, TooLarge
 from crashfs_tools.common.command import TEXT, Refused
 from crashfs_tools.common.guard import Guard, Stopped, TimeUp, time_limit
 from crashfs_tools.common.program import Crashfs
-from crashfs_tools.common.trace_lines import operation_lines
-from crashfs_tools.common.trace_text import acknowledged_texts
+from crashfs_tools.common.trace_text import TraceText, read_text
 
 from .options import Options
 
@@ -61,9 +60,13 @@ class Checking:
         yield from self.windows.all()
 
     @cached_property
-    def says(self) -> Says:
+    def lines(self) -> TraceText:
         """Asked for only when the program has taken the trace."""
-        return Says(acknowledged_texts(self.text), self.guard.directory)
+        return read_text(self.text)
+
+    @cached_property
+    def says(self) -> Says:
+        return Says(self.lines.acknowledged, self.guard.directory)
 
     def trying(self, planned: Planned) -> Trying:
         return Trying(self.options, planned, self.program, self.guard, self.says, self.progress)
@@ -175,7 +178,7 @@ class Run:
         trying = self.checking.trying(planned)
         try:
             if self.last is None:
-                self.head.lines = operation_lines(self.checking.text)
+                self.head.lines = self.checking.lines.operations
                 First(trying, results, self.checking.end()).run()
             return trying.run(results)
         finally:

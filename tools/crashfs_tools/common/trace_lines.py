@@ -1,8 +1,7 @@
-"""The lines of a trace in words, as reports show them, and the sync that makes each one durable."""
+"""A line of a trace in words, as reports show it, and the sync that makes it durable."""
 
 from __future__ import annotations
 
-import json
 import re
 from typing import Any, Dict, List, NamedTuple, Optional
 
@@ -82,18 +81,8 @@ class TraceLine(NamedTuple):
         return None
 
 
-def operation_lines(text: str) -> Dict[int, TraceLine]:
-    """The lines of operations, by their numbers, of a trace that `crashfs` has judged."""
-    found = {}
-    for number, line in enumerate(text.split('\n'), 1):
-        if line.strip(' \t\r'):
-            fields = json.loads(line)
-            if 'op' in fields:
-                found[number] = read_line(number, fields)
-    return found
-
-
-def read_line(number: int, fields: Dict[str, Any]) -> TraceLine:
+def line_in_words(number: int, fields: Dict[str, Any]) -> TraceLine:
+    """A line of an operation, from its fields."""
     path = fields.get('path', fields.get('from', ''))
     return TraceLine(
         number, fields['op'], path, fields.get('to', ''), details_of(fields), fields.get('note', '')
@@ -118,14 +107,3 @@ def details_of(fields: Dict[str, Any]) -> str:
         for key in ('mode', 'owner', 'group')
         if key in fields and fields['op'] in ('chmod', 'chown')
     )
-
-
-def with_syncs(text: str, syncs: Dict[int, str]) -> str:
-    """A trace with an fsync after each of these lines, of the path that it has there."""
-    lines = []
-    for number, line in enumerate(text.split('\n'), 1):
-        lines.append(line)
-        if number in syncs:
-            sync = {'op': 'fsync', 'path': syncs[number]}
-            lines.append(json.dumps(sync, ensure_ascii=False))
-    return '\n'.join(lines)

@@ -3,8 +3,7 @@
 from __future__ import annotations
 
 import dataclasses
-import json
-from typing import Any, Dict, Iterable, Iterator, Optional, Tuple, Type
+from typing import Any, Dict, Iterable, Iterator, List, Optional, Tuple, Type
 
 from .trace import (
     BLOCK_SIZES,
@@ -18,6 +17,7 @@ from .trace import (
     Trace,
     TraceError,
 )
+from .trace_text import fields_of_lines
 from .tree import Tree
 
 VERSIONS = (1, 2, 3)
@@ -27,6 +27,15 @@ def read_trace(text: str) -> Trace:
     """Reads a trace's text. A line that makes no sense is a TraceError."""
     *_, (_, trace) = read_lines(text.split('\n'))
     return trace
+
+
+def read_numbered(text: str) -> Tuple[Trace, List[int]]:
+    """Reads a trace's text; returns with it the number of each operation's line."""
+    numbers: List[int] = []
+    for number, trace in read_lines(text.split('\n')):
+        if len(trace.operations) > len(numbers):
+            numbers.append(number)
+    return trace, numbers
 
 
 def replay(lines: Iterable[str]) -> Tree:
@@ -50,11 +59,8 @@ def replay(lines: Iterable[str]) -> Tree:
 def read_lines(lines: Iterable[str]) -> Iterator[Tuple[int, Trace]]:
     """Each line's number, and the trace up to it; a reader may take out what it has."""
     trace: Optional[Trace] = None
-    for number, line in enumerate(lines, 1):
-        if not line.strip(' \t\r\n'):
-            continue
+    for number, fields in fields_of_lines(lines):
         try:
-            fields = json.loads(line)
             if trace is None:
                 trace = read_header(fields)
             else:

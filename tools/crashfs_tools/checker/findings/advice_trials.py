@@ -11,7 +11,7 @@ from crashfs_tools.checker.running.trying import Trying
 from crashfs_tools.checker.states.plan import Before, Plan, Trial
 from crashfs_tools.checker.states.planning import Planner
 from crashfs_tools.common.command import TEXT
-from crashfs_tools.common.trace_lines import with_syncs
+from crashfs_tools.common.trace_text import with_syncs
 
 from .advice import Tried
 from .groups import Findings, Group

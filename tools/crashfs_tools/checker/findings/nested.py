@@ -3,7 +3,6 @@ each crash state of that recovery."""
 
 from __future__ import annotations
 
-import json
 import os
 import subprocess
 import sys
@@ -17,7 +16,8 @@ from crashfs_tools.checker.states.planning import Planner, TooLarge
 from crashfs_tools.common.command import TEXT, Refused
 from crashfs_tools.common.program import LIBRARY
 from crashfs_tools.common.removal import remove_tree
-from crashfs_tools.common.trace_lines import operation_lines, without_numbers
+from crashfs_tools.common.trace_lines import without_numbers
+from crashfs_tools.common.trace_text import read_text, without_says
 
 from .groups import Findings, Group
 from .reruns import rerun_examples
@@ -117,7 +117,7 @@ class Nested:
         results = Results(trying.plan)
         trying.run(results)
         with open(trying.planned.trace, **TEXT) as file:
-            head = Head('', '', [], lines=operation_lines(file.read()))
+            head = Head('', '', [], lines=read_text(file.read()).operations)
         found = Findings(head, results, {}, first if first.result != GOOD else None)
         rerun_examples(trying, found)
         failing = sum(len(group.states) for group in found.groups)
@@ -170,8 +170,3 @@ def crash_place(found: Findings, group: Group) -> str:
     if line is None:
         return 'before its recovery changed anything'
     return f'at line {line} of its recovery ({found.head.lines[line].text})'
-
-
-def without_says(text: str) -> str:
-    lines = text.split('\n')
-    return '\n'.join(line for line in lines if not line or json.loads(line).get('op') != 'say')

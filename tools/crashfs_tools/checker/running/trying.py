@@ -2,7 +2,6 @@
 
 from __future__ import annotations
 
-import re
 from typing import TYPE_CHECKING, Dict, Set
 
 from crashfs_tools.checker.options import Options
@@ -12,7 +11,7 @@ from crashfs_tools.common.command import TEXT, Refused
 from crashfs_tools.common.guard import Guard
 from crashfs_tools.common.limits import RUNS
 from crashfs_tools.common.program import Crashfs
-from crashfs_tools.common.trace_text import root_owner
+from crashfs_tools.common.trace_text import has_much, root_owner
 
 from .progress import Progress
 from .results import Results
@@ -25,7 +24,6 @@ if TYPE_CHECKING:
 # Trees are kept from state to state if a trace has so many start lines, or so many bytes in its
 # lines and in what they make files grow to.
 MUCH_ENTRIES, MUCH_BYTES = 32, 1 << 20
-GROWN = re.compile(rb'"op":\s*"truncate".*"length":\s*(\d+)')
 
 
 class Trying:
@@ -63,7 +61,7 @@ class Trying:
         """Where states are tried; nothing of it is there any more when the guard has ended. many
         says whether it is worth the while to keep what they have in common."""
         if self.options.serve is None:
-            if many and has_much(self.planned.trace) and self.program.has_changes:
+            if many and has_large_trees(self.planned.trace) and self.program.has_changes:
                 from crashfs_tools.checker.states.kept_layout import KeptLayout
 
                 return KeptLayout(
@@ -73,7 +71,7 @@ class Trying:
         from crashfs_tools.checker.states.mounts import Mounts
 
         with open(self.planned.trace, **TEXT) as file:
-            uname = self.options.uname or root_owner(file.read())
+            uname = self.options.uname or root_owner(file)
         return Mounts(self.options.serve, uname, self.guard.directory, self.guard.environment)
 
     def tree(self, number: int) -> Entries:
@@ -132,14 +130,7 @@ class Trying:
         return left <= set(results.outcomes)
 
 
-def has_much(trace: str) -> bool:
+def has_large_trees(trace: str) -> bool:
     """Whether a trace's trees take longer to be laid out than to be looked at."""
-    entries = size = 0
-    with open(trace, 'rb') as lines:
-        for line in lines:
-            entries += line.startswith(b'{"start":')
-            grown = GROWN.search(line)
-            size += int(grown[1]) if grown else len(line)
-            if entries >= MUCH_ENTRIES or size >= MUCH_BYTES:
-                return True
-    return False
+    with open(trace, **TEXT) as lines:
+        return has_much(lines, MUCH_ENTRIES, MUCH_BYTES)

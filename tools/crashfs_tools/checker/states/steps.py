@@ -18,8 +18,7 @@ from crashfs_tools.common.trace import (
     Truncate,
     Write,
 )
-from crashfs_tools.common.trace_read import read_trace
-from crashfs_tools.common.trace_text import operation_numbers
+from crashfs_tools.common.trace_read import read_numbered
 from crashfs_tools.common.tree import Tree
 
 # A longer write is several steps, so that a window can end in it.
@@ -41,11 +40,10 @@ class Session:
     """A trace, its steps, and before each step how many micro-operations there were."""
 
     def __init__(self, name: str, text: str) -> None:
-        self.trace = read_trace(text)
+        self.trace, numbers = read_numbered(text)
         self.steps: List[Step] = []
         self.places = [0]
         tree = start_tree(self.trace)
-        numbers = operation_numbers(text)
         for place, (line, operation) in enumerate(zip(numbers, self.trace.operations)):
             fault = tree.fault(operation)
             if fault:
