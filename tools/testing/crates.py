@@ -16,12 +16,10 @@ TEST = re.compile(r'^\s*#\[test\]', re.M)
 RESULT = re.compile(r'^test (\S+) \.\.\. (\w+)$', re.M)
 # These tests take all memory until malloc refuses some; `rt try` has AddressSanitizer's malloc.
 REFUSED = 'they let allocations fail, which only .ci/run can do'
-SLOW = 'it is slower than `rt try` allows; .ci/run has it'
 # What `rt try` can't run: crates, and single tests of other crates, each with the reason.
 LEFT_CRATES = {'cs_growth_tests': REFUSED}
 LEFT_TESTS = {
     'cs_run_tests': {'tests::endings::refused_removal_of_the_largest_file_leaves_it': REFUSED},
-    'cs_trace_tests': {'tests::start_lines::a_file_has_at_most_16777216_bytes': SLOW},
 }
 
 
