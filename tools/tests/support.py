@@ -19,6 +19,7 @@ from typing import Any, Callable, Dict, List, Optional, Sequence
 
 from crashfs_tools.common.trace import WRITTEN_VERSION, Creat, Header, Mkdir, Start
 from crashfs_tools.recorder.directory import Scan
+from crashfs_tools.recorder.log_filter import LogFilter
 from crashfs_tools.recorder.mapped_files import FileCopies
 from crashfs_tools.recorder.live_files import LiveFiles, StartConditions
 from crashfs_tools.recorder.recording import Recording, TraceSettings
@@ -66,7 +67,9 @@ def recording_of(
     recording.streams.set_standard_output(output)
     conditions = StartConditions('/d', 0o022, 'u', 'u')
     files = LiveFiles(recording, conditions, scan, ignored or (lambda path: False))
-    log = read_log(map(as_strace, lines))
+    numbers = [int(number) for number in acknowledged if number.isdigit()]
+    needed = LogFilter(b'/d', numbers) if copies is None else None
+    log = read_log(map(as_strace, lines), needed)
     for call in log.calls if note else []:
         call.note = note(call)
     Translator(files, log, copies).run()

@@ -7,13 +7,14 @@ from crashfs_tools.common.trace import Header
 from crashfs_tools.recorder import arguments
 from crashfs_tools.recorder.arguments import LogError
 from crashfs_tools.recorder.directory import Scan
+from crashfs_tools.recorder.log_filter import LogFilter
 from crashfs_tools.recorder.pipe_lines import PipeLines
 from crashfs_tools.recorder.live_files import LiveFiles, StartConditions
 from crashfs_tools.recorder.recording import Recording, TraceSettings
 from crashfs_tools.recorder.strace_log import read_log
 from crashfs_tools.recorder.translate import Translator
 
-from .support import numbers
+from .support import as_strace, numbers
 
 LARGE = 'ab' * 40_000
 
@@ -86,6 +87,53 @@ class Words(unittest.TestCase):
         Translator(files, log).run()
         self.assertEqual(files.recording.trace.operations[1].data, LARGE.encode())
         self.assertEqual([len(call.words) for call in log.calls], [4, 0])
+
+
+class Needless(unittest.TestCase):
+    """Calls on files elsewhere, which aren't read."""
+
+    def read(self, lines, numbers=()):
+        """The names of the calls that are read."""
+        log = read_log(map(as_strace, lines), LogFilter(b'/d', numbers))
+        return [call.name for call in log.calls]
+
+    def test_calls_on_files_elsewhere_are_not_read(self):
+        elsewhere = [
+            '7 read(0x5, 0x7ffc, 0x2) = 0x2',
+            '7 lseek(5</etc/x>, 0, SEEK_SET) = 0',
+            '7 write(5</etc/x>, "a", 1) = 1',
+            '7 pwrite64(5</etc/x>, "a", 1 <unfinished ...>',
+            '7 <... pwrite64 resumed>, 0) = 1',
+            '7 fsync(5</etc/x>) = 0',
+            '7 close(5</etc/x>) = 0',
+            '7 mmap(NULL, 9, PROT_READ, MAP_PRIVATE, 5</etc/x>, 0) = 0x7f00',
+            '7 mprotect(0x7f00, 4096, PROT_READ) = 0',
+        ]
+        self.assertEqual(self.read(elsewhere), [])
+        here = ['7 openat(AT_FDCWD</d>, "f", O_RDWR) = 5</d/f>']
+        self.assertEqual(self.read(here + elsewhere[:1]), ['openat', 'read'])
+        mapped = ['7 mmap(NULL, 9, PROT_READ, MAP_SHARED, 4</d/f>, 0) = 0x7f00']
+        self.assertEqual(self.read(mapped + elsewhere[-1:]), ['mmap', 'mprotect'])
+
+    def test_descriptors_that_may_count_are_read(self):
+        read = '7 read(0x9, 0x7ffc, 0x2) = 0x2'
+        for line in [
+            '7 dup2(1<pipe:[7]>, 9) = 9<pipe:[7]>',
+            '7 fcntl(2</etc/x>, F_DUPFD, 9) = 9</etc/x>',
+            '7 openat(AT_FDCWD</>, "/proc/self/fd/1", O_WRONLY) = 9</etc/x>',
+            '7 open("/dev/stdout", O_WRONLY) = 9</dev/pts/0>',
+            '7 dup(5</d/f>) = 9',
+        ]:
+            self.assertEqual(len(self.read([line, read])), 2, line)
+        self.assertEqual(self.read([read], [9]), ['read'])
+        self.assertEqual(self.read(['7 write(9<pipe:[3]>, "a", 1) = 1']), ['write'])
+        self.assertEqual(self.read(['7 dup2(5</etc/x>, 9) = 9</etc/x>', read]), ['dup2'])
+
+    def test_the_frames_of_a_call_that_is_not_read_are_not_another_s(self):
+        frames = [' > /opt/store(put+0x24) [0x119d]']
+        lines = ['7 openat(AT_FDCWD</d>, "f", O_RDWR) = 5</d/f>', '7 fsync(6</etc/x>) = 0']
+        (call,) = read_log(map(as_strace, lines + frames), LogFilter(b'/d')).calls
+        self.assertEqual(call.frames, [])
 
 
 class Lines(unittest.TestCase):

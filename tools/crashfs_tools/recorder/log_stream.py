@@ -11,6 +11,7 @@ import time
 from typing import List, Optional, Set, TextIO
 
 from . import stopped_processes
+from .log_filter import LogFilter
 from .mapped_files import MappedFiles
 from .pipe_lines import PipeLines
 from .stopped_processes import Stop
@@ -24,12 +25,18 @@ STOPPED = re.compile(r'^(\d+) +--- stopped by SIGSTOP ---')
 class LogStream:
     """strace writes to `pipe`; the lines are kept in a file too if one is named."""
 
-    def __init__(self, folder: str, keep: Optional[str], mapped: Optional[MappedFiles]) -> None:
+    def __init__(
+        self,
+        folder: str,
+        keep: Optional[str],
+        mapped: Optional[MappedFiles],
+        needed: Optional[LogFilter] = None,
+    ) -> None:
         self.pipe = os.path.join(folder, 'log')
         os.mkfifo(self.pipe)
         self.kept = None if keep is None else open(keep, 'w', encoding='ascii')
         self.mapped = mapped
-        self.reader = LogReader()
+        self.reader = LogReader(needed)
         self.lines = 0
         # Whether threads ran while the newest copy was taken: the next one isn't sure either.
         self.was_late = False

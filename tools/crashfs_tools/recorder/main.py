@@ -18,6 +18,7 @@ from . import stacks, strace_run, summary
 from .begin_after import LateStart
 from .arguments import LogError
 from .directory import group_name, scan, user_name
+from .log_filter import LogFilter
 from .live_files import LiveFiles, StartConditions
 from .log_stream import LogStream
 from .mapped_files import FileCopies, MappedFiles
@@ -47,7 +48,9 @@ class RecordedRun:
 def run_command(options: RecordOptions, guard: Guard) -> RecordedRun:
     strace = strace_run.find_strace()
     mapped = MappedFiles(options.directory, options.ignored) if options.mapped else None
-    stream = LogStream(guard.directory, options.keep_log, mapped)
+    # Copies of mapped files are placed by all calls, also those on other files.
+    needed = None if options.mapped else log_filter(options, options.directory)
+    stream = LogStream(guard.directory, options.keep_log, mapped, needed)
     line = strace_run.command_line(strace, stream.pipe, options)
     running = strace_run.StraceRun(line, options, stream, guard)
     try:
@@ -71,9 +74,16 @@ def run_command(options: RecordOptions, guard: Guard) -> RecordedRun:
     )
 
 
-def load_log(path: str) -> Log:
+def log_filter(options: RecordOptions, top: str) -> LogFilter:
+    """Which lines of the log need reading, for a directory that the calls name so."""
+    numbers = [int(number) for number in options.acknowledged if number.isdigit()]
+    return LogFilter(os.fsencode(top), numbers)
+
+
+def load_log(path: str, needed: LogFilter) -> Log:
+    """Reads a log from a file; Refused if no process called anything."""
     with open(path, encoding='ascii', errors='replace') as lines:
-        log = read_log(lines)
+        log = read_log(lines, needed)
     if log.first is None:
         raise Refused(f'{path} has no call of any process: strace -f -o FILE writes such a log')
     return log
@@ -112,7 +122,7 @@ def record(options: RecordOptions) -> int:
     recording = Recording(before.header, settings)
     files = LiveFiles(recording, start_conditions(options), before, options.ignored)
     if options.from_log is not None:
-        run = RecordedRun(load_log(options.from_log))
+        run = RecordedRun(load_log(options.from_log, log_filter(options, files.conditions.top)))
         if not run.log.is_whole:
             recording.report('the log ends before the program did', '/')
     else:

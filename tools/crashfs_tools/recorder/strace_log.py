@@ -7,6 +7,7 @@ from dataclasses import dataclass, field
 from typing import Dict, Iterable, List, Optional, Set
 
 from . import arguments
+from .log_filter import LogFilter
 
 LINE = re.compile(r'^(\d+)\s+(\w+)\((.*)\)\s+= (0x[0-9a-f]+|-?\d+|\?)(.*)$', re.S)
 BEGUN = re.compile(r'^(\d+)\s+(\w+)\(')
@@ -77,10 +78,12 @@ class _Waiting:
 
 
 class LogReader:
-    """Reads a log line by line; a call that another thread's line cuts in two is put together."""
+    """Reads a log line by line; a call that another thread's line cuts in two is put together.
+    Lines that a filter finds needless are left out."""
 
-    def __init__(self) -> None:
+    def __init__(self, needed: Optional[LogFilter] = None) -> None:
         self.log = Log()
+        self.filter = needed
         self.waiting: Dict[str, _Waiting] = {}
         self.processes: Set[int] = set()
         # The call whose frames are read; a signal has frames too.
@@ -92,6 +95,9 @@ class LogReader:
         return self.log
 
     def line(self, number: int, line: str) -> None:
+        if self.filter is not None and self.filter.is_needless(line):
+            self.shown = None
+            return
         begun = BEGUN.match(line) if line.endswith(UNFINISHED) else None
         if begun:
             head = line[begun.end() : -len(UNFINISHED)]
@@ -108,6 +114,8 @@ class LogReader:
         match = LINE.match(line)
         if match:
             self.call(match, begin, number)
+            if self.filter is not None:
+                self.filter.note(match[2], line)
         elif not line.startswith(FRAME):
             self.event(number, line)
         elif self.shown is not None:
@@ -157,5 +165,5 @@ def words_of(name: str, text: str) -> List[str]:
     return words
 
 
-def read_log(lines: Iterable[str]) -> Log:
-    return LogReader().read(lines)
+def read_log(lines: Iterable[str], needed: Optional[LogFilter] = None) -> Log:
+    return LogReader(needed).read(lines)
