@@ -6,6 +6,7 @@ import os
 import signal
 import subprocess
 import sys
+import tempfile
 import unittest
 from collections import Counter
 from pathlib import Path
@@ -175,8 +176,15 @@ class Disks(InFolder):
         trace = read_trace(CONFIG.read_text('utf-8'))
         made = Crashes([filesystems.KNOWN['ext4']], trace, self.path(''))
         steps: List[int] = []
-        found = made.disks(2, lambda done, of: steps.append(of))['ext4']
+        seen: List[str] = []
+
+        def on_step(_: int, of: int) -> None:
+            steps.append(of)
+            seen.extend(mounted_below(self.path('')))
+
+        found = made.disks(2, on_step)['ext4']
         self.assertEqual(steps, [len(made.tasks())] * len(made.tasks()))
+        self.assertEqual(seen, [], 'mounts of workers are seen by others')
         self.assertGreater(len(found), 5)
         self.assertLessEqual({one.digest for one in found}, allowed_trees(CONFIG))
         levers = Counter(crash.lever for one in found for crash in one.crashes)
@@ -200,6 +208,29 @@ class Disks(InFolder):
         }
         self.assertEqual(trees[Lever.NOTHING], False)
         self.assertEqual(trees[Lever.LOG], True)
+
+    def test_syncs_of_data_make_what_they_cover_durable(self) -> None:
+        for sync in ('"offset":0,"length":9000', '"offset":4096,"length":4096', ''):
+            lines = [
+                *ALL_KINDS.splitlines()[:3],
+                '{"op":"write","path":"/d/f","offset":4096,"text":"%s"}' % ('x' * 4096),
+                *(['{"op":"fsync_range","path":"/d/f",%s}' % sync] if sync else []),
+                '{"op":"say","text":"written"}',
+            ]
+            with self.subTest(sync):
+                crashes = Crashes(
+                    [filesystems.KNOWN['ext4']],
+                    read_trace('\n'.join(lines)),
+                    tempfile.mkdtemp(dir=self.path('')),
+                    [Lever.NOTHING],
+                )
+                last = [
+                    one.tree['/d/f'].data
+                    for one in crashes.disks(1, lambda *_: None)['ext4']
+                    for crash in one.crashes
+                    if crash.moment.most == 1
+                ]
+                self.assertEqual(last[0] == b'hello'.ljust(4096, b'\0') + b'x' * 4096, bool(sync))
 
     def test_a_kill_leaves_nothing_mounted_and_no_process(self) -> None:
         program = (
