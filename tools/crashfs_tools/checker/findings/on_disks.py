@@ -1,0 +1,229 @@
+"""Which states real file systems leave: the session is made again on them, each disk after a crash
+is looked for among the crash states, and COMMAND is run on those disks that no tried state has."""
+
+from __future__ import annotations
+
+import os
+import time
+from dataclasses import dataclass, field
+from itertools import groupby
+from typing import Callable, Dict, Iterator, List, NamedTuple, Sequence, Set, Tuple
+
+from crashfs_tools.checker.running.runner import GOOD, Outcome
+from crashfs_tools.checker.running.trying import Trying
+from crashfs_tools.checker.states.layout import lay_out, top_of
+from crashfs_tools.common.archive import Member
+from crashfs_tools.common.entry import Entries, Entry
+from crashfs_tools.common.guard import remove_tree
+from crashfs_tools.common.program import entry_of
+from crashfs_tools.common.trace_read import read_trace
+from crashfs_tools.disks.disk import Crash, Disk, digest_of
+from crashfs_tools.disks.filesystems import FileSystem
+from crashfs_tools.disks.levers import Lever
+from crashfs_tools.disks.pool import Crashes
+from crashfs_tools.reading import read
+from crashfs_tools.reading.classes import Classes
+from crashfs_tools.reading.order import Order
+from crashfs_tools.reading.states import States
+
+# A tree by its digest, and how many lines are acknowledged with it.
+Left = Tuple[str, int]
+# So many different crash states are looked through for a disk, and for so long.
+MOST_STATES, MOST_SECONDS = 20_000, 20
+OUTSIDE = 'outside the model: no crash state has this tree'
+UNTRIED = 'a crash state that was not tried'
+UNKNOWN = f'not among the first {MOST_STATES:,} different crash states'
+
+
+class OnDisk(NamedTuple):
+    """A tree that COMMAND was run in, with the first crash of each file system that left it."""
+
+    outcome: Outcome
+    says: int
+    crashes: Dict[str, Crash]
+    where: str
+    tree: Entries
+
+
+@dataclass
+class Sightings:
+    """What was seen on the file systems. crashes and trees have how many there were of each;
+    failing the trees among them in which COMMAND failed. states has for each state seen the first
+    crash of each file system that left it, and further the failures that no tried state has."""
+
+    names: List[str]
+    crashes: Dict[str, int] = field(default_factory=dict)
+    trees: Dict[str, int] = field(default_factory=dict)
+    failing: Dict[str, int] = field(default_factory=dict)
+    states: Dict[int, Dict[str, Crash]] = field(default_factory=dict)
+    further: List[OnDisk] = field(default_factory=list)
+
+    def of_states(self, numbers: Sequence[int]) -> Dict[str, Crash]:
+        """The first crash of each file system that left one of the states."""
+        found: Dict[str, Crash] = {}
+        for number in numbers:
+            keep_first(found, self.states.get(number, {}))
+        return found
+
+    def sentence(self, numbers: Sequence[int]) -> str:
+        """On which file systems a crash left one of the states, and on which not."""
+        return sentence(self.names, self.of_states(numbers))
+
+    def lines(self) -> List[str]:
+        """How many crashes were tried, and what came of them."""
+        return [
+            f'{name}: {self.crashes[name]:,} crashes, {self.trees[name]:,} different trees: '
+            + (f'{self.failing[name]:,} fail' if self.failing[name] else 'none fails')
+            for name in self.names
+        ]
+
+
+def keep_first(found: Dict[str, Crash], more: Dict[str, Crash]) -> None:
+    for name, crash in more.items():
+        if name not in found or order_of(crash) < order_of(found[name]):
+            found[name] = crash
+
+
+def order_of(crash: Crash) -> Tuple[int, int]:
+    """A crash for which the kernel wrote nothing by itself is the most telling."""
+    return list(Lever).index(crash.lever), crash.moment.done
+
+
+def sentence(names: Sequence[str], found: Dict[str, Crash]) -> str:
+    seen = [f'{name} ({crash_text(found[name])})' for name in names if name in found]
+    unseen = [name for name in names if name not in found]
+    if not seen:
+        return f'not seen on {listed(unseen, "or")}'
+    return f'seen on {listed(seen)}' + (f'; not on {listed(unseen, "or")}' if unseen else '')
+
+
+def crash_text(crash: Crash) -> str:
+    place = f'after line {crash.moment.line}' if crash.moment.line else 'before the first operation'
+    return f'{place}, {crash.lever.value}'
+
+
+def listed(items: Sequence[str], word: str = 'and') -> str:
+    return f' {word} '.join(filter(None, (', '.join(items[:-1]), items[-1])))
+
+
+class Search:
+    """Makes the session again, and looks for each disk. by_state has the outcomes of states."""
+
+    def __init__(
+        self, trying: Trying, by_state: Dict[int, Outcome], filesystems: Sequence[FileSystem]
+    ) -> None:
+        self.trying = trying
+        self.by_state = by_state
+        self.filesystems = filesystems
+        with open(trying.planned.trace, 'rb') as file:
+            self.trace = file.read()
+
+    def run(self, folder: str, on_step: Callable[[int, int], None]) -> Sightings:
+        """folder is for the images of disks."""
+        trace = read_trace(self.trace.decode('utf-8', 'surrogateescape'))
+        made = Crashes(self.filesystems, trace, folder)
+        disks = made.disks(self.trying.options.jobs, on_step)
+        found = Sightings([one.name for one in self.filesystems])
+        states = self.states_by_tree()
+        for name, different in disks.items():
+            found.crashes[name] = sum(len(one.crashes) for one in different)
+            found.trees[name] = len(different)
+            found.failing[name] = 0
+        for one in all_left(disks):
+            self.look_for(one, states, found)
+        self.explain(found)
+        return found
+
+    def states_by_tree(self) -> Dict[Left, List[int]]:
+        """The listed states by what they leave."""
+        planned = self.trying.planned
+        digests: Dict[int, str] = {}
+        firsts = {state.same for state in planned.plan.listed}
+        words = [*planned.words, '--states', planned.list_of(firsts)]
+        with self.trying.program.archive(words, self.trying.guard.environment) as archive:
+            for top, members in groupby(archive, top_of):
+                tree = {f'/{one.path[len(top) + 1 :]}': entry_of(one) for one in members}
+                digests[int(top) + planned.plan.first] = digest_of(tree)
+        found: Dict[Left, List[int]] = {}
+        for state in planned.plan.listed:
+            found.setdefault((digests[state.same], state.says), []).append(state.number)
+        return found
+
+    def look_for(self, one: OnDiskTree, states: Dict[Left, List[int]], found: Sightings) -> None:
+        """Finds the states that have a disk's tree, or runs COMMAND in it."""
+        numbers = states.get((one.digest, one.says), [])
+        for number in numbers:
+            keep_first(found.states.setdefault(number, {}), one.crashes)
+        tried = [self.by_state[number] for number in numbers if number in self.by_state]
+        outcome = tried[0] if tried else self.run_in(one)
+        if outcome.result != GOOD:
+            for name in one.crashes:
+                found.failing[name] += 1
+            if not tried:
+                found.further.append(OnDisk(outcome, one.says, one.crashes, '', one.tree))
+
+    def run_in(self, one: OnDiskTree) -> Outcome:
+        directory = os.path.join(self.trying.guard.directory, 'disk')
+        lay_out(directory, members_of(one.tree))
+        try:
+            plan = self.trying.plan
+            return self.trying.checker().run(plan.first + len(plan.listed), one.says, directory)
+        finally:
+            remove_tree(directory)
+
+    def explain(self, found: Sightings) -> None:
+        """Says of each further failure whether it is a crash state at all."""
+        wanted = {(digest_of(one.tree), one.says) for one in found.further}
+        there, is_whole = crash_states(self.trace, wanted) if wanted else (set(), True)
+        for place, one in enumerate(found.further):
+            is_there = (digest_of(one.tree), one.says) in there
+            where = UNTRIED if is_there else OUTSIDE if is_whole else UNKNOWN
+            found.further[place] = one._replace(where=where)
+
+
+class OnDiskTree(NamedTuple):
+    """A tree on disks with a number of acknowledged lines."""
+
+    digest: str
+    says: int
+    tree: Entries
+    crashes: Dict[str, Crash]
+
+
+def all_left(disks: Dict[str, List[Disk]]) -> List[OnDiskTree]:
+    """What the disks of all file systems leave, each tree and number of lines once."""
+    found: Dict[Left, OnDiskTree] = {}
+    for name, different in disks.items():
+        for disk in different:
+            for crash in disk.crashes:
+                for says in range(crash.moment.least, crash.moment.most + 1):
+                    left = found.setdefault(
+                        (disk.digest, says), OnDiskTree(disk.digest, says, disk.tree, {})
+                    )
+                    keep_first(left.crashes, {name: crash})
+    return list(found.values())
+
+
+def members_of(tree: Entries) -> Iterator[Member]:
+    for path, entry in tree.items():
+        data = None if entry.data is None else bytes(entry.data)
+        yield Member(path[1:], entry.mode, entry.owner, entry.group, data)
+
+
+def crash_states(trace: bytes, wanted: Set[Left]) -> Tuple[Set[Left], bool]:
+    """Which of the wanted are left by an allowed set, and whether all sets were looked through."""
+    reading = read(trace)
+    states = States(reading)
+    found: Set[Left] = set()
+    deadline = time.monotonic() + MOST_SECONDS
+    for count, places in enumerate(Classes(reading, Order(reading)).different()):
+        if count >= MOST_STATES or time.monotonic() > deadline:
+            return found, False
+        tree = {
+            path: Entry(*rights[:2], int(rights[2], 8), None if data is None else bytearray(data))
+            for path, (rights, data) in states.tree(places).items()
+        }
+        found |= {(digest_of(tree), states.count_says(places))} & wanted
+        if found == wanted:
+            break
+    return found, True
