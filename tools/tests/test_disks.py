@@ -157,10 +157,10 @@ class Digests(unittest.TestCase):
 class Names(unittest.TestCase):
     def test_file_systems_are_named(self) -> None:
         self.assertEqual(
-            [it.name for it in filesystems.read_names('xfs,ext4,xfs')], ['xfs', 'ext4']
+            [it.name for it in filesystems.named(['xfs', 'ext4', 'xfs'])], ['xfs', 'ext4']
         )
         with self.assertRaisesRegex(Refused, '--disks zfs: no such file system'):
-            filesystems.read_names('ext4,zfs')
+            filesystems.named(['ext4', 'zfs'])
 
     def test_what_is_lacking_is_named(self) -> None:
         none = filesystems.FileSystem('none', 'mkfs.nothing', (), 0)

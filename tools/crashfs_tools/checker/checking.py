@@ -54,6 +54,8 @@ class Checking:
             except TooLarge as fault:
                 if self.options.serve is not None:
                     raise Refused(f'{fault} (--serve has no windows)') from fault
+                if self.options.disks is not None:
+                    raise Refused(f'{fault} (--disks has no windows)') from fault
         from crashfs_tools.checker.states.windows import windows_of
 
         self.windows = windows_of(self.planner, self.options, self.text)
@@ -204,6 +206,10 @@ class Run:
                 add_details(trying, self.checking.planner, self.findings)
             if self.options.nested:
                 self.report.recoveries += self.nested.run(trying, self.findings)
+            if self.options.disks is not None:
+                from crashfs_tools.checker.findings.on_disks import sightings_of
+
+                self.report.sightings = sightings_of(trying, self.findings.by_state)
 
     @cached_property
     def nested(self) -> Nested:

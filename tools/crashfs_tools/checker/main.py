@@ -38,6 +38,10 @@ def check(options: Options) -> int:
             readable(options.trace)
         return finish(options, merged_report(options))
     options.trace = readable(options.trace or '')
+    if options.disks is not None:
+        from crashfs_tools.disks.filesystems import need
+
+        need(options.disks)
     program = Crashfs.find_or_read(options.crashfs, options.unproved)
     options.command = found(options.command)
     keep_descriptors()

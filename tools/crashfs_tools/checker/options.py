@@ -69,6 +69,7 @@ class Options:
     unproved: bool
     serve: Optional[Address]
     uname: Optional[str]
+    disks: Optional[List[str]]
     merge: Optional[List[str]]
 
     @property
@@ -110,6 +111,10 @@ def state(text: str) -> Tuple[int, Optional[int]]:
     if not (first.isdigit() and (second.isdigit() if slash else True)):
         raise argparse.ArgumentTypeError(f'{text} is neither N nor N/M')
     return int(first), int(second) if slash else None
+
+
+def names(text: str) -> List[str]:
+    return text.split(',')
 
 
 def seconds(text: str) -> float:
@@ -239,6 +244,13 @@ def parser() -> argparse.ArgumentParser:
         '--uname',
         metavar='NAME',
         help="with --serve: the user who attaches (default: the root's owner)",
+    )
+    made.add_argument(
+        '--disks',
+        metavar='LIST',
+        type=names,
+        help='make the session again on disk images of these file systems, such as '
+        'ext4,xfs,btrfs, and report on which of them a crash left a failing state (as root)',
     )
     made.add_argument(
         '--merge',

@@ -26,10 +26,12 @@ STOPS = (signal.SIGINT, signal.SIGTERM, signal.SIGHUP)
 
 
 class Guard:
-    """Used by `with`. Start processes with `environment`, and put files below `directory`."""
+    """Used by `with`. Start processes with `environment`, and put files below `directory`, which is
+    made in `folder`, or where temporary files are."""
 
-    def __init__(self, prefix: str) -> None:
+    def __init__(self, prefix: str, folder: Optional[str] = None) -> None:
         self.prefix = prefix
+        self.folder = folder
         self.token = os.urandom(16).hex()
         self.directory = ''
         self.is_reaper = False
@@ -38,7 +40,8 @@ class Guard:
 
     def __enter__(self) -> Guard:
         try:
-            self.directory = os.path.realpath(tempfile.mkdtemp(prefix=self.prefix))
+            made = tempfile.mkdtemp(prefix=self.prefix, dir=self.folder)
+            self.directory = os.path.realpath(made)
         except OSError as error:
             # Where no place for temporary files can be written, the error has no name.
             name = error.filename or 'temporary files'

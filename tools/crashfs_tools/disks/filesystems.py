@@ -54,13 +54,19 @@ KNOWN: Dict[str, FileSystem] = {
 }
 
 
-def read_names(text: str) -> List[FileSystem]:
-    """The file systems of a list of names with commas; Refused if one isn't known."""
-    names = list(dict.fromkeys(text.split(',')))
+def named(names: Sequence[str]) -> List[FileSystem]:
+    """The file systems of some names, each once; Refused if one isn't known."""
     unknown = [name for name in names if name not in KNOWN]
     if unknown:
         raise Refused(f'--disks {unknown[0]}: no such file system (known: {", ".join(KNOWN)})')
-    return [KNOWN[name] for name in names]
+    return [KNOWN[name] for name in dict.fromkeys(names)]
+
+
+def need(names: Sequence[str]) -> None:
+    """Refused if a file system isn't known, or this machine or user can't make and mount it."""
+    missing = lacking(named(names))
+    if missing is not None:
+        raise Refused(f'--disks: {missing}')
 
 
 def lacking(filesystems: Sequence[FileSystem]) -> Optional[str]:

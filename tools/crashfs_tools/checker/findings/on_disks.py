@@ -7,18 +7,18 @@ import os
 import time
 from dataclasses import dataclass, field
 from itertools import groupby
-from typing import Callable, Dict, Iterator, List, NamedTuple, Sequence, Set, Tuple
+from typing import Any, Callable, Dict, Iterator, List, NamedTuple, Sequence, Set, Tuple
 
 from crashfs_tools.checker.running.runner import GOOD, Outcome
 from crashfs_tools.checker.running.trying import Trying
 from crashfs_tools.checker.states.layout import lay_out, top_of
 from crashfs_tools.common.archive import Member
 from crashfs_tools.common.entry import Entries, Entry
-from crashfs_tools.common.guard import remove_tree
+from crashfs_tools.common.guard import Guard, remove_tree
 from crashfs_tools.common.program import entry_of
 from crashfs_tools.common.trace_read import read_trace
 from crashfs_tools.disks.disk import Crash, Disk, digest_of
-from crashfs_tools.disks.filesystems import FileSystem
+from crashfs_tools.disks.filesystems import FileSystem, named
 from crashfs_tools.disks.levers import Lever
 from crashfs_tools.disks.pool import Crashes
 from crashfs_tools.reading import read
@@ -26,23 +26,50 @@ from crashfs_tools.reading.classes import Classes
 from crashfs_tools.reading.order import Order
 from crashfs_tools.reading.states import States
 
+MEMORY = '/dev/shm'
 # A tree by its digest, and how many lines are acknowledged with it.
 Left = Tuple[str, int]
 # So many different crash states are looked through for a disk, and for so long.
 MOST_STATES, MOST_SECONDS = 20_000, 20
-OUTSIDE = 'outside the model: no crash state has this tree'
-UNTRIED = 'a crash state that was not tried'
-UNKNOWN = f'not among the first {MOST_STATES:,} different crash states'
+# So many paths of a tree are shown.
+SHOWN_PATHS = 12
+OUTSIDE, UNTRIED, UNKNOWN = 'outside the model', 'not tried', 'not found'
+WHY = {
+    OUTSIDE: 'no crash state has this tree',
+    UNTRIED: 'a crash state has this tree, and is not among those that were tried',
+    UNKNOWN: f'none of the first {MOST_STATES:,} different crash states has this tree',
+}
 
 
 class OnDisk(NamedTuple):
-    """A tree that COMMAND was run in, with the first crash of each file system that left it."""
+    """A tree in which COMMAND failed, with the first crash of each file system that left it. says
+    has the numbers of acknowledged lines with which it failed."""
 
     outcome: Outcome
-    says: int
+    says: List[int]
     crashes: Dict[str, Crash]
     where: str
     tree: Entries
+
+    def lines(self) -> List[str]:
+        """Where it was seen, and its first paths."""
+        more = len(self.tree) - SHOWN_PATHS
+        paths = [path_text(path, self.tree[path]) for path in sorted(self.tree)[:SHOWN_PATHS]]
+        return [
+            f'{sentence(list(self.crashes), self.crashes)}, says '
+            + listed(list(map(str, self.says)), 'or'),
+            WHY[self.where],
+            ', '.join(paths) + (f' and {more:,} more' if more > 0 else ''),
+        ]
+
+    def fields(self) -> Dict[str, Any]:
+        return {
+            'cause': self.outcome.cause,
+            'where': self.where,
+            'says': self.says,
+            'crashes': crash_fields(self.crashes),
+            'paths': sorted(self.tree),
+        }
 
 
 @dataclass
@@ -69,13 +96,49 @@ class Sightings:
         """On which file systems a crash left one of the states, and on which not."""
         return sentence(self.names, self.of_states(numbers))
 
+    def fields(self) -> Dict[str, Any]:
+        """What the JSON has: of each file system its counts, of each state seen its crashes."""
+        counts = {
+            name: {
+                'crashes': self.crashes[name],
+                'different': self.trees[name],
+                'failing': self.failing[name],
+            }
+            for name in self.names
+        }
+        states = {str(state): crash_fields(found) for state, found in sorted(self.states.items())}
+        further = [one.fields() for one in self.further]
+        return {'filesystems': counts, 'states': states, 'further': further}
+
     def lines(self) -> List[str]:
         """How many crashes were tried, and what came of them."""
         return [
             f'{name}: {self.crashes[name]:,} crashes, {self.trees[name]:,} different trees: '
-            + (f'{self.failing[name]:,} fail' if self.failing[name] else 'none fails')
+            + fail_text(self.failing[name])
             for name in self.names
         ]
+
+
+def sightings_of(trying: Trying, by_state: Dict[int, Outcome]) -> Sightings:
+    """Makes the session again on the file systems of --disks. Images are in memory if there is room
+    for them: a crash is then taken in a fraction of a second."""
+    filesystems = named(trying.options.disks or [])
+    room = 2 * trying.options.jobs * sum(one.size for one in filesystems)
+    with Guard('crashfs-disks-', MEMORY if has_room(MEMORY, room) else None) as guard:
+        return Search(trying, by_state, filesystems).run(guard.directory, trying.progress.note)
+
+
+def has_room(folder: str, size: int) -> bool:
+    """Whether files of so many bytes can be made in a folder."""
+    try:
+        room = os.statvfs(folder)
+    except OSError:
+        return False
+    return os.access(folder, os.W_OK) and room.f_bavail * room.f_frsize > size
+
+
+def fail_text(count: int) -> str:
+    return f'{count:,} fail{"s" if count == 1 else ""}' if count else 'none fails'
 
 
 def keep_first(found: Dict[str, Crash], more: Dict[str, Crash]) -> None:
@@ -95,6 +158,14 @@ def sentence(names: Sequence[str], found: Dict[str, Crash]) -> str:
     if not seen:
         return f'not seen on {listed(unseen, "or")}'
     return f'seen on {listed(seen)}' + (f'; not on {listed(unseen, "or")}' if unseen else '')
+
+
+def crash_fields(found: Dict[str, Crash]) -> Dict[str, Any]:
+    return {name: [crash.moment.line, crash.lever.value] for name, crash in found.items()}
+
+
+def path_text(path: str, entry: Entry) -> str:
+    return path if entry.data is None else f'{path} ({len(entry.data):,} bytes)'
 
 
 def crash_text(crash: Crash) -> str:
@@ -129,8 +200,12 @@ class Search:
             found.crashes[name] = sum(len(one.crashes) for one in different)
             found.trees[name] = len(different)
             found.failing[name] = 0
+        failing: Dict[str, Set[str]] = {}
         for one in all_left(disks):
-            self.look_for(one, states, found)
+            if self.fails(one, states, found):
+                for name in one.crashes:
+                    failing.setdefault(name, set()).add(one.digest)
+        found.failing.update({name: len(digests) for name, digests in failing.items()})
         self.explain(found)
         return found
 
@@ -149,18 +224,16 @@ class Search:
             found.setdefault((digests[state.same], state.says), []).append(state.number)
         return found
 
-    def look_for(self, one: OnDiskTree, states: Dict[Left, List[int]], found: Sightings) -> None:
-        """Finds the states that have a disk's tree, or runs COMMAND in it."""
+    def fails(self, one: OnDiskTree, states: Dict[Left, List[int]], found: Sightings) -> bool:
+        """Whether COMMAND fails in a disk's tree, by the states that have it, or by a run in it."""
         numbers = states.get((one.digest, one.says), [])
         for number in numbers:
             keep_first(found.states.setdefault(number, {}), one.crashes)
         tried = [self.by_state[number] for number in numbers if number in self.by_state]
         outcome = tried[0] if tried else self.run_in(one)
-        if outcome.result != GOOD:
-            for name in one.crashes:
-                found.failing[name] += 1
-            if not tried:
-                found.further.append(OnDisk(outcome, one.says, one.crashes, '', one.tree))
+        if outcome.result != GOOD and not tried:
+            found.further.append(OnDisk(outcome, [one.says], one.crashes, '', one.tree))
+        return outcome.result != GOOD
 
     def run_in(self, one: OnDiskTree) -> Outcome:
         directory = os.path.join(self.trying.guard.directory, 'disk')
@@ -173,12 +246,17 @@ class Search:
 
     def explain(self, found: Sightings) -> None:
         """Says of each further failure whether it is a crash state at all."""
-        wanted = {(digest_of(one.tree), one.says) for one in found.further}
-        there, is_whole = crash_states(self.trace, wanted) if wanted else (set(), True)
-        for place, one in enumerate(found.further):
-            is_there = (digest_of(one.tree), one.says) in there
-            where = UNTRIED if is_there else OUTSIDE if is_whole else UNKNOWN
-            found.further[place] = one._replace(where=where)
+        lefts = [(digest_of(one.tree), one.says[0]) for one in found.further]
+        there, is_whole = crash_states(self.trace, set(lefts)) if lefts else (set(), True)
+        joined: Dict[Tuple[str, str, str], OnDisk] = {}
+        for left, one in zip(lefts, found.further):
+            where = UNTRIED if left in there else OUTSIDE if is_whole else UNKNOWN
+            first = joined.setdefault(
+                (left[0], one.outcome.cause, where), one._replace(where=where, says=[])
+            )
+            first.says.extend(one.says)
+            keep_first(first.crashes, one.crashes)
+        found.further = list(joined.values())
 
 
 class OnDiskTree(NamedTuple):

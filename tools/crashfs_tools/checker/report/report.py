@@ -15,6 +15,7 @@ from crashfs_tools.checker.running.runner import BAD, GOOD, NO_ANSWER
 from crashfs_tools.common.trace_lines import TraceLine
 
 if TYPE_CHECKING:
+    from crashfs_tools.checker.findings.on_disks import Sightings
     from crashfs_tools.checker.findings.second_crashes import Recovery, SecondCrash
 
     from .drawing import Drawing
@@ -45,6 +46,7 @@ class Report:
         self.packed_windows: List[bytes] = []
         self.drawings: List[Drawing] = []
         self.recoveries: List[Recovery] = []
+        self.sightings: Optional[Sightings] = None
 
     def add(self, findings: Findings) -> None:
         results, plan = findings.results, findings.plan
@@ -87,7 +89,8 @@ class Report:
     def status(self) -> int:
         if self.results[NO_ANSWER]:
             return NOT_ALL_TRIED
-        if self.results[BAD] or any(one.groups for one in self.recoveries):
+        further = self.sightings is not None and self.sightings.further
+        if self.results[BAD] or further or any(one.groups for one in self.recoveries):
             return SOME_FAIL
         return NOT_ALL_TRIED if self.head.stopped else NONE_FAILS
 
@@ -108,7 +111,13 @@ class Report:
                 '(all are in the file of --json)'
             )
         return self.first_lines() + [
-            cut(line) for line in [*lines, *self.cut_off_lines(), *self.recovery_lines()]
+            cut(line)
+            for line in [
+                *lines,
+                *self.cut_off_lines(),
+                *self.recovery_lines(),
+                *self.disk_lines(),
+            ]
         ]
 
     def first_lines(self) -> List[str]:
@@ -173,6 +182,16 @@ class Report:
         ]
         return lines
 
+    def disk_lines(self) -> List[str]:
+        """What was seen on real disks, and the failures there that no tried state has."""
+        if self.sightings is None:
+            return []
+        lines = [f'  {line}' for line in self.sightings.lines()]
+        for one in self.sightings.further:
+            lines.append(f'  {cut(one.outcome.cause, CAUSE_WIDTH):<{CAUSE_WIDTH}} {one.where}')
+            lines += [f'    {line}' for line in one.lines()]
+        return lines
+
     def group_lines(self, group: Group, second: Optional[SecondCrash] = None) -> List[str]:
         """The lines of an entry. second says where the second crash was, if there was one."""
         from textwrap import wrap
@@ -215,6 +234,8 @@ class Report:
             lines.append(
                 f'state {group.example.number} also lacks ' + ', '.join(map(self.shown_line, lost))
             )
+        if self.sightings is not None:
+            lines.append(self.sightings.sentence([state.number for state in group.states]))
         return lines
 
     def json_pieces(self) -> Iterator[str]:
@@ -225,7 +246,10 @@ class Report:
         groups = [self.group_fields(group) for group in self.groups()]
         yield '],\n"groups":' + json.dumps(groups, indent=1, ensure_ascii=False)
         recoveries = [self.recovery_fields(one) for one in self.recoveries]
-        yield ',\n"recoveries":' + json.dumps(recoveries, indent=1, ensure_ascii=False) + '}\n'
+        yield ',\n"recoveries":' + json.dumps(recoveries, indent=1, ensure_ascii=False)
+        if self.sightings is not None:
+            yield ',\n"disks":' + json.dumps(self.sightings.fields(), indent=1, ensure_ascii=False)
+        yield '}\n'
 
     @staticmethod
     def recovery_fields(recovery: Recovery) -> Dict[str, Any]:

@@ -52,6 +52,14 @@ class Progress:
             f'about {duration(seconds)} left'
         )
 
+    def note(self, done: int, total: int) -> None:
+        """How many of the moments of a session were tried on real disks."""
+        if self.terminal and self.clock() - self.told >= TERMINAL_SECONDS:
+            self.told = self.clock()
+            text = f'disks: {done:,} of {total:,} moments'
+            print(f'\r{text}\033[K' if done < total else '\r\033[K', end='', file=self.stream)
+            self.stream.flush()
+
     def end(self) -> None:
         if self.terminal and self.tried:
             print('\r\033[K', end='', file=self.stream, flush=True)
