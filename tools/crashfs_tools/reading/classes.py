@@ -59,15 +59,15 @@ class Classes:
 
     def different(self) -> Iterator[int]:
         """The first set of each different state, ascending as every_set has them."""
-        met: Set[Tuple[int, Found]] = set()
+        followed: Set[Tuple[int, Found]] = set()
         trees: Set[Tuple[int, Tree]] = set()
         waiting = [(0, self.order.full, Found(self.number({}), (), 0))]
         while waiting:
             places, future, found = waiting.pop()
             one = future, self.left(found, future)
-            if one in met:
+            if one in followed:
                 continue
-            met.add(one)
+            followed.add(one)
             if future:
                 lowest = future & -future
                 waiting.append((places | lowest, future ^ lowest, self.step(one[1], lowest)))

@@ -14,8 +14,9 @@ from crashfs_tools.checker.running.trying import Trying
 from crashfs_tools.checker.states.layout import lay_out, top_of
 from crashfs_tools.common.archive import Member
 from crashfs_tools.common.entry import Entries, Entry
-from crashfs_tools.common.guard import Guard, remove_tree
+from crashfs_tools.common.guard import Guard
 from crashfs_tools.common.program import entry_of
+from crashfs_tools.common.removal import remove_tree
 from crashfs_tools.common.trace_read import read_trace
 from crashfs_tools.disks.disk import Crash, Disk, digest_of
 from crashfs_tools.disks.filesystems import FileSystem, named
