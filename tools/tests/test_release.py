@@ -3,7 +3,6 @@
 from __future__ import annotations
 
 import hashlib
-import importlib.util
 import json
 import os
 import posixpath
@@ -14,10 +13,10 @@ import sys
 import tarfile
 import unittest
 from functools import lru_cache
-from importlib.machinery import SourceFileLoader
 from pathlib import Path
-from typing import Any, Dict, Set
+from typing import Dict, Set
 
+from building.order import libraries
 from crashfs_tools import VERSION
 from releasing.archives import control_of, for_debian, write_package, write_tarball
 from releasing.layout import TOP, Item, Items, items_with
@@ -51,17 +50,6 @@ LINK = re.compile(r'\]\(([^)#\s]+)(?:#[^)]*)?\)')
 
 needs_git = needed((TOP / '.git').exists(), 'this is no clone')
 needs_dpkg = needed(shutil.which('dpkg-deb') is not None, 'dpkg-deb is not there')
-
-
-def module_of(command: str) -> Any:
-    """A command of tools/ as a module."""
-    loader = SourceFileLoader(f'{command}_command', str(TOP / 'tools' / command))
-    spec = importlib.util.spec_from_loader(loader.name, loader)
-    assert spec is not None
-    module = importlib.util.module_from_spec(spec)
-    sys.modules[loader.name] = module
-    loader.exec_module(module)
-    return module
 
 
 def tracked_modes(folder: str) -> Dict[str, int]:
@@ -138,7 +126,7 @@ class Linked(unittest.TestCase):
     def test_the_list_has_each_library_of_the_program_and_no_other(self) -> None:
         crates = (TOP / 'crates.txt').read_text()
         found = packages_of(spdx(MADE, crates))
-        own = set(module_of('build').libraries()) - {'crashfs'}
+        own = set(libraries()) - {'crashfs'}
         of_kit = {'rattle-standard-library', 'glibc', 'libgcc'}
         self.assertTrue(own < set(found))
         for name, version in found.items():
