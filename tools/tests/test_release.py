@@ -122,6 +122,26 @@ class Statements(InFolder):
             )
 
 
+class Installed(InFolder):
+    def test_installed_tools_name_no_file_that_only_a_clone_has(self) -> None:
+        ignored = shutil.ignore_patterns('__pycache__')
+        shutil.copytree(TOP / 'tools' / 'crashfs_tools', self.path('crashfs_tools'), ignore=ignored)
+        shutil.copy2(TOP / 'tools' / 'crashfs-check', self.path('crashfs-check'))
+        config = TOP / 'examples' / 'config'
+        for command, named in ((TOP / 'tools' / 'crashfs-check', True), ('crashfs-check', False)):
+            words = ['--unproved', config / 'config.trace', '--', config / 'check.sh']
+            ran = subprocess.run(
+                [sys.executable, '-S', command, *words],
+                cwd=self.folder,
+                capture_output=True,
+                text=True,
+                check=False,
+            )
+            first = ran.stdout.splitlines()[0]
+            self.assertTrue(first.startswith('unproved: '), first)
+            self.assertEqual('tools/build' in first, named, first)
+
+
 class Linked(unittest.TestCase):
     def test_the_list_has_each_library_of_the_program_and_no_other(self) -> None:
         crates = (TOP / 'crates.txt').read_text()

@@ -19,6 +19,7 @@ PACKAGE = os.path.dirname(os.path.dirname(os.path.realpath(__file__)))
 LIBRARY = os.path.dirname(PACKAGE)
 TOP = os.path.dirname(LIBRARY)
 BUILT = os.path.join(TOP, 'crates', 'crashfs', 'out', 'crashfs')
+BUILDER = os.path.join(LIBRARY, 'build')
 READING = os.path.join(PACKAGE, 'reading', '__main__.py')
 # The status of a command line that the program doesn't know.
 UNKNOWN_OPTION = 2
@@ -29,6 +30,11 @@ ARCHIVE_BYTES = 1 << 18
 NOT_STARTED = 126
 # What the program says of a trace that it would take in parts.
 TOO_LARGE = ('plan too large', 'too many micro-operations')
+
+
+def can_be_built() -> bool:
+    """Whether these tools are those of a clone, which has `tools/build`; installed ones haven't."""
+    return os.access(BUILDER, os.X_OK) and os.path.isdir(os.path.join(TOP, 'crates'))
 
 
 class ProgramFault(Exception):

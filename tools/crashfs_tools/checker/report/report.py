@@ -12,6 +12,7 @@ from typing import Dict, Iterator, List, Optional
 from crashfs_tools.checker.findings.groups import Findings, Group, merged_groups
 from crashfs_tools.checker.running.results import Head
 from crashfs_tools.checker.running.runner import BAD, GOOD, NO_ANSWER
+from crashfs_tools.common.program import can_be_built
 from crashfs_tools.common.trace_lines import TraceLine
 
 if TYPE_CHECKING:
@@ -26,9 +27,8 @@ DRAWN = 8
 WIDTH = 100
 CAUSE_WIDTH = 52
 NONE_FAILS, SOME_FAIL, NOT_ALL_TRIED = 0, 1, 3
-UNPROVED = (
-    'unproved: a Python program computed these states, not crashfs ' '(tools/build builds crashfs)'
-)
+UNPROVED = 'unproved: a Python program computed these states, not crashfs'
+HOW_TO_BUILD = ' (tools/build builds crashfs)'
 
 
 class Report:
@@ -121,7 +121,8 @@ class Report:
         ]
 
     def first_lines(self) -> List[str]:
-        return [UNPROVED, self.summary()] if self.head.unproved else [self.summary()]
+        how = HOW_TO_BUILD if can_be_built() else ''
+        return [UNPROVED + how, self.summary()] if self.head.unproved else [self.summary()]
 
     def summary(self) -> str:
         head = self.head
