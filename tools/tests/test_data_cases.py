@@ -5,7 +5,8 @@ from __future__ import annotations
 
 import re
 import unittest
-from typing import Iterator, List, Optional
+from functools import partialmethod
+from typing import Iterator, List, Optional, Type
 
 from crashfs_tools.common.program import Crashfs
 
@@ -175,14 +176,10 @@ def areas() -> List[str]:
     return sorted(path.name for path in CASES.iterdir() if path.is_dir())
 
 
-def test_of(area: str):
-    return lambda self: self.run_area(area)
-
-
-def with_areas(cls: type) -> type:
+def with_areas(cls: Type[Cases]) -> Type[Cases]:
     """A test for each area, so that they run beside each other."""
     for area in areas():
-        setattr(cls, f'test_{area}', test_of(area))
+        setattr(cls, f'test_{area}', partialmethod(Cases.run_area, area))
     return cls
 
 

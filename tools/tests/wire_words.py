@@ -3,7 +3,7 @@
 from __future__ import annotations
 
 import struct
-from typing import Callable, Dict, Iterator, Tuple
+from typing import Callable, Dict, Iterator, Optional, Tuple
 
 NOFID = 0xFFFFFFFF
 # The bits before the digits of a mode, by their words (stat(5)).
@@ -14,6 +14,18 @@ BITS = {
     'auth': 0x08000000,
     'tmp': 0x04000000,
 }
+# The integers of a stat and their bytes: kind, vers and path are its qid's.
+INTEGERS = (
+    ('type', 2),
+    ('dev', 4),
+    ('kind', 1),
+    ('vers', 4),
+    ('path', 8),
+    ('mode', 4),
+    ('atime', 4),
+    ('mtime', 4),
+    ('length', 8),
+)
 # A word for a message, its type, and its fields: a letter for each, as in FIELDS.
 KINDS: Dict[str, Tuple[int, str]] = {
     'version': (100, '4s'),
@@ -36,10 +48,8 @@ KINDS: Dict[str, Tuple[int, str]] = {
 
 
 def number(width: int) -> Callable[[str], bytes]:
-    """What spells a number of so many bytes; `xff` is hexadecimal."""
-    return lambda word: (int(word[1:], 16) if word[:1] == 'x' else int(word)).to_bytes(
-        width, 'little'
-    )
+    """What spells a number of so many bytes."""
+    return lambda word: int(word).to_bytes(width, 'little')
 
 
 def text(word: str) -> bytes:
@@ -70,22 +80,16 @@ def permissions(word: str) -> bytes:
 def stat(word: str) -> bytes:
     """The stat of a wstat that says "don't touch" of every field but those of `name=g,mode=600`."""
     changes = dict(change.split('=', 1) for change in word.split(',') if change)
-    mode = mode_of(changes['mode']) if 'mode' in changes else NOFID
-    version, path = int(changes.get('vers', NOFID)), int(changes.get('path', 2**64 - 1))
-    fields = struct.pack(
-        '<HIBIQIIIQ',
-        int(changes.get('type', 0xFFFF)),
-        int(changes.get('dev', NOFID)),
-        int(changes.get('kind', 0xFF)),
-        version,
-        path,
-        mode,
-        int(changes.get('atime', NOFID)),
-        int(changes.get('mtime', NOFID)),
-        int(changes.get('length', 2**64 - 1)),
-    )
+    fields = b''.join(integer(width, changes.get(name), name == 'mode') for name, width in INTEGERS)
     fields += b''.join(text(changes.get(name, '')) for name in ('name', 'uid', 'gid', 'muid'))
     return struct.pack('<HH', len(fields) + 2, len(fields)) + fields
+
+
+def integer(width: int, word: Optional[str], is_mode: bool) -> bytes:
+    """A field of so many bytes: all ones if no word says what it is."""
+    if word is None:
+        return b'\xff' * width
+    return (mode_of(word) if is_mode else int(word)).to_bytes(width, 'little')
 
 
 FIELDS: Dict[str, Callable[[str], bytes]] = {
