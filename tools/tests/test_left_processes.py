@@ -25,7 +25,7 @@ import os, sys, time
 word = '{word}'
 for name in filter(str.isdigit, os.listdir('/proc')):
     try:
-        if word in open('/proc/%s/cmdline' % name).read().split('\\0'):
+        if word in open('/proc/%s/cmdline' % name, errors='replace').read().split('\\0'):
             print('left: by another state')
             sys.exit(1)
     except OSError:
