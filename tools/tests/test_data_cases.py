@@ -196,5 +196,16 @@ class ByTheProgram(Cases):
     program = PROGRAM.path if PROGRAM is not None else None
 
 
+class Files(unittest.TestCase):
+    def test_each_example_says_what_it_shows_and_checks_something(self) -> None:
+        for area in areas():
+            for case in cases_of(area):
+                with self.subTest(case.name):
+                    self.assertRegex(case.shows, '[.]$')
+                    self.assertNotEqual(case.checks, [])
+                    for check in case.checks:
+                        self.assertTrue(hasattr(Cases, 'check_' + check.name.split()[0]))
+
+
 if __name__ == '__main__':
     unittest.main()
