@@ -16,6 +16,8 @@ TEST = re.compile(r'^\s*#\[test\]', re.M)
 RESULT = re.compile(r'^test (\S+) \.\.\. (\w+)$', re.M)
 # These tests take all memory until malloc refuses some; `rt try` has AddressSanitizer's malloc.
 REFUSED = 'they let allocations fail, which only .ci/run can do'
+# How long a test may take: so long only if the machine has much other work.
+SECONDS = '600'
 # What `rt try` can't run: crates, and single tests of other crates, each with the reason.
 LEFT_CRATES = {'cs_growth_tests': REFUSED}
 LEFT_TESTS = {
@@ -75,7 +77,7 @@ def try_tests(crate: Crate) -> Outcome:
     """Runs the tests of a crate, without any proof."""
     begin = time.monotonic()
     ran = subprocess.run(
-        ['rt', 'try', '--test'],
+        ['rt', 'try', '--test', '--seconds', SECONDS],
         cwd=CRATES / crate.name,
         stdin=subprocess.DEVNULL,
         stdout=subprocess.PIPE,
