@@ -359,25 +359,18 @@ class Records(InRecordings):
         )
 
     def test_what_has_no_room_is_not_there(self):
-        for keep, told in [
-            ((), 'out.trace: File too large; no trace is written'),
-            (('--keep-log', 'log'), 'log: File too large; no trace is written'),
-        ]:
-            ran = self.run_tool(
-                'crashfs-record',
-                *keep,
-                'd',
-                'out.trace',
-                '--',
-                'sh',
-                '-c',
-                'for i in 1 2 3 4 5; do echo $i > f$i; done',
-                file_bytes=300,
-            )
-            self.assertEqual(ran.returncode, 1)
-            self.assertEqual(ran.stderr, f'crashfs-record: {told}\n')
-            self.assertEqual(sorted(os.listdir(self.folder)), ['d', *keep[1:], 'tmp'])
-            self.assert_nothing_left()
+        words = ['d', 'out.trace', '--', 'sh', '-c', 'for i in 1 2 3 4 5; do echo $i > f$i; done']
+        ran = self.run_tool('crashfs-record', *words, file_bytes=300)
+        self.assertEqual(ran.returncode, 1)
+        reason = 'out.trace: File too large; no trace is written'
+        self.assertEqual(ran.stderr, f'crashfs-record: {reason}\n')
+        self.assertEqual(sorted(os.listdir(self.folder)), ['d', 'tmp'])
+        self.assert_nothing_left()
+        ran = self.run_tool('crashfs-record', '--keep-log', 'log', *words, file_bytes=3000)
+        self.assertEqual(ran.returncode, 3, ran.stderr)
+        self.assertIn('not in the trace: log: its log is cut: File too large\n', ran.stderr)
+        self.assertIn('its last state equals the directory', ran.stderr)
+        self.assertEqual(len(self.operations()), 10)
 
 
 if __name__ == '__main__':

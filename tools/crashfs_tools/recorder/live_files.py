@@ -68,7 +68,7 @@ class LiveFiles:
     def add_scan(self, scan: Scan) -> None:
         """Takes what the directory has at the start, as the trace's start tree."""
         trace = self.recording.trace
-        for entry in scan.entries:
+        for entry in scan.entries[: limits.RECORDS - 1]:
             source = scan.links.get(entry.path)
             if source is not None and trace.has(StartLink):
                 node = self.tree.nodes[source]
@@ -85,7 +85,17 @@ class LiveFiles:
         self.add_left_out(scan)
 
     def add_left_out(self, scan: Scan) -> None:
-        """Reports what the start tree doesn't have."""
+        """Reports what the start tree doesn't have. Entries come after their directories."""
+        too_many = scan.entries[limits.RECORDS - 1 :]
+        if too_many:
+            self.report(
+                f'the start tree leaves out {len(too_many):,} of its files and directories: a '
+                f'trace has {limits.RECORDS - 1:,} at most',
+                '/',
+            )
+        for entry in too_many:
+            self.recording.differing.add(entry.path)
+            self.tree.add(entry.path, Node.unknown())
         for path, why in scan.left_out:
             self.report(f'the start tree leaves out {why}', path)
             if path not in self.tree.nodes:

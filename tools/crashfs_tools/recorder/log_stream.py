@@ -8,9 +8,10 @@ import re
 import signal
 import threading
 import time
-from typing import List, Optional, Set, TextIO
+from typing import List, Optional, Set
 
 from . import stopped_processes
+from .arguments import LogError
 from .log_filter import LogFilter
 from .mapped_files import MappedFiles
 from .pipe_lines import PipeLines
@@ -41,6 +42,7 @@ class LogStream:
         # Whether threads ran while the newest copy was taken: the next one isn't sure either.
         self.was_late = False
         self.fault: Optional[OSError] = None
+        self.log_error: Optional[LogError] = None
         self.opened = threading.Event()
         self.thread = threading.Thread(target=self.read, daemon=True)
 
@@ -48,11 +50,12 @@ class LogStream:
         self.thread.start()
 
     def end(self) -> Log:
-        """The log, when strace has ended. OSError if it could not be kept."""
+        """The log, when strace has ended; LogError if it isn't strace's. fault says why it could
+        not be kept whole."""
         self.release()
         self.thread.join()
-        if self.fault is not None:
-            raise self.fault
+        if self.log_error is not None:
+            raise self.log_error
         return self.reader.log
 
     def release(self) -> None:
@@ -90,11 +93,19 @@ class LogStream:
             return None
         self.lines += 1
         self.keep(line)
-        self.reader.line(self.lines, line.rstrip('\n'))
+        self.read_line(line.rstrip('\n'))
         if self.mapped is not None:
             self.mapped.note(line, self.lines)
         stopped = STOPPED.match(line)
         return int(stopped[1]) if stopped else None
+
+    def read_line(self, line: str) -> None:
+        """Reads a line. After one that isn't strace's no other is read, and COMMAND runs on."""
+        try:
+            if self.log_error is None:
+                self.reader.line(self.lines, line)
+        except LogError as error:
+            self.log_error = LogError(f'{error}, in line {self.lines}')
 
     def copy_and_continue(self, mapped: MappedFiles, thread: int, lines: PipeLines) -> None:
         """Copies the mapped files of a process whose threads are all stopped, and continues it."""
@@ -138,7 +149,7 @@ class LogStream:
             if self.kept is not None and self.fault is None:
                 self.kept.write(line)
         except OSError as error:
-            self.fault = named(error, self.kept)
+            self.fault = error
 
     def close_kept(self) -> None:
         if self.kept is None:
@@ -146,9 +157,4 @@ class LogStream:
         try:
             self.kept.close()
         except OSError as error:
-            self.fault = self.fault or named(error, self.kept)
-
-
-def named(error: OSError, file: Optional[TextIO]) -> OSError:
-    """The error with the file's name, which errors of a write don't have."""
-    return OSError(error.errno, error.strerror, None if file is None else file.name)
+            self.fault = self.fault or error

@@ -11,31 +11,35 @@ from typing import List, Optional, Tuple
 from crashfs_tools.common import descendants
 from crashfs_tools.common.command import Refused, print_line, write_whole
 from crashfs_tools.common.guard import Guard, Stopped, stop_by_exception
+from crashfs_tools.common.own_faults import prepare_standard_streams, print_own_fault
+from crashfs_tools.common.printable import printable
 from crashfs_tools.common.program import Crashfs
 from crashfs_tools.common.trace import Say
 
 from . import stacks, strace_run, summary
 from .begin_after import LateStart
 from .arguments import LogError
-from .directory import group_name, scan, user_name
+from .directory import Scan, group_name, scan, user_name
 from .log_filter import LogFilter
 from .live_files import LiveFiles, StartConditions
 from .log_stream import LogStream
 from .mapped_files import FileCopies, MappedFiles
 from .options import NAME, RecordOptions, check, read_options
 from .output_streams import SayEach
-from .recording import Recording, TraceSettings
+from .recording import Recording, TraceSettings, is_private
 from .strace_log import Log, read_log
 from .translate import Translator
 
 NOTHING = 1
+WRITTEN, NOT_WRITTEN = 'the trace is written', 'no trace is written'
 BEGINS = 'it begins after an acknowledged line: what was not yet synced then counts as durable'
 
 
 @dataclass
 class RecordedRun:
     """The results of a run of COMMAND: strace's log, the copies of mapped files, its status, the
-    signals that were passed to it, and the processes that could not be ended."""
+    signals that were passed to it, the processes that could not be ended, and why the log was not
+    kept whole."""
 
     log: Log
     copies: Optional[FileCopies] = None
@@ -43,6 +47,7 @@ class RecordedRun:
     stops: Tuple[int, ...] = ()
     output: Optional[str] = None
     left: str = ''
+    log_fault: str = ''
 
 
 def run_command(options: RecordOptions, guard: Guard) -> RecordedRun:
@@ -71,6 +76,7 @@ def run_command(options: RecordOptions, guard: Guard) -> RecordedRun:
         tuple(running.stops),
         running.output,
         descendants.shown(left),
+        stream.fault.strerror if stream.fault else '',
     )
 
 
@@ -129,21 +135,51 @@ def record(options: RecordOptions) -> int:
         with Guard('crashfs-record-') as guard:
             run = run_command(options, guard)
     translate(options, files, run)
-    write_whole(options.out, (line + '\n' for line in recording.trace.lines()))
+    write_trace(options, recording)
+    try:
+        return finish(options, recording, before, run)
+    except OSError as error:
+        print_text(f'{error.filename or options.out}: {error.strerror}; {WRITTEN}')
+    except Exception as error:
+        print_own_fault(NAME, error, WRITTEN)
+    return summary.NOT_WHOLE
+
+
+def write_trace(options: RecordOptions, recording: Recording) -> None:
+    """Writes the trace; only for its owner if a file that it has is not for everybody."""
+    before = os.umask(0o077) if is_private(recording.trace) else None
+    try:
+        write_whole(options.out, (line + '\n' for line in recording.trace.lines()))
+    finally:
+        if before is not None:
+            os.umask(before)
+
+
+def finish(options: RecordOptions, recording: Recording, before: Scan, run: RecordedRun) -> int:
+    """Compares the trace, which is written, prints what it doesn't have, and returns the status."""
     found = summary.final_report(recording, options, summary.ending_of(run.status, run.stops))
-    how = 'its last state was compared with nothing'
+    how = summary.NOT_COMPARED
     if options.from_log is None:
         how = summary.compare(options, recording, before, found)
     begins = [BEGINS] if recording.begins_later else []
     for line in found.lines + found.notes + begins:
-        print_line(NAME, line)
-    print_line(NAME, summary.summary(options, recording, how))
+        print_text(line)
+    print_text(summary.summary(options, recording, how))
     return found.status
+
+
+def print_text(text: str) -> None:
+    """Prints a line on standard error; names in it can't control the terminal."""
+    print_line(NAME, printable(text))
 
 
 def translate(options: RecordOptions, files: LiveFiles, run: RecordedRun) -> None:
     """Translates the log into the recording's operations."""
     recording = files.recording
+    if run.log.cut is not None:
+        recording.report(f'line {run.log.cut} of the log is not a whole call, and is left out', '/')
+    if run.log_fault:
+        recording.report(f'its log is cut: {run.log_fault}', options.keep_log or '')
     if run.left:
         recording.report(f'a process that COMMAND left could not be ended: {run.left}', '/')
     recording.streams.set_standard_output(run.output)
@@ -165,17 +201,20 @@ def translate(options: RecordOptions, files: LiveFiles, run: RecordedRun) -> Non
 
 
 def main(arguments: Optional[List[str]] = None) -> int:
+    prepare_standard_streams()
     options = read_options(sys.argv[1:] if arguments is None else arguments)
     stop_by_exception()
     try:
         return record(options)
     except Stopped as stopped:
-        print_line(NAME, f'stopped by {stopped}; nothing is written')
+        print_text(f'stopped by {stopped}; nothing is written')
         return stopped.status
     except (Refused, LogError) as refused:
-        print_line(NAME, f'{refused}')
+        print_text(f'{refused}')
     except OSError as error:
-        print_line(NAME, f'{error.filename or options.out}: {error.strerror}; no trace is written')
+        print_text(f'{error.filename or options.out}: {error.strerror}; {NOT_WRITTEN}')
     except subprocess.SubprocessError as error:
-        print_line(NAME, f'{error}')
+        print_text(f'{error}')
+    except Exception as error:
+        print_own_fault(NAME, error, NOT_WRITTEN)
     return NOTHING

@@ -30,6 +30,8 @@ STOPPING_CALLS = (
     'splice',
     'ftruncate',
     'truncate',
+    'ftruncate64',
+    'truncate64',
     'fallocate',
     'rename',
     'renameat',
@@ -39,12 +41,13 @@ STOPPING_CALLS = (
     'unlink',
     'unlinkat',
     'mmap',
+    'mmap2',
     'munmap',
     'mremap',
     'copy_file_range',
 )
 MAPPED = re.compile(
-    r'^(\d+) +mmap\([^,]*, \d+, [^,]*, [^,]*MAP_SHARED[^,]*, ' r'(\d+)<((?:\\x[0-9a-f]{2})+)>'
+    r'^(\d+) +mmap2?\([^,]*, \d+, [^,]*, [^,]*MAP_SHARED[^,]*, ' r'(\d+)<((?:\\x[0-9a-f]{2})+)>'
 )
 
 

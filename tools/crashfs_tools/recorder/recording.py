@@ -9,13 +9,17 @@ from crashfs_tools.common.trace import (
     BLOCK_SIZES,
     BLOCKS,
     WRITTEN_VERSION,
+    Chmod,
+    Creat,
     Fsync,
     FsyncRange,
     Header,
     Link,
+    Mkdir,
     Operation,
     Rename,
     Say,
+    Start,
     Sync,
     Trace,
 )
@@ -43,6 +47,14 @@ def place_of(operation: Operation) -> str:
     if isinstance(operation, (Rename, Link)):
         return operation.source
     return '/' if isinstance(operation, (Sync, Say)) else operation.path
+
+
+def is_private(trace: Trace) -> bool:
+    """Whether a trace has a file or directory that not everybody may read."""
+    modes = [trace.header.mode]
+    modes += [one.mode for one in trace.start if isinstance(one, Start)]
+    modes += [one.mode for one in trace.operations if isinstance(one, (Creat, Mkdir, Chmod))]
+    return any(mode & 0o044 != 0o044 for mode in modes)
 
 
 class Recording:

@@ -7,6 +7,7 @@ from dataclasses import dataclass, field
 from typing import Dict, Iterable, List, Optional, Set
 
 from . import arguments
+from .arguments import LogError
 from .log_filter import LogFilter
 
 LINE = re.compile(r'^(\d+)\s+(\w+)\((.*)\)\s+= (0x[0-9a-f]+|-?\d+|\?)(.*)$', re.S)
@@ -54,11 +55,13 @@ class Call:
 
 @dataclass
 class Log:
-    """A whole log. first is the process that strace started, and ended all that ended."""
+    """A whole log. first is the process that strace started, and ended all that ended; cut is the
+    first line that begins a call and isn't whole."""
 
     calls: List[Call] = field(default_factory=list)
     ended: List[int] = field(default_factory=list)
     first: Optional[int] = None
+    cut: Optional[int] = None
 
     @property
     def is_whole(self) -> bool:
@@ -90,8 +93,12 @@ class LogReader:
         self.shown: Optional[Call] = None
 
     def read(self, lines: Iterable[str]) -> Log:
+        """Reads a whole log; LogError if a line isn't as strace writes it."""
         for number, line in enumerate(lines, 1):
-            self.line(number, line.rstrip('\n'))
+            try:
+                self.line(number, line.rstrip('\n'))
+            except LogError as error:
+                raise LogError(f'{error}, in line {number}') from error
         return self.log
 
     def line(self, number: int, line: str) -> None:
@@ -151,6 +158,8 @@ class LogReader:
             self.mark(number, int(ended[1]), EXIT, 0)
         elif superseded:
             self.mark(number, int(superseded[1]), SUPERSEDE, int(superseded[2]))
+        elif self.log.cut is None and BEGUN.match(line):
+            self.log.cut = number
 
     def mark(self, number: int, process: int, name: str, result: int) -> None:
         nothing = arguments.Descriptor(-1, None, False)

@@ -28,6 +28,7 @@ from .recording import Recording
 from .troubles import Trouble
 
 WHOLE, NOT_WHOLE, NOTED = 0, 3, 4
+NOT_COMPARED = 'its last state was compared with nothing'
 IN_WINDOWS = 'states in windows (crashfs-check makes them)'
 
 
@@ -122,7 +123,11 @@ def held_text(stream: OutputStream) -> List[str]:
 
 def compare(options: RecordOptions, recording: Recording, before: Scan, found: FinalReport) -> str:
     """Compares the directory with the last state, adds what differs, and returns the verdict."""
-    now = scan(options.directory, options.ignored)
+    try:
+        now = scan(options.directory, options.ignored)
+    except OSError as error:
+        found.lines.append(f'{error.filename}: {error.strerror}: {NOT_COMPARED}')
+        return NOT_COMPARED
     reported = recording.troubles.places() | recording.differing
     for last in last_states(options, recording):
         try:
@@ -130,7 +135,7 @@ def compare(options: RecordOptions, recording: Recording, before: Scan, found: F
         except ProgramFault:
             continue
         different = (
-            differences(now, entries, reported)
+            differences(now, entries, reported | {path for path, _ in now.left_out})
             + left_out_at_the_end(before, now, reported)
             + links_that_differ(now, recording.tree, reported)
         )
@@ -139,7 +144,7 @@ def compare(options: RecordOptions, recording: Recording, before: Scan, found: F
         but = ', except for what is reported' if reported and not different else ''
         found.lines += different
         return f'its last state {verdict} the directory{but} (by {last.name})'
-    return 'its last state was compared with nothing'
+    return NOT_COMPARED
 
 
 def last_states(options: RecordOptions, recording: Recording) -> List[LastState]:

@@ -5,6 +5,7 @@ from __future__ import annotations
 from typing import Optional
 
 from crashfs_tools.common.trace import Chmod, Chown
+from crashfs_tools.recorder import acl, arguments
 from crashfs_tools.recorder.arguments import integer, octal
 from crashfs_tools.recorder.directory import group_name, user_name
 from crashfs_tools.recorder.live_tree import Node
@@ -30,7 +31,8 @@ def on_fchmodat(files: LiveFiles, process: Process, call: Call) -> None:
 
 
 def set_mode(files: LiveFiles, node: Optional[Node], word: str) -> None:
-    mode = octal(word)
+    # Some programs pass the kind of the file too, which the kernel ignores.
+    mode = octal(word) & 0o7777
     if node is not None:
         node.mode = mode & PERMISSIONS
     path = path_in_trace(node)
@@ -74,14 +76,26 @@ def path_in_trace(node: Optional[Node]) -> Optional[str]:
 
 
 def on_attribute(files: LiveFiles, process: Process, call: Call) -> None:
-    """Notes extended attributes, which no trace has."""
-    named = call.name.startswith('f')
-    file = files.open_file(process, call) if named else None
-    path = path_in_trace(
-        file.node if file else None if named else files.node_argument(process, call, 0)
-    )
-    if path is not None:
-        files.recording.note('its extended attributes change, which no trace has', path)
+    """Notes extended attributes, which no trace has; but a list of rights is a mode, too."""
+    node = attribute_node(files, process, call)
+    path = path_in_trace(node)
+    if path is None:
+        return
+    if call.name.endswith('setxattr') and arguments.path(call.word(1)) == acl.NAME:
+        entries = acl.entries_of(arguments.data(call.word(2)) or b'')
+        if entries is not None:
+            set_mode(files, node, f'{acl.mode_of(entries):o}')
+            if acl.is_mode(entries):
+                return
+    files.recording.note('its extended attributes change, which no trace has', path)
+
+
+def attribute_node(files: LiveFiles, process: Process, call: Call) -> Optional[Node]:
+    """The file whose attributes a call changes."""
+    if not call.name.startswith('f'):
+        return files.node_argument(process, call, 0)
+    file = files.open_file(process, call)
+    return file.node if file else None
 
 
 HANDLERS = {

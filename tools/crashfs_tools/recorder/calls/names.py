@@ -56,6 +56,9 @@ def rename_traced(files: LiveFiles, node: Node, source: str, target: str) -> Non
 def remove_directory(files: LiveFiles, path: Optional[str]) -> None:
     if path is None or path not in files.tree.nodes:
         return
+    if path == '/':
+        files.report('the directory itself was removed', path)
+        return
     node = files.tree.remove(path)
     if path in node.traced_paths:
         files.recording.add(Rmdir(path))
@@ -91,6 +94,9 @@ def on_renameat(files: LiveFiles, process: Process, call: Call) -> None:
 
 def rename_path(files: LiveFiles, source: Optional[str], target: Optional[str], flags: str) -> None:
     if source is None and target is None:
+        return
+    if '/' in (source, target):
+        files.report('the directory itself was renamed, or replaced', '/')
         return
     node = files.tree.get(source)
     if source is not None and 'RENAME_WHITEOUT' in flags:

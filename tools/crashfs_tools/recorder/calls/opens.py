@@ -57,7 +57,7 @@ def open_path(
         node = node_to_open(files, process, made, flags, mode)
     else:
         node = node_to_open(files, process, path, flags, mode)
-    file = None if node is None or 'O_PATH' in flags else OpenFile.of(node, flags)
+    file = None if node is None else OpenFile.of(node, flags)
     process.descriptors.put(call.result, file, 'O_CLOEXEC' in flags)
 
 
@@ -73,8 +73,10 @@ def node_to_open(
     files: LiveFiles, process: Process, path: Optional[str], flags: str, mode: str
 ) -> Optional[Node]:
     """The file that an open returns, created or truncated as its flags say."""
-    if path is None or 'O_PATH' in flags:
+    if path is None:
         return None
+    if 'O_PATH' in flags:
+        return files.tree.get(path)
     bits = octal(mode or '0') & ~process.paths.umask & 0o777
     if 'O_TMPFILE' in flags:
         made = Node.file(bits)
