@@ -38,4 +38,5 @@ def checked(trace: str, command: Sequence[str]) -> Checked:
         assert run.findings is not None
         state = report.groups()[0].example.number
         files = program.tree_of([*planned.words, '--state', str(state)], guard.environment)
+    assert run.findings is not None
     return Checked(run.findings, report, files)

@@ -7,7 +7,6 @@ from typing import Dict, List
 
 from crashfs_tools.checker.report.drawing import Drawing, drawing_of
 
-from crashfs_tools.checker.running.runner import BAD
 
 from .checked import Checked
 from .svg import LINE, MARGIN, WIDTH, Picture, area, text
@@ -109,10 +108,10 @@ def alternative(checked: Checked) -> str:
     group = report.groups()[0]
     assert group.lost is not None
     return (
-        f'Each of {report.states:,} squares is a crash state. Columns are how much of the session '
-        'had begun, and rows the step that the crash lost. After each of the '
+        f'Each of {report.counts.states:,} squares is a crash state. Columns are how much of the '
+        'session had begun, and rows the step that the crash lost. After each of the '
         f'{len(acknowledged(checked))} acknowledged rows there is a red row: the states that lost '
-        f'{group.lost.text}, and so that row. In all {report.results[BAD]:,} squares are red.'
+        f'{group.lost.text}, and so that row. In all {report.counts.all_failing:,} squares are red.'
     )
 
 

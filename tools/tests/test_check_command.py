@@ -85,7 +85,8 @@ class Checks(InStore):
         self.assertEqual(
             ran.stdout.splitlines(),
             [
-                'bad.trace: 11 micro-operations, 23 states, 16 different: 3 fail (lost 3)',
+                'bad.trace: 11 micro-operations, 23 states, 16 different: '
+                '3 fail (3 of all 23 states): 3 lost',
                 '  lost: a=2 was told                                   3 states, e.g. --state 20',
                 '    line 13: put the new table in place',
                 '    line 15: the table has all of it',

@@ -116,7 +116,7 @@ class Stops(InCounted):
         child.send_signal(signal.SIGTERM)
         out, _ = child.communicate(timeout=PATIENCE)
         self.assertEqual(child.returncode, 143)
-        self.assertIn(' (stopped by SIGTERM): ', out)
+        self.assertIn(' (stopped by SIGTERM)\n', out)
         before = self.ran()
         self.write('on', '')
         ran = self.check('--resume', 'r.json', self.bad, command=command)
@@ -170,7 +170,11 @@ class Stops(InCounted):
             command=['sh', '-c', f'test $CRASHFS_STATE != 3 || sleep {self.long}'],
         )
         self.assertEqual((ran.returncode, ran.stderr), (3, ''))
-        self.assertRegex(ran.stdout, r', \d+ tried \(stopped by the time limit\): none fails\n')
+        self.assertRegex(
+            ran.stdout,
+            r': (none of the \d+ tried fails; \d+ not|nothing was) tried '
+            r'\(stopped by the time limit\)\n',
+        )
         self.assertEqual(json.loads(self.read('r.json'))['stopped'], 'the time limit')
         self.assert_ended()
         self.assert_nothing_left()
@@ -184,7 +188,10 @@ class Stops(InCounted):
             command=self.counted('test $CRASHFS_STATE != 3'),
         )
         self.assertEqual((ran.returncode, ran.stderr), (1, ''))
-        self.assertIn(', 5 tried (stopped by the first failure): 1 fails (status 1 1)', ran.stdout)
+        self.assertIn(
+            ': 1 of the 5 tried fails: 1 status 1; 8 not tried (stopped by the first failure)\n',
+            ran.stdout,
+        )
         # State 3 fails, and is run once more.
         self.assertEqual(self.ran(), [11, 0, 1, 2, 3, 3])
         ran = self.check('--fail-fast', self.good, command=['true'])

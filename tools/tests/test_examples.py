@@ -46,7 +46,7 @@ class Examples(InFolder):
         trace = self.write('extra.trace', '\n'.join(lines) + '\n')
         (report,) = self.check(trace, example('sqlite', 'recover.sh'), '--shard', '1/8')
         (whole,) = self.lines(example('sqlite', 'extra.report'))
-        self.assertEqual(re.sub(', [0-9]+ tried by shard 1/8', '', report), whole)
+        self.assertEqual(re.sub('of the [0-9]+ tried by shard 1/8 ', '', report), whole)
 
 
 @needs_strace

@@ -191,7 +191,7 @@ class Stops(InMounts):
         child.send_signal(signal.SIGINT)
         out, err = child.communicate(timeout=PATIENCE)
         self.assertEqual(child.returncode, 130)
-        self.assertIn(', 0 tried (stopped by SIGINT): none fails', out)
+        self.assertIn(': nothing was tried (stopped by SIGINT)\n', out)
         self.assertEqual(err, 'crashfs-check: stopped by SIGINT\n')
         self.assert_unmounted()
         self.assert_nothing_left()

@@ -47,7 +47,9 @@ class Recoveries(InRecoveries):
         self.assertEqual((ran.returncode, ran.stderr), (1, ''), ran.stdout)
         lines = ran.stdout.splitlines()
         self.assertRegex(lines[0], ': none fails$')
-        self.assertRegex(lines[1], '  2 recoveries: [0-9]+ states of a second crash, [0-9]+ fail$')
+        self.assertRegex(
+            lines[1], '  2 recoveries: [0-9]+ different states of a second crash, [0-9]+ fail$'
+        )
         self.assertRegex(lines[2], '  lost: a=2 is not there +[0-9]+ states, e.g. --state [0-9]+/')
         self.assertRegex(
             lines[3],
@@ -65,7 +67,9 @@ class Recoveries(InRecoveries):
     def test_a_recovery_that_syncs_first_is_safe(self):
         ran = self.nested('--nested', '2', sync='sync table;')
         self.assertEqual((ran.returncode, ran.stderr), (0, ''), ran.stdout)
-        self.assertRegex(ran.stdout, '2 recoveries: [0-9]+ states of a second crash, none fails\n')
+        self.assertRegex(
+            ran.stdout, '2 recoveries: [0-9]+ different states of a second crash, none fails\n'
+        )
 
     def test_a_state_of_a_recovery_is_left_as_the_second_crash_left_it(self):
         ran = self.nested('--nested', '1')
@@ -84,21 +88,23 @@ class Recoveries(InRecoveries):
         trace = self.write('lost.trace', text.replace('{"op":"fsync","path":"/log"}\n', ''))
         ran = self.nested('--nested', '3', sync='sync table;', trace=trace)
         self.assertEqual(ran.returncode, 1)
-        self.assertRegex(ran.stdout, ' fail .lost [0-9]+.\n')
-        self.assertRegex(ran.stdout, '[0-9]+ recoveries: [0-9]+ states of a second crash, none fai')
+        self.assertRegex(ran.stdout, ' fail .*: [0-9]+ lost\n')
+        self.assertRegex(
+            ran.stdout, '[0-9]+ recoveries: [0-9]+ different states of a second crash, none fai'
+        )
 
 
 class Counted(unittest.TestCase):
     def test_one_is_one(self):
         for recoveries, line in [
-            ([Recovery(7, 1)], '1 recovery: 1 state of a second crash, none fails'),
+            ([Recovery(7, 1)], '1 recovery: 1 different state of a second crash, none fails'),
             (
                 [Recovery(7, 1), Recovery(8, 4, 1)],
-                '2 recoveries: 5 states of a second crash, 1 fails',
+                '2 recoveries: 5 different states of a second crash, 1 fails',
             ),
             (
                 [Recovery(7, 1), Recovery(8, 1_000, 2)],
-                '2 recoveries: 1,001 states of a second crash, 2 fail',
+                '2 recoveries: 1,001 different states of a second crash, 2 fail',
             ),
         ]:
             report = Report(Head('a', '', []))

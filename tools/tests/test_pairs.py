@@ -172,7 +172,7 @@ class Blame(unittest.TestCase):
         self.assertEqual(self.pair(10, [3, 10]), Pair(4, 3))
 
     def test_a_pick_is_told_with_a_hole_that_fails_too_or_the_first_that_it_lacks(self):
-        self.assertEqual(self.pair(11, [11]), Pair(2, 1))
+        self.assertEqual(self.pair(11, [11]), Pair(2, 1, is_guess=True))
         self.assertEqual(self.pair(11, [11, 7]), Pair(2, 1))
         self.assertEqual(self.pair(12, [12]), Pair(None, None))
 
@@ -189,8 +189,9 @@ class Text(unittest.TestCase):
         self.assertEqual(
             report.lines(),
             [
-                'a.trace: 5 micro-operations, 13 states, 9 different: 4 fail (lost 4)',
-                '  lost: a                                              3 states, e.g. --state 1',
+                'a.trace: 5 micro-operations, 13 states, 9 different: '
+                '2 fail (4 of all 13 states): 2 lost',
+                '  lost: a                                              1 state: --state 1',
                 '    from line 2 (creat /a line 3) until line 3 (write /a b, 16 bytes at 0) it '
                 'fails, though nothing',
                 '      is lost',
@@ -207,9 +208,11 @@ class Text(unittest.TestCase):
 
     def test_no_answer_counts_more_than_a_failure(self):
         report = self.report({0: Outcome(NO_ANSWER, 'it had not ended'), 1: LOST})
-        self.assertIn('3 fail (lost 3), 3 gave no answer', report.summary())
+        self.assertIn(
+            ': 1 of the 2 tried fails: 1 lost; 1 gave no answer; 7 not tried', report.summary()
+        )
         self.assertEqual(report.status, 3)
-        self.assertEqual(self.report({0: Outcome(GOOD)}).status, 0)
+        self.assertEqual(self.report({0: Outcome(GOOD)}).status, 3)
 
 
 if __name__ == '__main__':

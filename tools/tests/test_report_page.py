@@ -76,7 +76,7 @@ class Pages(unittest.TestCase):
     def test_a_page_of_thousands_of_states_is_small(self):
         text = HEADER + ''.join(line('creat', f'/{number}') for number in range(100))
         report = report_of(text, lambda files, says: 'lost: one' if len(files) == 7 else '')
-        self.assertGreater(report.states, 5_000)
+        self.assertGreater(report.counts.states, 5_000)
         self.assertLess(len(''.join(page(report))), SIZE)
 
 

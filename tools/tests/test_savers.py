@@ -52,12 +52,12 @@ if whole[0] < int(os.environ['CRASHFS_SAYS']):
 """
 )
 
-# The way, its micro-operations, states, different trees, and states that fail.
+# The way, its micro-operations, states, and different ones, and how many of these and of all fail.
 WAYS = [
-    ('in place', 15, 34, 25, 24),
-    ('by a rename', 18, 177, 74, 98),
-    ('synced before it', 18, 73, 34, 34),
-    ('with both syncs', 18, 43, 22, 0),
+    ('in place', 15, 34, 25, 18, 24),
+    ('by a rename', 18, 177, 74, 52, 98),
+    ('synced before it', 18, 73, 34, 12, 34),
+    ('with both syncs', 18, 43, 22, 0, 0),
 ]
 
 
@@ -97,13 +97,13 @@ class Savers(InFolder):
         os.umask(0o022)
         self.write('saver.py', SAVER)
         self.write('check.py', CHECK)
-        for way, operations, states, different, failing in WAYS:
+        for way, operations, states, different, failing, of_all in WAYS:
+            fail = f'{failing} fail ({of_all} of all {states} states): '
             with self.subTest(way):
-                self.assertRegex(
-                    self.first_line(way),
-                    f'^out.trace: {operations} micro-operations, {states} states, '
-                    f'{different} different: {failing or "none"} fails?',
-                )
+                line = self.first_line(way)
+                begin = f'out.trace: {operations} micro-operations, {states} states, '
+                begin += f'{different} different: {fail if failing else "none fails"}'
+                self.assertEqual(line[: len(begin)], begin)
 
 
 if __name__ == '__main__':

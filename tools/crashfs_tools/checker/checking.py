@@ -143,9 +143,10 @@ class Run:
             with time_limit(self.options.time_limit):
                 for planned in self.checking.all_planned():
                     is_whole = self.window(planned)
+                    self.find_losses(planned)
                     self.rerun_examples(planned)
                     is_over = planned.is_last and is_whole
-                    if not is_whole:
+                    if not is_whole or self.ends_early(planned):
                         self.head.stopped = FIRST_FAILURE
                         break
                     self.add_details(planned)
@@ -154,6 +155,7 @@ class Run:
         except Stopped as stopped:
             stop = stopped
             self.head.stopped = self.head.stopped or ('' if is_over else str(stopped))
+        self.head.has_rest = self.planned is not None and not self.planned.is_last
         if self.head.stopped == TIME_LIMIT:
             try:
                 self.rerun_examples(self.planned, RERUN_SECONDS)
@@ -162,6 +164,21 @@ class Run:
         if self.checking.windows is not None:
             self.head.cut_off = [(one.line, one.tried) for one in self.checking.windows.cut_off]
         return self.report, stop
+
+    def ends_early(self, planned: Planned) -> bool:
+        """Whether a window that was tried whole is the last one because a state of it fails."""
+        has_failed = self.findings is not None and bool(self.findings.groups)
+        return self.options.fail_fast and has_failed and not planned.is_last
+
+    def find_losses(self, planned: Planned) -> None:
+        """Finds what of their losses makes states fail that lack several things."""
+        findings, is_part = self.findings, self.head.shard.parts > 1 or self.options.serve
+        if findings is None or is_part or not any(one.pair.is_guess for one in findings.groups):
+            return
+        from crashfs_tools.checker.findings.losses import find_losses
+
+        find_losses(self.checking.trying(planned), self.checking.planner, findings)
+        self.report.replace_last(findings)
 
     def rerun_examples(self, planned: Optional[Planned], seconds: float = float('inf')) -> None:
         """Runs each entry's example of the last window again, alone."""
@@ -189,7 +206,7 @@ class Run:
             self.report.add(findings)
 
     def take_earlier(self, results: Results) -> None:
-        place = self.report.windows
+        place = self.report.counts.windows
         if self.earlier is None or place >= len(self.earlier.windows):
             return
         if self.earlier.windows[place].identity() != results.identity():

@@ -56,12 +56,15 @@ class SyncedCopy:
         planned = self.planner.plan(self.path, Before(says=planned.before.says))
         copy = self.trying.with_plan(planned)
         outcomes = self.outcomes(copy)
-        masks = [self.before.kept[state.number] for state in group.states]
-        return Tried(
-            sum(map(planned.plan.needs.allow, masks)),
-            len(masks),
-            *count_others(planned.plan, outcomes, set(masks), self.known),
-        )
+        kept = self.before.kept
+        left = {
+            Trial(state.same, state.says)
+            for state in group.states
+            if planned.plan.needs.allow(kept[state.number])
+        }
+        masks = {kept[state.number] for state in group.states}
+        others = count_others(planned.plan, outcomes, masks, self.known)
+        return Tried(len(left), group.count, *others)
 
     def outcomes(self, copy: Trying) -> Dict[Trial, Outcome]:
         """The outcomes of the copy's states."""
@@ -83,11 +86,12 @@ class SyncedCopy:
 def count_others(
     plan: Plan, outcomes: Dict[Trial, Outcome], masks: Set[int], known: Dict[int, Outcome]
 ) -> Tuple[int, int]:
-    """How many other states of the copy fail, and how many of them failed before."""
-    others = still = 0
+    """How many other different states of the copy fail, and how many of them failed before."""
+    others: Dict[Trial, bool] = {}
     for state in plan.states:
-        kept, one = plan.kept[state.number], outcomes.get(Trial(state.same, state.says))
-        if kept not in masks and one is not None and one.result != GOOD:
-            others += 1
-            still += kept in known and known[kept].result != GOOD
-    return others, still
+        kept, trial = plan.kept[state.number], Trial(state.same, state.says)
+        outcome = outcomes.get(trial)
+        if kept not in masks and outcome is not None and outcome.result != GOOD:
+            failed_before = kept in known and known[kept].result != GOOD
+            others[trial] = others.get(trial, False) or failed_before
+    return len(others), sum(others.values())

@@ -3,7 +3,7 @@
 from __future__ import annotations
 
 from dataclasses import dataclass, field
-from typing import Dict, Iterable, List, NamedTuple, Optional, Tuple
+from typing import Dict, FrozenSet, Iterable, List, NamedTuple, Optional, Tuple
 
 from crashfs_tools.checker.running.results import Head, Results
 from crashfs_tools.checker.running.runner import GOOD, GOOD_OUTCOME, Outcome
@@ -11,7 +11,7 @@ from crashfs_tools.checker.states.plan import Plan, State, Trial, count, places_
 from crashfs_tools.common.trace_lines import SYNCS, TraceLine, without_numbers
 
 from .advice import NOT_REPRODUCIBLE, Advice, advice_for
-from .pairs import Pair, Pairs
+from .pairs import Loss, Pair, Pairs
 
 
 class Difference(NamedTuple):
@@ -24,9 +24,9 @@ class Difference(NamedTuple):
 @dataclass
 class Group:
     """Failing states whose causes agree but for numbers, and whose pairs are of lines of the same
-    kind. The example is the state that lacks the least; kept, lost, pair, lost_lines and
-    other_syncs are the example's; rerun is the outcome of its second run, if there was one. places
-    are all pairs of lines, the lost one first."""
+    kind. The example is the state that lacks the least. kept, lost, pair, lost_lines, needed_lines,
+    other_syncs and rerun, the outcome of its second run, are the example's. tried are the different
+    states among states. places are all pairs of lines, the lost one first."""
 
     outcome: Outcome
     example: State
@@ -34,8 +34,10 @@ class Group:
     kept: Optional[TraceLine]
     lost: Optional[TraceLine]
     states: List[State] = field(default_factory=list)
+    tried: FrozenSet[Tuple[int, ...]] = frozenset()
     places: List[Tuple[int, int]] = field(default_factory=list)
     lost_lines: List[int] = field(default_factory=list)
+    needed_lines: List[int] = field(default_factory=list)
     other_syncs: List[TraceLine] = field(default_factory=list)
     advice: Advice = field(default_factory=Advice)
     difference: Optional[Difference] = None
@@ -44,6 +46,11 @@ class Group:
     @property
     def cause(self) -> str:
         return self.outcome.cause
+
+    @property
+    def count(self) -> int:
+        """How many different states it has."""
+        return max(1, len(self.tried))
 
     @property
     def result(self) -> str:
@@ -81,6 +88,7 @@ class Group:
     def add_group(self, other: Group) -> None:
         """Adds the states and pairs of a group with the same key."""
         self.states.extend(other.states)
+        self.tried |= other.tried
         self.places = sorted({*self.places, *other.places})
         mine, others = self.advice.tried, other.advice.tried
         self.advice.tried = mine + others if mine and others else None
@@ -112,6 +120,7 @@ class Findings:
         self.plan: Plan = results.plan
         self.by_state = results.of_states(before)
         self.pairs = Pairs(self.plan, self.by_state)
+        self.losses: Dict[int, Loss] = {}
         self.groups = self.all_groups()
         self.take_reruns()
 
@@ -127,8 +136,24 @@ class Findings:
         groups = merged_groups(map(self.group_of, sorted(failing, key=self.lacking_count)))
         for group in groups:
             group.lost_lines = self.lost_lines(group.example)
+            group.needed_lines = self.needed_lines(group)
             group.other_syncs = self.other_syncs(group)
         return groups
+
+    def take_losses(self, found: Dict[int, Loss]) -> None:
+        """Takes the smallest losses of some states, also for the other states that they explain:
+        those that lack the same and keep the same."""
+        self.losses.update(found)
+        kept = self.plan.kept
+        guessed = [state for group in self.groups if group.pair.is_guess for state in group.states]
+        for state in guessed:
+            lacking = self.plan.lacking(state)
+            for loss in found.values():
+                keeps = loss.pair.kept is not None and kept[state.number] >> loss.pair.kept & 1
+                if keeps and loss.lacking & ~lacking == 0:
+                    self.losses.setdefault(state.number, loss)
+        self.groups = self.all_groups()
+        self.take_reruns()
 
     def take_reruns(self) -> None:
         """Takes the second runs of the examples: no advice is given for what passed."""
@@ -149,7 +174,8 @@ class Findings:
         return count(self.plan.lacking(state)), state.number
 
     def group_of(self, state: State) -> Group:
-        pair = self.pairs.pair_of(state)
+        loss = self.losses.get(state.number)
+        pair = loss.pair if loss else self.pairs.pair_of(state)
         kept, lost = self.line_at(pair.kept), self.line_at(pair.lost)
         return Group(
             self.by_state[state.number],
@@ -158,8 +184,14 @@ class Findings:
             kept,
             lost,
             [state],
+            self.tried_for(state),
             [(lost.number, kept.number)] if kept and lost else [],
         )
+
+    def tried_for(self, state: State) -> FrozenSet[Tuple[int, ...]]:
+        """The state of this window that was tried for a state; none if the window before had it."""
+        number = self.results.first_of[Trial(state.same, state.says)]
+        return frozenset() if number in self.results.known else frozenset([(number,)])
 
     def line_at(self, place: Optional[int]) -> Optional[TraceLine]:
         if place is None:
@@ -174,6 +206,17 @@ class Findings:
         """The lines of which a state lacks something that would be there without the crash."""
         lacking = self.plan.lacking(state)
         return sorted({self.plan.operations[place].line for place in places_of(lacking)})
+
+    def needed_lines(self, group: Group) -> List[int]:
+        """The lines that must be lost too for the example to fail, and don't need the lost one."""
+        loss, lost = self.losses.get(group.example.number), group.pair.lost
+        if loss is None or lost is None:
+            return []
+        others = [
+            place for place in places_of(loss.lacking) if not self.plan.needs.needs(place, lost)
+        ]
+        lines = {self.plan.operations[place].line for place in others}
+        return sorted(lines - {self.plan.operations[lost].line})
 
     def other_syncs(self, group: Group) -> List[TraceLine]:
         """Syncs between the two lines, which don't make the lost one durable."""
@@ -193,4 +236,4 @@ def merged_groups(groups: Iterable[Group]) -> List[Group]:
         first = found.setdefault(group.key, group)
         if first is not group:
             first.add_group(group)
-    return sorted(found.values(), key=lambda group: (-len(group.states), group.example.number))
+    return sorted(found.values(), key=lambda group: (-group.count, group.example.number))

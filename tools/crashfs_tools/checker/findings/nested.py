@@ -120,10 +120,10 @@ class Nested:
             head = Head('', '', [], lines=read_text(file.read()).operations)
         found = Findings(head, results, {}, first if first.result != GOOD else None)
         rerun_examples(trying, found)
-        failing = sum(len(group.states) for group in found.groups)
+        failing = sum(group.count for group in found.groups)
         return Recovery(
             state.number,
-            len(results.own),
+            len(results.trials),
             failing,
             found.groups,
             {group.example.number: crash_place(found, group) for group in found.groups},

@@ -14,7 +14,8 @@ The pairs are found from the outcomes of all states. They keep to these rules:
    between it and the state that were tried fail alike. Its last operation was kept, and the
    operation that it lacks was lost.
 6. A pick has the pair of a hole of its length that fails alike and lacks only what the pick lacks.
-   If there is none, its pair is its last operation and the first one that it lacks.
+   If there is none, its last operation and the first one that it lacks are a guess; the smallest
+   loss that makes the state fail takes its place (losses.py).
 7. Two states fail alike if they have the same cause except for numbers or, if no other state has
    this cause, if they have the same word before the colon.
 """
@@ -33,6 +34,14 @@ class Pair(NamedTuple):
 
     kept: Optional[int]
     lost: Optional[int]
+    is_guess: bool = False
+
+
+class Loss(NamedTuple):
+    """A smallest loss that makes a state fail: its pair, and all that it lacks, as a set."""
+
+    pair: Pair
+    lacking: int
 
 
 class Comparison(Enum):
@@ -74,19 +83,22 @@ class Pairs:
         return self.pick_pair(state, compare)
 
     def comparison_with(self, outcome: Outcome) -> Compare:
-        """Compares states with one of this outcome, by rule 7."""
-        by_cause = self.kinds.is_shared(outcome)
+        """Compares states with one of this outcome."""
 
         def compare(number: int) -> Comparison:
             other = self.outcomes.get(number)
             if other is None:
                 return Comparison.UNKNOWN
-            is_alike = other.result == outcome.result != GOOD and (
-                other.kind == outcome.kind if by_cause else other.word == outcome.word
-            )
-            return Comparison.ALIKE if is_alike else Comparison.OTHER
+            return Comparison.ALIKE if self.are_alike(outcome, other) else Comparison.OTHER
 
         return compare
+
+    def are_alike(self, outcome: Outcome, other: Outcome) -> bool:
+        """Rule 7, for the outcome of a failing state and another one."""
+        if not other.result == outcome.result != GOOD:
+            return False
+        by_cause = self.kinds.is_shared(outcome)
+        return other.kind == outcome.kind if by_cause else other.word == outcome.word
 
     @staticmethod
     def is_alike(number: Optional[int], compare: Compare) -> bool:
@@ -134,7 +146,8 @@ class Pairs:
             hole = self.holes.get((place, kept.bit_length()))
             if hole is not None and self.is_alike(hole, compare):
                 return self.hole_pair(self.plan.state(hole), compare)
-        return Pair(kept.bit_length() - 1 if kept else None, next(places_of(lacking), None))
+        first = next(places_of(lacking), None)
+        return Pair(kept.bit_length() - 1 if kept else None, first, kept > 0 and lacking > 0)
 
 
 class Kinds:

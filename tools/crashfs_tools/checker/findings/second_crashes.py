@@ -10,7 +10,7 @@ from .groups import Group
 
 @dataclass
 class Recovery:
-    """The recovery of one state: how many states a second crash may leave, how many of them fail,
+    """The recovery of one state: how many different states a second crash may leave, how many fail,
     and their groups; places says for each example where the second crash was. fault says why the
     recovery wasn't tried, or is empty."""
 
@@ -34,10 +34,11 @@ def second_crash_entries(recoveries: Iterable[Recovery]) -> List[Tuple[Group, Se
     found: Dict[Tuple[object, ...], Tuple[Group, SecondCrash]] = {}
     for recovery in recoveries:
         for group in recovery.groups:
-            if group.key in found:
-                found[group.key][0].states.extend(group.states)
-                continue
-            copy = replace(group, states=list(group.states))
             place = recovery.places[group.example.number]
-            found[group.key] = copy, SecondCrash(recovery.state, place)
+            tried = frozenset((recovery.state, *one) for one in group.tried)
+            copy = replace(group, states=list(group.states), tried=tried)
+            first, _ = found.setdefault(group.key, (copy, SecondCrash(recovery.state, place)))
+            if first is not copy:
+                first.states.extend(copy.states)
+                first.tried |= copy.tried
     return list(found.values())

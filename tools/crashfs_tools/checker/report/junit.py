@@ -23,7 +23,7 @@ def junit_lines(report: Report) -> Iterator[str]:
     )
     for group in groups:
         yield from case_lines(report, group)
-    yield f'<testcase classname={name} name="all other states ({report.good:,})"/>\n'
+    yield f'<testcase classname={name} name="all other states ({report.counts.good:,})"/>\n'
     yield '</testsuite>\n'
 
 

@@ -29,10 +29,10 @@ def page(report: Report) -> Iterator[str]:
     for group in groups:
         yield from entry_lines(report, group)
     yield '<h2>The states</h2>\n<div id="states"></div><p id="shown"></p>\n'
-    if report.windows > len(report.drawings[:DRAWN]):
+    if report.counts.windows > len(report.drawings[:DRAWN]):
         yield (
-            f'<p>These are {len(report.drawings[:DRAWN])} of {report.windows:,} windows: the '
-            'first, and the first in which states fail.</p>\n'
+            f'<p>These are {len(report.drawings[:DRAWN])} of {report.counts.windows:,} windows: '
+            'the first, and the first in which states fail.</p>\n'
         )
     yield '<h2>The session</h2>\n<table class="session">\n'
     yield from session_lines(report, groups)
@@ -81,7 +81,7 @@ def session_lines(report: Report, groups: List[Group]) -> Iterator[str]:
     named = {line.number for group in groups for line in (group.lost, group.kept) if line}
     near = {number for one in named for number in range(one - NEAR, one + NEAR + 1)}
     for number, line in report.head.lines.items():
-        if report.windows == 1 or number in near:
+        if report.counts.windows == 1 or number in near:
             yield line_row(line, 'pair' if number in named else '')
 
 

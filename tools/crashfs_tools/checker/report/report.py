@@ -3,17 +3,17 @@
 from __future__ import annotations
 
 import json
-from collections import Counter
 from dataclasses import replace
 from typing import TYPE_CHECKING, Any
-from typing import Counter as Counts
 from typing import Dict, Iterator, List, Optional
 
 from crashfs_tools.checker.findings.groups import Findings, Group, merged_groups
 from crashfs_tools.checker.running.results import Head
-from crashfs_tools.checker.running.runner import BAD, GOOD, NO_ANSWER
+from crashfs_tools.checker.running.runner import NO_ANSWER
 from crashfs_tools.common.program import can_be_built
 from crashfs_tools.common.trace_lines import TraceLine
+
+from .counts import StateCounts
 
 if TYPE_CHECKING:
     from crashfs_tools.checker.findings.on_disks import Sightings
@@ -39,9 +39,7 @@ class Report:
         self.head = head
         self.has_json = has_json
         self.has_page = has_page
-        self.windows = self.operations = self.states = self.different = self.tried = 0
-        self.words: Counts[str] = Counter()
-        self.results: Counts[str] = Counter()
+        self.counts = StateCounts()
         self.groups_of_windows: List[List[Group]] = []
         self.packed_windows: List[bytes] = []
         self.drawings: List[Drawing] = []
@@ -49,22 +47,15 @@ class Report:
         self.sightings: Optional[Sightings] = None
 
     def add(self, findings: Findings) -> None:
-        results, plan = findings.results, findings.plan
-        self.windows += 1
-        self.operations = plan.begin + len(plan.operations)
-        self.states += len(results.own)
-        self.different += len(results.trials)
-        self.tried += sum(first in results.outcomes for first in results.trials.values())
-        outcomes = findings.own_outcomes()
-        self.results.update(one.result for one in outcomes)
-        self.words.update(one.word for one in outcomes if one.result == BAD)
+        self.counts.add(findings)
         self.groups_of_windows.append(findings.groups)
         if self.has_json:
-            self.packed_windows.append(packed(as_json(results.fields())))
+            self.packed_windows.append(packed(as_json(findings.results.fields())))
         self.add_drawing(findings)
 
     def replace_last(self, findings: Findings) -> None:
-        """Takes what was added to the results of the last window."""
+        """Takes what was added to the last window's findings."""
+        self.groups_of_windows[-1] = findings.groups
         if self.has_json:
             self.packed_windows[-1] = packed(as_json(findings.results.fields()))
 
@@ -87,16 +78,13 @@ class Report:
 
     @property
     def status(self) -> int:
-        if self.results[NO_ANSWER]:
+        if self.counts.results[NO_ANSWER]:
             return NOT_ALL_TRIED
         further = self.sightings is not None and self.sightings.further
-        if self.results[BAD] or further or any(one.groups for one in self.recoveries):
+        if self.counts.failing or further or any(one.groups for one in self.recoveries):
             return SOME_FAIL
-        return NOT_ALL_TRIED if self.head.stopped else NONE_FAILS
-
-    @property
-    def good(self) -> int:
-        return self.results[GOOD]
+        is_whole = not self.counts.left and not self.head.stopped
+        return NONE_FAILS if is_whole else NOT_ALL_TRIED
 
     def lines(self) -> List[str]:
         """None but the first is longer than WIDTH: the JSON has all of it."""
@@ -104,7 +92,7 @@ class Report:
         for group in groups[:SHOWN_GROUPS]:
             lines += self.group_lines(group)
         if len(groups) > SHOWN_GROUPS:
-            more = sum(len(group.states) for group in groups[SHOWN_GROUPS:])
+            more = sum(group.count for group in groups[SHOWN_GROUPS:])
             lines.append(
                 f'  and {number_of(more, "more state")} of '
                 f'{number_of(len(groups) - SHOWN_GROUPS, "other kind")} '
@@ -120,32 +108,12 @@ class Report:
             ]
         ]
 
+    def summary(self) -> str:
+        return self.counts.summary(self.head)
+
     def first_lines(self) -> List[str]:
         how = HOW_TO_BUILD if can_be_built() else ''
         return [UNPROVED + how, self.summary()] if self.head.unproved else [self.summary()]
-
-    def summary(self) -> str:
-        head = self.head
-        windows = f' in {self.windows:,} windows' if self.windows > 1 else ''
-        line = (
-            f'{head.trace}: {self.operations:,} micro-operations{windows}, '
-            f'{self.states:,} states, {self.different:,} different'
-        )
-        if head.shard.parts > 1:
-            line += f', {self.tried:,} tried by shard {head.shard.part}/{head.shard.parts}'
-        elif head.stopped:
-            line += f', {self.tried:,} tried'
-        if head.stopped:
-            line += f' (stopped by {head.stopped})'
-        return f'{line}: {self.verdict()}'
-
-    def verdict(self) -> str:
-        words = ', '.join(f'{word} {count:,}' for word, count in self.words.most_common(5))
-        failing, silent = self.results[BAD], self.results[NO_ANSWER]
-        line = (
-            f'{failing:,} fail{"s" if failing == 1 else ""} ({words})' if failing else 'none fails'
-        )
-        return f'{line}, {silent:,} gave no answer' if silent else line
 
     def cut_off_lines(self) -> List[str]:
         """Lines that were still pending where their last window ended."""
@@ -168,7 +136,7 @@ class Report:
         tried = [one for one in self.recoveries if not one.fault]
         failing = sum(one.failing for one in tried)
         fails = f'{failing:,} fail{"s" if failing == 1 else ""}' if failing else 'none fails'
-        states = number_of(sum(one.states for one in tried), 'state')
+        states = number_of(sum(one.states for one in tried), 'different state')
         lines = [
             f'  {number_of(len(tried), "recovery")}: {states} of a second crash, {fails}'.replace(
                 'recoverys', 'recoveries'
@@ -217,9 +185,9 @@ class Report:
     @staticmethod
     def states_text(group: Group, first: str = '') -> str:
         example = f'--state {first}{group.example.number}'
-        if len(group.states) == 1:
+        if group.count == 1:
             return f'1 state: {example}'
-        return f'{len(group.states):,} states, e.g. {example}'
+        return f'{group.count:,} states, e.g. {example}'
 
     def details(self, group: Group) -> List[str]:
         """The sentence, what was tried, and what else the example lacks."""
@@ -229,8 +197,11 @@ class Report:
         for sync in group.other_syncs:
             if group.advice.syncs:
                 lines.append(f'line {sync.number} is {sync.text}, which is not enough')
-        named = group.lost.number if group.lost else 0
-        lost = [number for number in group.lost_lines if number != named]
+        if group.needed_lines:
+            needed = ', '.join(map(self.shown_line, group.needed_lines))
+            lines.append(f'it fails only if this is lost too: {needed}')
+        named = {group.lost.number if group.lost else 0, *group.needed_lines}
+        lost = [number for number in group.lost_lines if number not in named]
         if lost and not group.is_span:
             lines.append(
                 f'state {group.example.number} also lacks ' + ', '.join(map(self.shown_line, lost))
@@ -275,6 +246,7 @@ class Report:
         fields = {
             'cause': group.cause,
             'states': [state.number for state in group.states],
+            'different': group.count,
             'example': group.example.number,
             'lines': group.places,
             'lost': group.lost_lines,

@@ -20,7 +20,8 @@ FORMAT = 3
 class Head:
     """What is checked. lines are those of the trace's operations; stopped says what ended the check
     early, if anything did; cut_off has the lines whose loss was not tried to the session's end,
-    each with how many later micro-operations it was tried for."""
+    each with how many later micro-operations it was tried for; has_rest says whether the session
+    goes on after the last window that was begun."""
 
     trace: str
     digest: str
@@ -30,6 +31,7 @@ class Head:
     lines: Dict[int, TraceLine] = field(default_factory=dict)
     stopped: str = ''
     cut_off: List[Tuple[int, int]] = field(default_factory=list)
+    has_rest: bool = False
 
     def identity(self) -> Tuple[object, ...]:
         return self.digest, self.command, self.shard
@@ -43,6 +45,7 @@ class Head:
             'unproved': self.unproved,
             'shard': [self.shard.part, self.shard.parts],
             'stopped': self.stopped,
+            'has_rest': self.has_rest,
             'cut_off': [list(one) for one in self.cut_off],
             'lines': [list(line) for line in self.lines.values()],
         }
@@ -61,6 +64,7 @@ class Head:
             {line.number: line for line in lines},
             fields['stopped'],
             [(line, tried) for line, tried in fields['cut_off']],
+            bool(fields.get('has_rest', False)),
         )
 
 
@@ -195,6 +199,7 @@ def merged(parts: List[AllResults]) -> AllResults:
         lines=first.head.lines,
         stopped=next((one.head.stopped for one in parts if one.head.stopped), ''),
         cut_off=first.head.cut_off,
+        has_rest=any(one.head.has_rest for one in parts),
     )
     for one in parts:
         for whole, window in zip(first.windows, one.windows):

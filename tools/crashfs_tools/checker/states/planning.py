@@ -4,7 +4,7 @@ from __future__ import annotations
 
 import json
 import os
-from typing import Iterator, List
+from typing import Iterable, Iterator, List
 
 from crashfs_tools.checker.options import Options
 from crashfs_tools.common.command import Refused
@@ -32,6 +32,15 @@ class Planner:
         return Planned(
             trace, words, read_plan(self.ask(['list', *words, '--json']), before), before
         )
+
+    def plan_of_sets(self, planned: Planned, sets: Iterable[int]) -> Planned:
+        """A plan of the same trace that has the prefixes and these sets of micro-operations."""
+        path = os.path.join(self.guard.directory, os.path.basename(planned.trace) + '.sets')
+        with open(path, 'w', encoding='ascii') as file:
+            file.writelines(f'{json.dumps(list(places_of(one)))}\n' for one in dict.fromkeys(sets))
+        words = ['--trace', planned.trace, '--picks', path]
+        listed = self.ask(['list', *words, '--json'])
+        return Planned(planned.trace, words, read_plan(listed, planned.before), planned.before)
 
     def prefixes(self, trace: str) -> Plan:
         """The plan of the prefixes only: it has no limit but that of the micro-operations."""
