@@ -147,7 +147,7 @@ class Groups(unittest.TestCase):
         )
         self.assertEqual(len(report.groups()), 1)
         self.assertEqual(
-            report.groups()[0].advice.text,
+            report.groups()[0].advice.lines(),
             [
                 'line 4 (write /log, 3 bytes at 0) was not durable when line 5 acknowledged "one":',
                 'fsync /log between them',
@@ -169,8 +169,9 @@ class Groups(unittest.TestCase):
         advice = group.advice
         self.assertEqual(advice.syncs, {2: '/', 4: '/', 6: '/'})
         self.assertEqual(
-            advice.text[1],
-            'fsync the directory / between them ' f'(and at {len(group.places) - 1} more places)',
+            advice.remedy,
+            'the directory / is never synced: fsync it between them '
+            f'(and at {len(group.places) - 1} more places)',
         )
 
     def test_the_example_lacks_the_least_and_what_else_it_lacks_is_told(self):
@@ -206,7 +207,7 @@ class Groups(unittest.TestCase):
             text, lambda files, says: 'lost: f' if says and b'x' not in files.values() else ''
         ).groups()
         self.assertEqual(
-            group.advice.text[1], 'fsync /t between them, before line 8 (rename /t to /f)'
+            group.advice.remedy, 'fsync /t between them, before line 8 (rename /t to /f)'
         )
         self.assertEqual(group.advice.syncs, {6: '/t'})
 
@@ -235,9 +236,9 @@ class Groups(unittest.TestCase):
         self.assertIn('was torn: a crash kept a part of it', report.groups()[0].advice.text[0])
         text = HEADER + line('creat', '/a') + line('fsync', '/') + line('creat', '/b')
         report = report_of(text, lambda files, says: '' if len(files) in (0, 2) else 'half')
-        text, remedy = report.groups()[0].advice.text
+        text, remedy = report.groups()[0].advice.lines()
         self.assertTrue(text.startswith('from line 2 (creat /a) until line 4 (creat /b) it fails'))
-        self.assertIn('do line 4 before line 2, with a sync between them, or', remedy)
+        self.assertIn('no sync helps: make these lines one change', remedy)
 
     def test_lines_are_apart_if_neither_names_what_the_other_does(self):
         log = TraceLine(2, 'truncate', '/log')
@@ -252,7 +253,7 @@ class Groups(unittest.TestCase):
         text = HEADER + line('creat', '/old') + line('fsync', '/') + line('unlink', '/old')
         text += line('fsync', '/') + line('say', text='it is removed')
         report = report_of(text, lambda files, says: '' if says or '/old' in files else 'lost: old')
-        span = [group.advice.text for group in report.groups() if group.is_span]
+        span = [group.advice.lines() for group in report.groups() if group.is_span]
         self.assertTrue(
             all(
                 one[1].endswith('does COMMAND accept it?')
@@ -342,7 +343,7 @@ class Texts(unittest.TestCase):
     def test_syncs_stand_after_their_lines(self):
         text = HEADER + line('creat', '/f') + line('creat', '/g') + line('say', text='a')
         self.assertEqual(
-            with_syncs(text, {2: '/', 3: '/g'}),
+            with_syncs(text, [(2, '/'), (3, '/g')]),
             HEADER
             + line('creat', '/f')
             + '{"op": "fsync", "path": "/"}\n'

@@ -1,5 +1,6 @@
 """The smallest loss of a state that lacks several things."""
 
+import json
 import unittest
 
 from crashfs_tools.checker.findings.losses import Searches, search
@@ -97,10 +98,12 @@ class Guesses(InStore):
             'test $CRASHFS_SAYS -lt 2 || test -e table || { echo "lost: b"; exit 1; }\n',
             0o755,
         )
-        ran = self.run_tool('crashfs-check', '--crashfs', FAKE, trace, '--', check)
+        ran = self.run_tool(
+            'crashfs-check', '--crashfs', FAKE, '--json', 'r.json', trace, '--', check
+        )
         self.assertEqual(ran.returncode, 1, ran.stderr)
-        entry = ran.stdout[ran.stdout.index('  lost: b') :].split('\n  refused')[0]
-        shown = ' '.join(entry.split())
+        groups = json.loads(self.read('r.json'))['groups']
+        (shown,) = [' '.join(one['text']) for one in groups if one['cause'] == 'lost: b']
         self.assertIn('line 11 (rename /new to /table) was not durable when line 16 ack', shown)
         self.assertIn('it fails only if this is lost too: line 12 (unlink /log)', shown)
         self.assert_nothing_left()

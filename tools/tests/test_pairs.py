@@ -195,9 +195,9 @@ class Text(unittest.TestCase):
                 '    from line 2 (creat /a line 3) until line 3 (write /a b, 16 bytes at 0) it '
                 'fails, though nothing',
                 '      is lost',
-                '    no sync helps: do line 3 before line 2, with a sync between them, or make '
-                'them one change (write',
-                '      a new file, sync it, rename it, sync the directory)',
+                '    no sync helps: make these lines one change (write a new file, sync it, '
+                'rename it, sync the',
+                '      directory)',
                 '  lost: a                                              1 state: --state 9',
                 '    line 3 (write /a b, 16 bytes at 0) was not durable when line 6 acknowledged '
                 '"row 1":',

@@ -53,7 +53,7 @@ class Pages(unittest.TestCase):
     def test_an_entry_has_its_sentence_its_lines_and_what_was_printed(self):
         text = ''.join(page(odd_report()))
         section = re.search('<section>.*?</section>', text, re.S)[0]
-        self.assertIn('fsync the directory / between them', section)
+        self.assertIn('the directory / is never synced: fsync it between them', section)
         self.assertIn('first\n&lt;last&gt;', section)
         self.assertEqual(section.count('class="creat pair"'), 1)
         self.assertEqual(text.count('<section>'), len(odd_report().groups()))
@@ -153,7 +153,9 @@ class JUnit(unittest.TestCase):
         self.assertEqual(cases[0].getAttribute('name'), 'lost: <file>?')
         (failure,) = cases[0].getElementsByTagName('failure')
         self.assertIn('was not durable when', failure.getAttribute('message'))
-        self.assertIn('fsync the directory / between them', failure.firstChild.data)
+        self.assertIn(
+            'the directory / is never synced: fsync it between them', failure.firstChild.data
+        )
         (output,) = cases[0].getElementsByTagName('system-out')
         self.assertEqual(output.firstChild.data, 'first\n<last>?\n')
         self.assertRegex(cases[-1].getAttribute('name'), r'^all other states \(\d+\)$')

@@ -55,7 +55,7 @@ class Edits(unittest.TestCase):
 
     def test_a_sync_follows_its_line(self) -> None:
         sync = '{"op": "fsync", "path": "/\N{LATIN SMALL LETTER E WITH ACUTE}"}'
-        added = with_syncs(TEXT, {4: '/\N{LATIN SMALL LETTER E WITH ACUTE}'})
+        added = with_syncs(TEXT, [(4, '/\N{LATIN SMALL LETTER E WITH ACUTE}')])
         self.assertEqual(added, TEXT.replace('\r\n', f'\r\n{sync}\n'))
 
 

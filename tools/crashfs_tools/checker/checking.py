@@ -221,6 +221,7 @@ class Run:
                 from crashfs_tools.checker.findings.advice_trials import add_details
 
                 add_details(trying, self.checking.planner, self.findings)
+                self.report.replace_last(self.findings)
             if self.options.nested:
                 self.report.recoveries += self.nested.run(trying, self.findings)
             if self.options.disks is not None:

@@ -54,14 +54,15 @@ def root_owner(lines: Iterable[str]) -> str:
     return str(header['owner'])
 
 
-def with_syncs(text: str, syncs: Dict[int, str]) -> str:
-    """A trace with an fsync after each of these lines, of the path that is given for it."""
-    lines = []
+def with_syncs(text: str, points: Iterable[Tuple[int, str]]) -> str:
+    """A trace with an fsync of these paths after these of its lines."""
+    paths: Dict[int, List[str]] = {}
+    for number, path in sorted(points):
+        paths.setdefault(number, []).append(path)
+    lines: List[str] = []
     for number, line in enumerate(text.split('\n'), 1):
-        lines.append(line)
-        if number in syncs:
-            sync = {'op': 'fsync', 'path': syncs[number]}
-            lines.append(json.dumps(sync, ensure_ascii=False))
+        syncs = [{'op': 'fsync', 'path': path} for path in paths.get(number, [])]
+        lines += [line, *(json.dumps(sync, ensure_ascii=False) for sync in syncs)]
     return '\n'.join(lines)
 
 

@@ -3,95 +3,156 @@
 from __future__ import annotations
 
 import os
-from typing import Dict, Set, Tuple
+from typing import Dict, FrozenSet, Iterable, List, Set, Tuple
 
 from crashfs_tools.checker.running.results import Results
 from crashfs_tools.checker.running.runner import GOOD, Outcome
 from crashfs_tools.checker.running.trying import Trying
-from crashfs_tools.checker.states.plan import Before, Plan, Trial
+from crashfs_tools.checker.states.plan import Before, Needs, Plan, Planned, Trial
 from crashfs_tools.checker.states.planning import Planner
 from crashfs_tools.common.command import TEXT
 from crashfs_tools.common.trace_text import with_syncs
 
 from .advice import Tried
-from .groups import Findings, Group
+from .groups import Findings, Group, Totals, Union
+from .swaps import add_swaps
 from .tree_diff import find_differences
 
-# So many entries of a report have their advice tried: the largest.
-ENTRIES = 5
+# So many entries have their advice tried, and so many may be removed by it: the largest.
+TRIED, COVERED = 5, 100
+
+Points = FrozenSet[Tuple[int, str]]
 
 
 def add_details(trying: Trying, planner: Planner, findings: Findings) -> None:
     """Adds to the groups how files differ, and the results of their advice."""
     find_differences(trying, findings)
-    try_advice(trying, planner, findings)
+    add_swaps(trying, planner, findings)
+    AdviceTrials(trying, planner, findings).run()
 
 
-def try_advice(trying: Trying, planner: Planner, findings: Findings) -> None:
-    """Tries the advice of the largest groups."""
-    for place, group in enumerate(findings.groups[:ENTRIES]):
-        if group.advice.syncs:
-            group.advice.tried = SyncedCopy(trying, planner, findings, place).run(group)
+class AdviceTrials:
+    """Tries the advice of the largest groups, then all advised syncs at once. A set of
+    micro-operations that was tried before is not tried again."""
 
-
-class SyncedCopy:
-    """A copy of the trace with an advice's syncs. Sets of micro-operations that were tried before
-    are not tried again."""
-
-    def __init__(self, trying: Trying, planner: Planner, findings: Findings, place: int) -> None:
+    def __init__(self, trying: Trying, planner: Planner, findings: Findings) -> None:
         self.trying = trying
         self.planner = planner
-        self.path = os.path.join(trying.guard.directory, f'advice-{place}.trace')
+        self.findings = findings
+        self.kept = findings.plan.kept
         self.known: Dict[int, Outcome] = {
-            findings.plan.kept[state]: one for state, one in findings.by_state.items()
+            self.kept[state]: one for state, one in findings.by_state.items()
         }
-        self.before = findings.plan
+        self.before = count_failing(findings.plan, self.known)
 
-    def run(self, group: Group) -> Tried:
+    def run(self) -> None:
+        """Tries the groups' advice, largest group first; what that removes needs no advice."""
+        needs: List[Needs] = []
+        tried = 0
+        for group in self.findings.groups[:COVERED]:
+            if group.advice.syncs:
+                group.is_covered = self.is_covered(group, needs)
+                if not group.is_covered:
+                    planned = self.copy(points_of([group]))
+                    needs.append(planned.plan.needs)
+                    if tried < TRIED:
+                        group.advice.tried = self.tried(planned, group)
+                        tried += 1
+        self.findings.union = self.union()
+
+    def is_covered(self, group: Group, needs: List[Needs]) -> bool:
+        """Whether the syncs of earlier groups leave no state of this one."""
+        masks = {self.kept[state.number] for state in group.states}
+        return all(any(not one.allow(mask) for one in needs) for mask in masks)
+
+    def union(self) -> Union:
+        """Tries all advised syncs at once."""
+        advised = [group for group in self.findings.groups if group.advice.syncs]
+        points = points_of(advised)
+        if not points:
+            return Union(points, Totals(self.before, self.before))
+        if len(advised) == 1 and advised[0].advice.tried is not None:
+            tried = advised[0].advice.tried
+            return Union(points, Totals(tried.before, tried.after))
+        planned = self.copy(points)
+        self.try_states(planned)
+        return Union(points, Totals(self.before, count_failing(planned.plan, self.known)))
+
+    def copy(self, points: Points) -> Planned:
+        """The plan of a copy of the trace that has these syncs."""
         planned = self.trying.planned
         with open(planned.trace, **TEXT) as file:
             text = file.read()
-        with open(self.path, 'w', **TEXT) as file:
-            file.write(with_syncs(text, planned.before.own_lines(group.advice.syncs)))
-        planned = self.planner.plan(self.path, Before(says=planned.before.says))
-        copy = self.trying.with_plan(planned)
-        outcomes = self.outcomes(copy)
-        kept = self.before.kept
+        own = [
+            (line, path)
+            for number, path in points
+            for line in planned.before.own_lines({number: path})
+        ]
+        path = os.path.join(self.trying.guard.directory, 'advice.trace')
+        with open(path, 'w', **TEXT) as file:
+            file.write(with_syncs(text, own))
+        return self.planner.plan(path, Before(says=planned.before.says))
+
+    def tried(self, planned: Planned, group: Group) -> Tried:
+        """The result of a group's advice."""
+        self.try_states(planned)
         left = {
             Trial(state.same, state.says)
             for state in group.states
-            if planned.plan.needs.allow(kept[state.number])
+            if planned.plan.needs.allow(self.kept[state.number])
         }
-        masks = {kept[state.number] for state in group.states}
-        others = count_others(planned.plan, outcomes, masks, self.known)
-        return Tried(len(left), group.count, *others)
+        masks = {self.kept[state.number] for state in group.states}
+        others, still = self.count_others(planned.plan, masks)
+        after = count_failing(planned.plan, self.known)
+        return Tried(len(left), group.count, others, still, self.before, after)
 
-    def outcomes(self, copy: Trying) -> Dict[Trial, Outcome]:
-        """The outcomes of the copy's states."""
+    def try_states(self, planned: Planned) -> None:
+        """Tries the states of a copy; known has the outcome of each set afterwards."""
+        copy = self.trying.with_plan(planned)
+        plan = planned.plan
         found: Dict[Trial, Outcome] = {}
-        for state in copy.plan.states:
-            known = self.known.get(copy.plan.kept[state.number])
+        for state in plan.states:
+            known = self.known.get(plan.kept[state.number])
             if known is not None:
                 found[Trial(state.same, state.says)] = known
-        trials = Results(copy.plan).trials
+        trials = Results(plan).trials
         new = {number: trial for trial, number in trials.items() if trial not in found}
 
         def on_outcome(number: int, outcome: Outcome) -> None:
             found[new[number]] = outcome
 
         copy.try_states(set(new), on_outcome)
-        return found
+        for state in plan.states:
+            outcome = found.get(Trial(state.same, state.says))
+            if outcome is not None:
+                self.known.setdefault(plan.kept[state.number], outcome)
+
+    def count_others(self, plan: Plan, masks: Set[int]) -> Tuple[int, int]:
+        """How many other different states of a copy fail, and how many of them failed before."""
+        before = {self.kept[state] for state in self.findings.by_state}
+        others: Dict[Trial, bool] = {}
+        for state in plan.states:
+            kept, trial = plan.kept[state.number], Trial(state.same, state.says)
+            if kept not in masks and fails(self.known, kept):
+                others[trial] = others.get(trial, False) or kept in before
+        return len(others), sum(others.values())
 
 
-def count_others(
-    plan: Plan, outcomes: Dict[Trial, Outcome], masks: Set[int], known: Dict[int, Outcome]
-) -> Tuple[int, int]:
-    """How many other different states of the copy fail, and how many of them failed before."""
-    others: Dict[Trial, bool] = {}
-    for state in plan.states:
-        kept, trial = plan.kept[state.number], Trial(state.same, state.says)
-        outcome = outcomes.get(trial)
-        if kept not in masks and outcome is not None and outcome.result != GOOD:
-            failed_before = kept in known and known[kept].result != GOOD
-            others[trial] = others.get(trial, False) or failed_before
-    return len(others), sum(others.values())
+def points_of(groups: Iterable[Group]) -> Points:
+    return frozenset(point for group in groups for point in group.advice.syncs.items())
+
+
+def count_failing(plan: Plan, known: Dict[int, Outcome]) -> int:
+    """How many different states of a plan fail."""
+    return len(
+        {
+            Trial(state.same, state.says)
+            for state in plan.states
+            if fails(known, plan.kept[state.number])
+        }
+    )
+
+
+def fails(known: Dict[int, Outcome], kept: int) -> bool:
+    outcome = known.get(kept)
+    return outcome is not None and outcome.result != GOOD

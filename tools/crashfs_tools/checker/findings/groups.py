@@ -10,8 +10,17 @@ from crashfs_tools.checker.running.runner import GOOD, GOOD_OUTCOME, Outcome
 from crashfs_tools.checker.states.plan import Plan, State, Trial, count, places_of
 from crashfs_tools.common.trace_lines import SYNCS, TraceLine, without_numbers
 
-from .advice import NOT_REPRODUCIBLE, Advice, advice_for
+from .advice import (
+    NOT_REPRODUCIBLE,
+    Advice,
+    loss_advice,
+    overwriting_text,
+    span_advice,
+    swap_text,
+    torn_advice,
+)
 from .pairs import Loss, Pair, Pairs
+from .sync_points import Places, never_synced_directory
 
 
 class Difference(NamedTuple):
@@ -21,12 +30,35 @@ class Difference(NamedTuple):
     lines: List[str]
 
 
+class Totals(NamedTuple):
+    """How many different states fail before and after a change of the trace, in all."""
+
+    before: int
+    after: int
+
+    @property
+    def text(self) -> str:
+        if not self.after:
+            return 'none fails'
+        fail = 'state fails' if self.after == 1 else 'states fail'
+        return f'{self.after:,} {fail}, {self.before:,} before'
+
+
+class Union(NamedTuple):
+    """All advised syncs together, and the result of trying them at once."""
+
+    points: FrozenSet[Tuple[int, str]]
+    totals: Totals
+
+
 @dataclass
 class Group:
     """Failing states whose causes agree but for numbers, and whose pairs are of lines of the same
     kind. The example is the state that lacks the least. kept, lost, pair, lost_lines, needed_lines,
     other_syncs and rerun, the outcome of its second run, are the example's. tried are the different
-    states among states. places are all pairs of lines, the lost one first."""
+    states among states. places are all pairs of lines, the lost one first. swap is the result of
+    swapping the two lines, if that was tried; overwrites says that the kept line overwrites bytes
+    that are in use; is_covered that the advice of larger groups removes all states."""
 
     outcome: Outcome
     example: State
@@ -42,6 +74,9 @@ class Group:
     advice: Advice = field(default_factory=Advice)
     difference: Optional[Difference] = None
     rerun: Optional[Outcome] = None
+    swap: Optional[Totals] = None
+    overwrites: bool = False
+    is_covered: bool = False
 
     @property
     def cause(self) -> str:
@@ -90,16 +125,33 @@ class Group:
         self.states.extend(other.states)
         self.tried |= other.tried
         self.places = sorted({*self.places, *other.places})
+        self.is_covered = self.is_covered and other.is_covered
         mine, others = self.advice.tried, other.advice.tried
         self.advice.tried = mine + others if mine and others else None
 
-    def set_advice(self, lines: Dict[int, TraceLine]) -> None:
+    def set_advice(self, lines: Dict[int, TraceLine], more_places: Places = ()) -> None:
+        """Sets the advice, also for other places that the same advice is for."""
+        tried = self.advice.tried
         if not self.is_reproducible:
             self.advice = Advice(list(NOT_REPRODUCIBLE))
-            return
-        tried = self.advice.tried
-        self.advice = advice_for(self.kept, self.lost, self.is_span, self.places, lines)
-        self.advice.tried = tried
+        elif self.kept is not None and self.is_torn:
+            self.advice = torn_advice(self.kept, 'a part of it')
+        elif self.kept is None or self.lost is None or self.is_span:
+            self.advice = self.span_advice()
+        else:
+            places = [*self.places, *more_places]
+            self.advice = loss_advice(self.kept, self.lost, places, lines)
+            self.advice.tried = tried
+
+    def span_advice(self) -> Advice:
+        """The advice for states that lose nothing."""
+        advice = span_advice(self.kept, self.lost)
+        if self.kept is not None and self.lost is not None:
+            if self.swap is not None and self.swap.after < self.swap.before:
+                advice.remedy = f'{swap_text(self.kept, self.lost)} (tried: then {self.swap.text})'
+            elif self.overwrites:
+                advice.remedy = overwriting_text(self.kept, self.lost)
+        return advice
 
 
 class Findings:
@@ -121,6 +173,7 @@ class Findings:
         self.by_state = results.of_states(before)
         self.pairs = Pairs(self.plan, self.by_state)
         self.losses: Dict[int, Loss] = {}
+        self.union: Optional[Union] = None
         self.groups = self.all_groups()
         self.take_reruns()
 
@@ -160,7 +213,7 @@ class Findings:
         for group in self.groups:
             number = self.results.first_of[Trial(group.example.same, group.example.says)]
             group.rerun = self.results.reruns.get(number)
-            group.set_advice(self.head.lines)
+        set_all_advice(self.groups, self.head.lines)
 
     def is_failure(self, state: State) -> bool:
         """Whether a state fails, and with another cause than the known failure."""
@@ -227,6 +280,20 @@ class Findings:
             for number in range(group.lost.number, group.kept.number)
             if number in self.head.lines and self.head.lines[number].word in SYNCS
         ]
+
+
+def set_all_advice(groups: List[Group], lines: Dict[int, TraceLine]) -> None:
+    """Sets the advice of all groups. If a directory is never synced, the first group whose advice
+    is to sync it has the places of the others too."""
+    of_directory: Dict[str, List[Group]] = {}
+    for group in groups:
+        group.set_advice(lines)
+        path = never_synced_directory(group.advice.syncs, lines)
+        if path:
+            of_directory.setdefault(path, []).append(group)
+    for first, *others in of_directory.values():
+        if others:
+            first.set_advice(lines, [place for group in others for place in group.places])
 
 
 def merged_groups(groups: Iterable[Group]) -> List[Group]:

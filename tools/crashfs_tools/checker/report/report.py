@@ -7,7 +7,14 @@ from dataclasses import replace
 from typing import TYPE_CHECKING, Any
 from typing import Dict, Iterator, List, Optional
 
-from crashfs_tools.checker.findings.groups import Findings, Group, merged_groups
+from crashfs_tools.checker.findings.groups import (
+    Findings,
+    Group,
+    Totals,
+    Union,
+    merged_groups,
+    set_all_advice,
+)
 from crashfs_tools.checker.running.results import Head
 from crashfs_tools.checker.running.runner import NO_ANSWER
 from crashfs_tools.common.program import can_be_built
@@ -41,6 +48,7 @@ class Report:
         self.has_page = has_page
         self.counts = StateCounts()
         self.groups_of_windows: List[List[Group]] = []
+        self.unions: List[Optional[Union]] = []
         self.packed_windows: List[bytes] = []
         self.drawings: List[Drawing] = []
         self.recoveries: List[Recovery] = []
@@ -49,6 +57,7 @@ class Report:
     def add(self, findings: Findings) -> None:
         self.counts.add(findings)
         self.groups_of_windows.append(findings.groups)
+        self.unions.append(findings.union)
         if self.has_json:
             self.packed_windows.append(packed(as_json(findings.results.fields())))
         self.add_drawing(findings)
@@ -56,6 +65,7 @@ class Report:
     def replace_last(self, findings: Findings) -> None:
         """Takes what was added to the last window's findings."""
         self.groups_of_windows[-1] = findings.groups
+        self.unions[-1] = findings.union
         if self.has_json:
             self.packed_windows[-1] = packed(as_json(findings.results.fields()))
 
@@ -72,9 +82,20 @@ class Report:
             for part in self.groups_of_windows
             for group in part
         )
-        for group in found:
-            group.set_advice(self.head.lines)
+        set_all_advice(found, self.head.lines)
         return found
+
+    def union(self) -> Optional[Union]:
+        """All advised syncs of all windows; None if a window didn't try its own."""
+        failing = zip(self.groups_of_windows, self.unions)
+        unions = [union for groups, union in failing if groups]
+        whole = [union for union in unions if union is not None]
+        if not whole or len(whole) < len(unions):
+            return None
+        points = frozenset(point for union in whole for point in union.points)
+        totals = [union.totals for union in whole]
+        before, after = sum(one.before for one in totals), sum(one.after for one in totals)
+        return Union(points, Totals(before, after))
 
     @property
     def status(self) -> int:
@@ -88,16 +109,17 @@ class Report:
 
     def lines(self) -> List[str]:
         """None but the first is longer than WIDTH: the JSON has all of it."""
-        lines, groups = [], self.groups()
-        for group in groups[:SHOWN_GROUPS]:
-            lines += self.group_lines(group)
-        if len(groups) > SHOWN_GROUPS:
-            more = sum(group.count for group in groups[SHOWN_GROUPS:])
+        groups = self.groups()
+        shown = [group for group in groups if not group.is_covered]
+        lines = [line for group in shown[:SHOWN_GROUPS] for line in self.group_lines(group)]
+        if len(shown) > SHOWN_GROUPS:
+            more = sum(group.count for group in shown[SHOWN_GROUPS:])
             lines.append(
-                f'  and {number_of(more, "more state")} of '
-                f'{number_of(len(groups) - SHOWN_GROUPS, "other kind")} '
-                '(all are in the file of --json)'
+                f'  and {number_of(more, "more state")} in '
+                f'{number_of(len(shown) - SHOWN_GROUPS, "other entry")} '
+                '(all are in the file of --json)'.replace('entrys', 'entries')
             )
+        lines += self.union_lines(shown, [group for group in groups if group.is_covered])
         return self.first_lines() + [
             cut(line)
             for line in [
@@ -110,6 +132,24 @@ class Report:
 
     def summary(self) -> str:
         return self.counts.summary(self.head)
+
+    def union_lines(self, shown: List[Group], covered: List[Group]) -> List[str]:
+        """The result of all advised syncs at once, and the entries that need no other syncs."""
+        union, lines = self.union(), []
+        advised = [group for group in shown if group.advice.syncs]
+        if union is not None and len(advised) > 1:
+            count = len(union.points)
+            all_syncs = 'both' if count == 2 else f'all {count:,}'
+            lines.append(f'  with {all_syncs} syncs {union.totals.text}')
+        if covered:
+            lines.append('  with these syncs these entries are gone too:')
+        for group in covered[:SHOWN_GROUPS]:
+            states = self.states_text(group)
+            cause = cut(group.cause, CAUSE_WIDTH - 2)
+            lines.append(f'    {cause:<{CAUSE_WIDTH - 2}} {states}')
+        if len(covered) > SHOWN_GROUPS:
+            lines.append(f'    and {len(covered) - SHOWN_GROUPS:,} more')
+        return lines
 
     def first_lines(self) -> List[str]:
         how = HOW_TO_BUILD if can_be_built() else ''
@@ -247,6 +287,7 @@ class Report:
             'cause': group.cause,
             'states': [state.number for state in group.states],
             'different': group.count,
+            'covered': group.is_covered,
             'example': group.example.number,
             'lines': group.places,
             'lost': group.lost_lines,
