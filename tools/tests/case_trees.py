@@ -52,8 +52,8 @@ def archived(runner: Runner, words: List[str], given: Dict[str, bytes]) -> Dict[
     ran = runner.run(['tar', *words], given)
     assert ran.status == 0, ran.err
     return {
-        '/' + it.path: File(it.owner, it.group, it.mode, it.data)
-        for it in members(io.BytesIO(ran.out))
+        '/' + path: File(it.owner, it.group, it.mode, it.data)
+        for path, it in members(io.BytesIO(ran.out))
     }
 
 

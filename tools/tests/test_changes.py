@@ -6,8 +6,9 @@ import unittest
 from io import BytesIO
 from typing import List
 
-from crashfs_tools.checker.states.changes import Changes, Tree, read_changes
-from crashfs_tools.common.archive import ArchiveFault, Member, members
+from crashfs_tools.checker.states.changes import Changes, read_changes
+from crashfs_tools.common.archive import ArchiveFault, members
+from crashfs_tools.common.entry import Entries, Entry
 from crashfs_tools.reading import plan_of, read
 from crashfs_tools.recorder.directory import scan
 
@@ -45,10 +46,10 @@ class Trees:
     def __len__(self) -> int:
         return len(self.plan.states)
 
-    def tree(self, number: int) -> Tree:
+    def tree(self, number: int) -> Entries:
         tree = self.plan.trees.tree(self.plan.states[number][1])
         return {
-            path[1:]: Member(path[1:], int(mode, 8), owner, group, data)
+            path[1:]: Entry(owner, group, int(mode, 8), data)
             for path, ((owner, group, mode), data) in tree.items()
         }
 

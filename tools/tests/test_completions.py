@@ -3,17 +3,31 @@
 from __future__ import annotations
 
 import os
+import re
 import shutil
 import subprocess
 import unittest
 from pathlib import Path
-from typing import Dict, List, Set
+from typing import Dict, List, Set, Tuple
 
-from inventory.command_lines import HELP, TOOLS, Option, commands_of_program, options_of_tool
+from crashfs_tools.common.program import Crashfs
+from inventory.command_lines import (
+    HELP,
+    TOOLS,
+    Option,
+    about,
+    commands_of_program,
+    options_of_tool,
+)
 from inventory.completions import FOLDER, fish_option, zsh_option
 
 from .support import InFolder, needed
 
+FOUND = Crashfs.find(None)
+# An option of `crashfs COMMAND --help`: its name, the name of its value, and its help.
+HELP_LINE = re.compile(r'^ +(?:-\w, )?(--[\w-]+)( <([\w-]+)>)? +(.*)$')
+
+needs_program = needed(FOUND is not None, 'crashfs is not built')
 needs_zsh = needed(shutil.which('zsh') is not None, 'zsh is not there')
 needs_fish = needed(shutil.which('fish') is not None, 'fish is not there')
 
@@ -39,6 +53,39 @@ class Lines(unittest.TestCase):
             (Option(('--a',), 'b', 'C', ('x', 'y')), "complete -c p -l a -x -a 'x y' -d 'b'"),
         ):
             self.assertEqual(fish_option('p', option), line)
+
+
+@needs_program
+class OfProgram(unittest.TestCase):
+    """The options that are read from the program's source are those of its help."""
+
+    def help_of(self, *words: str) -> str:
+        assert FOUND is not None
+        return FOUND.text([*words, '--help'])
+
+    def printed_options(self, command: str) -> Dict[str, Tuple[str, str, Tuple[str, ...]]]:
+        """Each option of a command's help: its value, its help, the values that are known."""
+        found: Dict[str, Tuple[str, str, Tuple[str, ...]]] = {}
+        lines = self.help_of(command).split('\nOptions:\n')[1].split('\n\n')[0].splitlines()
+        for name, _, value, text in (HELP_LINE.findall(line)[0] for line in lines):
+            known = re.findall(r'\[possible values: ([^]]*)\]', text)
+            choices = tuple(known[0].split(', ')) if known else ()
+            found[name] = (value, re.sub(r' \[(default|possible)[^]]*\]', '', text), choices)
+        return found
+
+    def test_each_command_has_the_options_of_its_help(self) -> None:
+        for command, options in commands_of_program().items():
+            printed = self.printed_options(command)
+            self.assertEqual(printed.pop('--help')[0], '')
+            self.assertEqual(
+                {it.names[0]: (it.value or '', it.help, it.choices) for it in options}, printed
+            )
+
+    def test_each_command_is_in_the_program_s_help(self) -> None:
+        printed = dict(re.findall(r'^  (\w+) +(.*)$', self.help_of(), re.M))
+        self.assertEqual(printed.keys() - {'help'}, set(commands_of_program()))
+        for command in commands_of_program():
+            self.assertEqual(about(command), printed[command])
 
 
 @needs_zsh

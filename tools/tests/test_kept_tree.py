@@ -4,12 +4,13 @@ import os
 import subprocess
 import time
 import unittest
+from dataclasses import replace
 from unittest import mock
 
 from crashfs_tools.checker.running.trying import has_large_trees
 from crashfs_tools.checker.states import kept_tree
 from crashfs_tools.checker.states.kept_tree import KeptTree
-from crashfs_tools.common.archive import Member
+from crashfs_tools.common.entry import Entry
 
 from .support import FAKE, InFolder
 from .test_check_command import InStore
@@ -17,8 +18,8 @@ from .test_check_command import InStore
 RIGHTS = '"owner":"u","group":"u","mode"'
 
 
-def file(text: str, mode: int = 0o644) -> Member:
-    return Member('', mode, 'u', 'g', text.encode())
+def file(text: str, mode: int = 0o644) -> Entry:
+    return Entry('u', 'g', mode, text.encode())
 
 
 def say_of(size: int) -> str:
@@ -27,8 +28,8 @@ def say_of(size: int) -> str:
     return line[:-2] + 'x' * (size - len(line)) + line[-2:]
 
 
-def folder(mode: int = 0o755) -> Member:
-    return Member('', mode, 'u', 'g', None)
+def folder(mode: int = 0o755) -> Entry:
+    return Entry('u', 'g', mode, None)
 
 
 TREE = {
@@ -184,7 +185,7 @@ class Kept(InFolder):
 
     def test_of_a_large_file_only_what_differs_is_written(self):
         whole = bytes(range(256)) * 1_024
-        tree = {'': folder(), 'a': file('')._replace(data=whole)}
+        tree = {'': folder(), 'a': replace(file(''), data=whole)}
         kept = KeptTree(self.place)
         kept.bring(tree)
         kept.has_times = True
@@ -200,7 +201,7 @@ class Kept(InFolder):
                 node = os.stat(self.path('kept', 'a')).st_ino
                 kept.begin()
                 subprocess.run(['sh', '-c', deed], cwd=self.place, check=True)
-                kept.bring({**tree, 'a': tree['a']._replace(data=data)})
+                kept.bring({**tree, 'a': replace(tree['a'], data=data)})
                 with open(self.path('kept', 'a'), 'rb') as stream:
                     self.assertEqual(stream.read(), data)
                 self.assertEqual([call.args[2] >> 14 for call in written.mock_calls], pieces or [])
@@ -212,7 +213,7 @@ class Kept(InFolder):
         kept.has_times = False
         kept.begin()
         with mock.patch('os.pwrite', side_effect=os.pwrite) as written:
-            kept.bring({**tree, 'a': tree['a']._replace(data=whole[::-1])})
+            kept.bring({**tree, 'a': replace(tree['a'], data=whole[::-1])})
         self.assertEqual(written.mock_calls, [])
         kept.remove()
 

@@ -249,7 +249,7 @@ class Fake(InFolder):
         ]:
             words = ['--trace', trace, '--holes', '--state', str(state)]
             with self.subTest(state), Crashfs(FAKE).archive(words) as members:
-                found = {one.path: (one.owner, one.mode) for one in members if one.path}
+                found = {path: (one.owner, one.mode) for path, one in members if path}
                 self.assertEqual(found, wanted)
 
     def test_ordered_takes_states_away(self):

@@ -13,7 +13,7 @@ from typing import Dict, Iterator, List, Optional
 
 from .archive import ArchiveFault, Member, members
 from .command import Refused, ended
-from .entry import Entries, Entry
+from .entry import Entries
 
 PACKAGE = os.path.dirname(os.path.dirname(os.path.realpath(__file__)))
 LIBRARY = os.path.dirname(PACKAGE)
@@ -156,7 +156,7 @@ class Crashfs:
 
     def whole_tree(self, words: List[str], environment: Optional[Dict[str, str]] = None) -> Entries:
         with self.archive(words, environment) as archive:
-            return {'/' + member.path: entry_of(member) for member in archive}
+            return {'/' + path: entry for path, entry in archive}
 
 
 def program_beside(library: str) -> Optional[str]:
@@ -188,8 +188,3 @@ def is_too_large(fault: Exception) -> bool:
 def last_line(output: str) -> str:
     lines = output.strip().splitlines()
     return lines[-1] if lines else ''
-
-
-def entry_of(member: Member) -> Entry:
-    data = None if member.data is None else bytearray(member.data)
-    return Entry(member.owner, member.group, member.mode & 0o777, data)

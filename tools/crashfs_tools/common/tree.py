@@ -2,7 +2,7 @@
 
 from __future__ import annotations
 
-from typing import Optional, Union
+from typing import Dict, List, Optional, Tuple, Union
 
 from . import limits
 from .entry import Entries, Entry, parent_of
@@ -12,6 +12,7 @@ from .trace import (
     Creat,
     Fsync,
     FsyncRange,
+    Header,
     Link,
     Mkdir,
     Operation,
@@ -39,24 +40,30 @@ def path_fault(path: str) -> Optional[str]:
 
 
 class Tree:
-    """The entries by path, where two paths of one file have one entry; micro_operations counts
-    what `crashfs` makes of the operations."""
+    """The entries by path. files has the number of the file or directory at each path: all paths
+    of a file have its number, and share its entry. micro_operations counts what `crashfs` makes of
+    the operations."""
 
     def __init__(self, owner: str, group: str, mode: int, block: int = 4_096) -> None:
         self.entries: Entries = {'/': Entry(owner, group, mode, None)}
+        self.files: Dict[str, int] = {'/': 0}
         self.records = 1
         self.block = block
         self.micro_operations = 0
 
     def start(self, entry: Union[Start, StartLink]) -> None:
         if isinstance(entry, StartLink):
-            self.make(entry.path, self.entries[entry.source])
-            return
-        data = None if entry.data is None else bytearray(entry.data)
-        self.make(entry.path, Entry(entry.owner, entry.group, entry.mode, data))
+            self.link(entry.source, entry.path)
+        else:
+            self.make(entry.path, Entry(entry.owner, entry.group, entry.mode, entry.data))
 
     def make(self, path: str, entry: Entry) -> None:
-        self.entries[path] = entry
+        self.entries[path], self.files[path] = entry, self.records
+        self.records += 1
+
+    def link(self, source: str, target: str) -> None:
+        """Gives a file another path."""
+        self.entries[target], self.files[target] = self.entries[source], self.files[source]
         self.records += 1
 
     # What an operation needs
@@ -123,13 +130,13 @@ class Tree:
     def apply(self, operation: Operation) -> None:
         """Does an operation that has no fault."""
         if isinstance(operation, (Creat, Mkdir)):
-            data = bytearray() if isinstance(operation, Creat) else None
+            data = b'' if isinstance(operation, Creat) else None
             entry = Entry(operation.owner, operation.group, operation.mode, data)
             self.make(operation.path, entry)
         elif isinstance(operation, (Unlink, Rmdir)):
-            del self.entries[operation.path]
+            del self.entries[operation.path], self.files[operation.path]
         elif isinstance(operation, Link):
-            self.make(operation.target, self.entries[operation.source])
+            self.link(operation.source, operation.target)
         elif isinstance(operation, Rename):
             self.rename(operation)
         self.micro_operations += self.steps(operation)
@@ -137,8 +144,9 @@ class Tree:
     def rename(self, operation: Rename) -> None:
         """A rename onto another path of the same file does nothing."""
         source, target = operation.source, operation.target
-        if self.entries[source] is not self.entries.get(target):
+        if self.files[source] != self.files.get(target):
             self.entries[target] = self.entries.pop(source)
+            self.files[target] = self.files.pop(source)
             self.micro_operations += 1
 
     def steps(self, operation: Operation) -> int:
@@ -153,8 +161,7 @@ class Tree:
         return int(isinstance(operation, (Creat, Mkdir, Unlink, Rmdir, Link, Say)))
 
     def write(self, operation: Write) -> int:
-        data = self.entries[operation.path].data
-        assert data is not None
+        data = self.entries[operation.path].growing()
         if not operation.data:
             return 0
         end = operation.offset + len(operation.data)
@@ -165,8 +172,7 @@ class Tree:
         return int(grows) + last - first + 1
 
     def truncate(self, operation: Truncate) -> int:
-        data = self.entries[operation.path].data
-        assert data is not None
+        data = self.entries[operation.path].growing()
         changes = len(data) != operation.length
         resize(data, operation.length)
         return int(changes)
@@ -179,6 +185,25 @@ class Tree:
         else:
             entry.owner, entry.group = operation.owner, operation.group
         return int((entry.owner, entry.group, entry.mode) != before)
+
+
+def start_lines(
+    entries: Entries, files: Dict[str, int]
+) -> Tuple[Header, List[Union[Start, StartLink]]]:
+    """The header and the start lines of a tree. files has one number for all paths of a file; its
+    first path has the file's line, the others are links to it."""
+    root = entries['/']
+    firsts: Dict[int, str] = {}
+    lines: List[Union[Start, StartLink]] = []
+    for path in sorted(entries.keys() - {'/'}, key=lambda one: one.split('/')):
+        entry = entries[path]
+        first = firsts.setdefault(files[path], path)
+        if first != path:
+            lines.append(StartLink(path, first))
+        else:
+            data = None if entry.data is None else bytes(entry.data)
+            lines.append(Start(path, entry.owner, entry.group, entry.mode, data))
+    return Header(root.owner, root.group, root.mode), lines
 
 
 def resize(data: bytearray, length: int) -> None:

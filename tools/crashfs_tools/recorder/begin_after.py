@@ -3,10 +3,8 @@
 from __future__ import annotations
 
 import fnmatch
-from typing import Dict
-
-from crashfs_tools.common.trace import Header, Say, Start, StartLink, Trace
-from crashfs_tools.common.tree import Tree
+from crashfs_tools.common.trace import Say, Trace
+from crashfs_tools.common.tree import Tree, start_lines
 
 from .recording import Recording
 
@@ -36,25 +34,11 @@ class LateStart:
 
 def begin_here(recording: Recording) -> None:
     """Begins the trace again. What wasn't synced up to here counts as durable."""
-    old, entries = recording.trace, recording.tree.entries
-    root = entries['/']
-    trace = Trace(
-        Header(root.owner, root.group, root.mode),
-        version=old.version,
-        profile=old.profile,
-        block=old.block,
-    )
-    tree = Tree(root.owner, root.group, root.mode, old.block)
-    first_paths: Dict[int, str] = {}
-    for path in sorted(entries.keys() - {'/'}):
-        entry = entries[path]
-        first = first_paths.setdefault(id(entry), path)
-        line: object = StartLink(path, first)
-        if first == path:
-            data = None if entry.data is None else bytes(entry.data)
-            line = Start(path, entry.owner, entry.group, entry.mode, data)
-        assert isinstance(line, (Start, StartLink))
-        trace.start.append(line)
+    old = recording.trace
+    header, start = start_lines(recording.tree.entries, recording.tree.files)
+    trace = Trace(header, start, version=old.version, profile=old.profile, block=old.block)
+    tree = Tree(header.owner, header.group, header.mode, old.block)
+    for line in start:
         tree.start(line)
     recording.trace, recording.tree = trace, tree
     recording.troubles.forget_lines()

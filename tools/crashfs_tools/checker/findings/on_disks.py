@@ -15,7 +15,6 @@ from crashfs_tools.checker.states.layout import lay_out, top_of
 from crashfs_tools.common.archive import Member
 from crashfs_tools.common.entry import Entries, Entry
 from crashfs_tools.common.guard import Guard
-from crashfs_tools.common.program import entry_of
 from crashfs_tools.common.removal import remove_tree
 from crashfs_tools.common.trace_read import read_trace
 from crashfs_tools.disks.disk import Crash, Disk, digest_of
@@ -218,7 +217,7 @@ class Search:
         words = [*planned.words, '--states', planned.list_of(firsts)]
         with self.trying.program.archive(words, self.trying.guard.environment) as archive:
             for top, members in groupby(archive, top_of):
-                tree = {f'/{one.path[len(top) + 1 :]}': entry_of(one) for one in members}
+                tree = {f'/{path[len(top) + 1 :]}': entry for path, entry in members}
                 digests[int(top) + planned.plan.first] = digest_of(tree)
         found: Dict[Left, List[int]] = {}
         for state in planned.plan.listed:
@@ -285,8 +284,7 @@ def all_left(disks: Dict[str, List[Disk]]) -> List[OnDiskTree]:
 
 def members_of(tree: Entries) -> Iterator[Member]:
     for path, entry in tree.items():
-        data = None if entry.data is None else bytes(entry.data)
-        yield Member(path[1:], entry.mode, entry.owner, entry.group, data)
+        yield path[1:], entry
 
 
 def crash_states(trace: bytes, wanted: Set[Left]) -> Tuple[Set[Left], bool]:

@@ -7,9 +7,10 @@ import os
 from contextlib import contextmanager
 from typing import Dict, Iterator, Optional, Set, Tuple
 
+from crashfs_tools.common.entry import Entries
 from crashfs_tools.common.program import Crashfs, ProgramFault
 
-from .changes import Tree, read_changes
+from .changes import read_changes
 from .kept_tree import KeptTree
 from .layout import Archive
 from .plan import Planned
@@ -21,7 +22,7 @@ class KeptLayout(Archive):
     ) -> None:
         super().__init__(program, planned, folder, environment)
         with program.archive([*planned.words, '--state', '0'], environment) as members:
-            self.start: Tree = {one.path: one for one in members}
+            self.start: Entries = dict(members)
         self.kept: Optional[KeptTree] = None
 
     def states(self, wanted: Set[int]) -> Iterator[Tuple[int, str]]:
@@ -39,7 +40,7 @@ class KeptLayout(Archive):
         self.kept.begin()
         yield
 
-    def trees(self, wanted: Set[int]) -> Iterator[Tuple[int, Tree]]:
+    def trees(self, wanted: Set[int]) -> Iterator[Tuple[int, Entries]]:
         left = set(wanted)
         words = [*self.planned.words, '--states', self.planned.list_of(wanted), '--changes']
         with self.program.archive(words, self.environment) as members:

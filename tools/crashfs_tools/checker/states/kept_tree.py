@@ -14,7 +14,7 @@ import stat
 import time
 from typing import Dict, List, Mapping, NamedTuple, Optional, Set, Tuple, Union
 
-from crashfs_tools.common.archive import Member
+from crashfs_tools.common.entry import Entry
 from crashfs_tools.common.mount_table import MountTable
 from crashfs_tools.common.removal import FOLDER, LEFT, remove_tree
 
@@ -40,7 +40,7 @@ RIGHTS = 5
 class Laid(NamedTuple):
     """A file as it was written. attributes are the names of the extended ones of a large file."""
 
-    member: Member
+    entry: Entry
     signature: Signature
     attributes: List[str]
 
@@ -62,7 +62,7 @@ class KeptTree:
         self.has_times = False
         self.attributes: List[str] = []
 
-    def bring(self, tree: Mapping[str, Member]) -> None:
+    def bring(self, tree: Mapping[str, Entry]) -> None:
         """Makes the directory have the tree."""
         if self.is_whole:
             try:
@@ -89,7 +89,7 @@ class KeptTree:
             self.directory = unused(self.directory)
         self.is_whole, self.files = False, {}
 
-    def change(self, tree: Mapping[str, Member]) -> None:
+    def change(self, tree: Mapping[str, Entry]) -> None:
         if self.mounts.below(self.directory):
             raise Unchangeable
         self.there, self.modes = {''}, {}
@@ -109,7 +109,7 @@ class KeptTree:
         finally:
             os.umask(umask)
 
-    def clear(self, at: int, path: str, tree: Mapping[str, Member]) -> None:
+    def clear(self, at: int, path: str, tree: Mapping[str, Entry]) -> None:
         """Removes what isn't in the tree, or isn't as it was, below a directory."""
         if attributes_of(at) != self.attributes:
             raise Unchangeable
@@ -134,7 +134,7 @@ class KeptTree:
                 self.clear_directory(at, entry.name, name, status, tree)
 
     def clear_directory(
-        self, at: int, name: str, path: str, status: os.stat_result, tree: Mapping[str, Member]
+        self, at: int, name: str, path: str, status: os.stat_result, tree: Mapping[str, Entry]
     ) -> None:
         self.open_up(path, name, at, status)
         below = os.open(name, FOLDER, dir_fd=at)
@@ -152,10 +152,10 @@ class KeptTree:
             mode = FILLED_MODE
         self.modes[path] = mode
 
-    def has(self, at: int, path: str, wanted: Member, status: os.stat_result) -> bool:
+    def has(self, at: int, path: str, wanted: Entry, status: os.stat_result) -> bool:
         """Whether a file is as it was written, and as it is wanted."""
         laid = self.files.get(path)
-        if laid is None or laid.member != wanted or not self.is_as_laid(laid, status):
+        if laid is None or laid.entry != wanted or not self.is_as_laid(laid, status):
             return False
         return self.has_times or bytes_of(at, path.rpartition('/')[2]) == wanted.data
 
@@ -163,14 +163,14 @@ class KeptTree:
         """Whether a file is as it was written, except for stores that its times don't show."""
         return laid.signature == signature_of(status) and status.st_ctime_ns < self.started
 
-    def change_bytes(self, at: int, path: str, wanted: Member, status: os.stat_result) -> bool:
+    def change_bytes(self, at: int, path: str, wanted: Entry, status: os.stat_result) -> bool:
         """Gives a large file the bytes that are wanted; returns False if it must be made again,
         since COMMAND put another one in its place or changed more than its bytes."""
         laid = self.files.get(path)
         if (
             not self.has_times
             or laid is None
-            or laid.member.mode != wanted.mode
+            or laid.entry.mode != wanted.mode
             or not is_large(wanted)
             or laid.signature[:RIGHTS] != signature_of(status)[:RIGHTS]
         ):
@@ -182,12 +182,12 @@ class KeptTree:
         with open(file, 'r+b', buffering=0) as stream:
             if attributes_of(file) != laid.attributes:
                 return False
-            before = laid.member.data if self.is_as_laid(laid, status) else stream.read()
+            before = laid.entry.data if self.is_as_laid(laid, status) else stream.read()
             rewrite(file, before or b'', wanted.data or b'')
             self.files[path] = Laid(wanted, signature_of(os.fstat(file)), laid.attributes)
         return True
 
-    def put(self, at: int, path: str, one: Member) -> None:
+    def put(self, at: int, path: str, one: Entry) -> None:
         if one.data is None:
             os.mkdir(path, FILLED_MODE, dir_fd=at)
             self.modes[path] = FILLED_MODE
@@ -200,15 +200,15 @@ class KeptTree:
         finally:
             os.close(file)
 
-    def set_modes(self, at: int, tree: Mapping[str, Member]) -> None:
+    def set_modes(self, at: int, tree: Mapping[str, Entry]) -> None:
         """Inner directories before outer ones: modes may forbid what is done below."""
         changed = [path for path, mode in self.modes.items() if tree[path].mode != mode]
         for path in sorted(changed, reverse=True):
             os.chmod(path or '.', tree[path].mode, dir_fd=at)
 
 
-def is_large(member: Member) -> bool:
-    return len(member.data or b'') >= LARGE_BYTES
+def is_large(entry: Entry) -> bool:
+    return len(entry.data or b'') >= LARGE_BYTES
 
 
 def signature_of(status: os.stat_result) -> Signature:

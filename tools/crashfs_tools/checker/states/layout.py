@@ -9,6 +9,7 @@ from itertools import groupby
 from typing import ContextManager, Dict, Iterable, Iterator, List, Set, Tuple
 
 from crashfs_tools.common.archive import Member
+from crashfs_tools.common.entry import Entry
 from crashfs_tools.common.removal import remove_tree
 from crashfs_tools.common.program import Crashfs, ProgramFault
 
@@ -59,7 +60,7 @@ class Archive(Layout):
                     continue
                 left.remove(number)
                 directory = unused(os.path.join(self.folder, str(number)))
-                lay_out(directory, (one._replace(path=one.path[len(top) + 1 :]) for one in tree))
+                lay_out(directory, ((path[len(top) + 1 :], entry) for path, entry in tree))
                 yield number, directory
         if left:
             raise ProgramFault(0, f'crashfs tar wrote no state {min(left)}'.encode())
@@ -71,7 +72,7 @@ def unused(path: str) -> str:
 
 
 def top_of(member: Member) -> str:
-    return member.path.partition('/')[0]
+    return member[0].partition('/')[0]
 
 
 def lay_out(directory: str, tree: Iterable[Member]) -> None:
@@ -83,10 +84,10 @@ def lay_out(directory: str, tree: Iterable[Member]) -> None:
         at = os.open(directory, os.O_RDONLY | os.O_DIRECTORY)
         try:
             modes: List[Tuple[str, int]] = []
-            for one in tree:
-                if one.data is None:
-                    modes.append((one.path, one.mode))
-                put(one, at)
+            for path, entry in tree:
+                if entry.is_directory:
+                    modes.append((path, entry.mode))
+                put(path, entry, at)
             for path, mode in reversed(modes):
                 os.chmod(path or '.', mode, dir_fd=at)
         finally:
@@ -95,11 +96,11 @@ def lay_out(directory: str, tree: Iterable[Member]) -> None:
         os.umask(umask)
 
 
-def put(one: Member, at: int) -> None:
-    if one.data is not None:
-        write_file(one.path, one.mode, one.data, at)
-    elif one.path:
-        os.mkdir(one.path, FILLED_MODE, dir_fd=at)
+def put(path: str, entry: Entry, at: int) -> None:
+    if entry.data is not None:
+        write_file(path, entry.mode, entry.data, at)
+    elif path:
+        os.mkdir(path, FILLED_MODE, dir_fd=at)
 
 
 def write_file(path: str, mode: int, data: bytes, at: int) -> None:

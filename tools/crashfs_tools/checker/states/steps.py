@@ -4,22 +4,13 @@ from __future__ import annotations
 
 import bisect
 from dataclasses import dataclass
-from typing import Dict, Iterator, List, Tuple, Union
+from typing import Iterator, List, Tuple
 
 from crashfs_tools.common.command import Refused
 from crashfs_tools.common.entry import Entries
-from crashfs_tools.common.trace import (
-    Header,
-    Operation,
-    Say,
-    Start,
-    StartLink,
-    Trace,
-    Truncate,
-    Write,
-)
+from crashfs_tools.common.trace import Operation, Say, Trace, Truncate, Write
 from crashfs_tools.common.trace_read import read_numbered
-from crashfs_tools.common.tree import Tree
+from crashfs_tools.common.tree import Tree, start_lines
 
 # A longer write is several steps, so that a window can end in it.
 PIECE_BLOCKS = 64
@@ -54,13 +45,13 @@ class Session:
                 size = tree.micro_operations - before
                 self.steps.append(Step(line, piece, self.trace.notes.get(place, ''), size))
                 self.places.append(tree.micro_operations)
-        self.end = tree.entries
+        self.end = tree
 
     def end_trace(self) -> str:
         """A trace of the tree at the session's end, in which nothing happens."""
         return text_of(
             Trace(
-                *start_lines(self.end, self.end),
+                *start_lines(self.end.entries, self.end.files),
                 [],
                 self.trace.version,
                 self.trace.profile,
@@ -126,7 +117,7 @@ class Steps:
         """The trace of the steps up to an end, and for each of its lines that of the session."""
         part = self.session.steps[self.begin : end]
         whole = self.session.trace
-        header, start = start_lines(self.start, self.tree.entries)
+        header, start = start_lines(self.start, self.tree.files)
         notes = {place: one.note for place, one in enumerate(part) if one.note}
         trace = Trace(
             header,
@@ -138,24 +129,6 @@ class Steps:
             notes,
         )
         return text_of(trace), (0,) * (1 + len(start)) + tuple(one.line for one in part)
-
-
-def start_lines(entries: Entries, links: Entries) -> Tuple[Header, List[Union[Start, StartLink]]]:
-    """The lines of a tree; links has one entry for all paths of a file."""
-    root = entries['/']
-    firsts: Dict[int, str] = {}
-    lines: List[Union[Start, StartLink]] = []
-    for path in sorted(entries, key=lambda one: one.split('/')):
-        entry = entries[path]
-        first = firsts.setdefault(id(links[path]), path)
-        if path == '/':
-            continue
-        if first != path:
-            lines.append(StartLink(path, first))
-        else:
-            data = None if entry.data is None else bytes(entry.data)
-            lines.append(Start(path, entry.owner, entry.group, entry.mode, data))
-    return Header(root.owner, root.group, root.mode), lines
 
 
 def text_of(trace: Trace) -> str:
