@@ -191,11 +191,12 @@ class Groups(unittest.TestCase):
 
     def test_a_sync_of_another_file_is_shown(self):
         text = THIRD + line('creat', '/t', note='put (kv.py:8)') + write('/t', 'x')
-        text += line('creat', '/u') + line('fsync', '/u') + rename('/t', '/f')
+        text += line('creat', '/u') + line('fsync', '/u') + line('fsync', '/') + rename('/t', '/f')
         report = report_of(
             text, lambda files, says: 'corrupt: f' if files.get('/f', b'x') != b'x' else ''
         )
-        self.assertIn('    line 5 is fsync /u, which is not enough', report.lines())
+        self.assertIn('    line 6 is fsync /, which is not enough', report.lines())
+        self.assertNotIn('fsync /u,', ' '.join(report.lines()))
         self.assertIn('    fsync /t between them', report.lines())
 
     def test_a_sync_belongs_before_the_first_rename_of_its_file(self):
@@ -233,7 +234,10 @@ class Groups(unittest.TestCase):
         report = report_of(
             text, lambda files, says: 'torn: f' if b'\0' in files.get('/f', b'') else ''
         )
-        self.assertIn('was torn: a crash kept a part of it', report.groups()[0].advice.text[0])
+        self.assertIn(
+            'was torn: a crash kept its length, not its bytes (zeros)',
+            report.groups()[0].advice.text[0],
+        )
         text = HEADER + line('creat', '/a') + line('fsync', '/') + line('creat', '/b')
         report = report_of(text, lambda files, says: '' if len(files) in (0, 2) else 'half')
         text, remedy = report.groups()[0].advice.lines()
@@ -288,12 +292,16 @@ class Texts(unittest.TestCase):
             ('seg12.log', 'seg7.log'),
             ('tmp_obj_aB3xYz', 'tmp_obj_KqWxYz'),
             ('/o/3f/a8b2c4d6e8', '/o/b7/0f1e2d3c4b'),
+            ('/objects/2a/tmp_obj_aB3xYz', '/objects/fe/tmp_obj_KqWxYz'),
+            ('/.git/objects/2b', '/.git/objects/fe'),
             ('row 3: 0x1f', 'row 12: 0x2f'),
             ('f.Q7a9B2', 'f.p3X8k1'),
         ]:
             self.assertEqual(without_numbers(one), without_numbers(other))
         for one, other in [
             ('journal1', 'segment1'),
+            ('/db', '/fe'),
+            ('/objects/db/x', '/objects/fed/x'),
             ('test.db', 'test.db-journal'),
             ('lost: a', 'lost: b'),
             ('/data.log', '/data.tmp'),

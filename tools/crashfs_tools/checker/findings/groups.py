@@ -8,6 +8,7 @@ from typing import Dict, FrozenSet, Iterable, List, NamedTuple, Optional, Tuple
 from crashfs_tools.checker.running.results import Head, Results
 from crashfs_tools.checker.running.runner import GOOD, GOOD_OUTCOME, Outcome
 from crashfs_tools.checker.states.plan import Plan, State, Trial, count, places_of
+from crashfs_tools.common.entry import parent_of
 from crashfs_tools.common.trace_lines import SYNCS, TraceLine, without_numbers
 
 from .advice import (
@@ -21,6 +22,7 @@ from .advice import (
 )
 from .pairs import Loss, Pair, Pairs
 from .sync_points import Places, never_synced_directory
+from .torn import kept_part
 
 
 class Difference(NamedTuple):
@@ -54,11 +56,11 @@ class Union(NamedTuple):
 @dataclass
 class Group:
     """Failing states whose causes agree but for numbers, and whose pairs are of lines of the same
-    kind. The example is the state that lacks the least. kept, lost, pair, lost_lines, needed_lines,
-    other_syncs and rerun, the outcome of its second run, are the example's. tried are the different
-    states among states. places are all pairs of lines, the lost one first. swap is the result of
-    swapping the two lines, if that was tried; overwrites says that the kept line overwrites bytes
-    that are in use; is_covered that the advice of larger groups removes all states."""
+    kind. tried are the different states among them, and places all pairs of lines, the lost one
+    first. The example is the state that lacks the least. All else but the advice is of the example:
+    rerun is the outcome of its second run, kept_part what a crash kept of a torn line, swap the
+    result of another order of the two lines, and overwrites says whether the kept line overwrites
+    bytes in use. is_covered says whether the advice of larger groups removes all states."""
 
     outcome: Outcome
     example: State
@@ -74,6 +76,7 @@ class Group:
     advice: Advice = field(default_factory=Advice)
     difference: Optional[Difference] = None
     rerun: Optional[Outcome] = None
+    kept_part: str = 'a part of it'
     swap: Optional[Totals] = None
     overwrites: bool = False
     is_covered: bool = False
@@ -135,7 +138,7 @@ class Group:
         if not self.is_reproducible:
             self.advice = Advice(list(NOT_REPRODUCIBLE))
         elif self.kept is not None and self.is_torn:
-            self.advice = torn_advice(self.kept, 'a part of it')
+            self.advice = torn_advice(self.kept, self.kept_part)
         elif self.kept is None or self.lost is None or self.is_span:
             self.advice = self.span_advice()
         else:
@@ -190,6 +193,9 @@ class Findings:
         for group in groups:
             group.lost_lines = self.lost_lines(group.example)
             group.needed_lines = self.needed_lines(group)
+            if group.kept is not None and group.is_torn:
+                kept = self.plan.kept[group.example.number]
+                group.kept_part = kept_part(self.plan, kept, group.kept.number)
             group.other_syncs = self.other_syncs(group)
         return groups
 
@@ -272,13 +278,18 @@ class Findings:
         return sorted(lines - {self.plan.operations[lost].line})
 
     def other_syncs(self, group: Group) -> List[TraceLine]:
-        """Syncs between the two lines, which don't make the lost one durable."""
+        """Syncs between the two lines that one may take to make the lost one durable: of the same
+        file, or of its directory."""
         if group.kept is None or group.lost is None or group.is_span:
             return []
+        names = [path for path in (group.lost.path, group.lost.target) if path]
+        paths = {*names, *map(parent_of, names)}
         return [
             self.head.lines[number]
             for number in range(group.lost.number, group.kept.number)
-            if number in self.head.lines and self.head.lines[number].word in SYNCS
+            if number in self.head.lines
+            and self.head.lines[number].word in SYNCS
+            and self.head.lines[number].path in paths
         ]
 
 

@@ -29,6 +29,8 @@ if TYPE_CHECKING:
     from .drawing import Drawing
 
 SHOWN_GROUPS = 20
+# So many lines are shown of what an entry's example lacks, and of the syncs that aren't enough.
+SHOWN_LINES = 3
 # So many windows are drawn: the page must stay small.
 DRAWN = 8
 WIDTH = 100
@@ -234,18 +236,18 @@ class Report:
         notes = {line.number: line.note for line in (group.lost, group.kept) if line and line.note}
         lines = [f'line {number}: {note}' for number, note in sorted(notes.items())]
         lines += group.advice.lines()
-        for sync in group.other_syncs:
-            if group.advice.syncs:
-                lines.append(f'line {sync.number} is {sync.text}, which is not enough')
+        for sync in group.other_syncs[:SHOWN_LINES] if group.advice.syncs else []:
+            lines.append(f'line {sync.number} is {sync.text}, which is not enough')
         if group.needed_lines:
             needed = ', '.join(map(self.shown_line, group.needed_lines))
             lines.append(f'it fails only if this is lost too: {needed}')
         named = {group.lost.number if group.lost else 0, *group.needed_lines}
         lost = [number for number in group.lost_lines if number not in named]
         if lost and not group.is_span:
-            lines.append(
-                f'state {group.example.number} also lacks ' + ', '.join(map(self.shown_line, lost))
-            )
+            shown = ', '.join(map(self.shown_line, lost[:SHOWN_LINES]))
+            more = len(lost) - SHOWN_LINES
+            also = f' and {number_of(more, "more line")}' if more > 0 else ''
+            lines.append(f'state {group.example.number} also lacks {shown}{also}')
         if self.sightings is not None:
             lines.append(self.sightings.sentence([state.number for state in group.states]))
         return lines
