@@ -3,7 +3,9 @@
 from __future__ import annotations
 
 import ast
+import re
 import unittest
+from graphlib import CycleError, TopologicalSorter
 from pathlib import Path
 from typing import Dict, Iterator, List, Set
 
@@ -73,22 +75,41 @@ def room_of(name: str) -> str:
 
 def circle(imports: Dict[str, Set[str]]) -> List[str]:
     """Modules that import each other in a circle; none if there are none."""
-    done: Set[str] = set()
+    try:
+        TopologicalSorter(imports).prepare()
+    except CycleError as error:
+        return list(reversed(error.args[1]))
+    return []
 
-    def search(name: str, above: List[str]) -> List[str]:
-        if name in above:
-            return above[above.index(name) :]
-        if name in done:
-            return []
-        found = (search(it, [*above, name]) for it in sorted(imports.get(name, set())))
-        answer = next(filter(None, found), [])
-        done.add(name)
-        return answer
 
-    return next(filter(None, (search(name, []) for name in sorted(imports))), [])
+def rooms_of_page(page: str) -> Dict[str, Set[str]]:
+    """The rooms of ARCHITECTURE's table, each with those that it may import. `all of` a room means
+    those within it."""
+    found: Dict[str, Set[str]] = {}
+    table = page.split('\n| Room |', 1)[1].split('\n\n', 1)[0]
+    for row in table.splitlines()[2:]:
+        room, _, imports = (cell.strip() for cell in row.strip('|').split('|'))
+        names = set(re.findall('`([^`]+)`', imports))
+        if imports.startswith('all of '):
+            names |= {name for name in ROOMS if name.startswith(f'{room.strip("`")}.')}
+        found[room.strip('`')] = names - {room.strip('`')}
+    return found
 
 
 class Rooms(unittest.TestCase):
+    def test_the_page_has_each_room_and_what_it_may_import(self) -> None:
+        page = (TOOLS.parent / 'docs' / 'ARCHITECTURE.md').read_text('utf-8')
+        wanted = {room: imports - {room} for room, imports in ROOMS.items()}
+        self.assertEqual(rooms_of_page(page), wanted)
+
+    def test_the_key_files_are_there(self) -> None:
+        page = (TOOLS.parent / 'docs' / 'ARCHITECTURE.md').read_text('utf-8')
+        table = page.split('\n## Key files\n', 1)[1].split('\n## ', 1)[0]
+        files = re.findall(r'^\| `([^`]+)` \| \S', table, re.M)
+        self.assertEqual(len(files), 12)
+        for name in files:
+            self.assertTrue((TOOLS.parent / name).is_file(), name)
+
     def imports(self) -> Dict[str, Set[str]]:
         known = modules()
         return {name: set(imports_of(name, path, set(known))) for name, path in known.items()}
@@ -104,7 +125,8 @@ class Rooms(unittest.TestCase):
         self.assertEqual(circle(self.imports()), [])
 
     def test_a_circle_is_found(self) -> None:
-        self.assertEqual(circle({'a': {'b'}, 'b': {'c'}, 'c': {'b'}}), ['b', 'c'])
+        found = circle({'a': {'b'}, 'b': {'c'}, 'c': {'b'}})
+        self.assertEqual((found[0], set(found)), (found[-1], {'b', 'c'}))
 
     def test_imports_are_seen_in_all_their_forms(self) -> None:
         name = f'{PACKAGE}.checker.main'
