@@ -3,6 +3,7 @@
 import json
 import re
 import unittest
+from dataclasses import replace
 from xml.dom import minidom
 
 from crashfs_tools.checker.findings.groups import Difference
@@ -12,6 +13,7 @@ from crashfs_tools.checker.report.junit import junit_lines
 from crashfs_tools.checker.report.page import page
 from crashfs_tools.checker.running.runner import BAD, GOOD, NO_ANSWER, Outcome
 from crashfs_tools.common.entry import Entry
+from crashfs_tools.common.trace_lines import TraceLine
 
 from .test_groups import HEADER, findings_of, line, report_of, reported, write
 
@@ -73,6 +75,34 @@ class Pages(unittest.TestCase):
         for row, numbers in zip(data['holes'], data['numbers']):
             self.assertEqual(len(row.replace(' ', '')), len(numbers))
 
+    def test_it_names_the_command_the_version_and_the_date(self):
+        report = odd_report()
+        report.head.command = ['/bin/check', 'a b', '<i>']
+        text = ''.join(page(report))
+        (about,) = re.findall('<p class="about">(.*)</p>', text)
+        self.assertIn(
+            'COMMAND: /bin/check &#x27;a b&#x27; &#x27;&lt;i&gt;&#x27;; crashfs-check ', about
+        )
+        self.assertRegex(about, r'\d{4}-\d\d-\d\d \d\d:\d\d:\d\d UTC$')
+        self.assertIn('td:first-child { text-align: right; color: #777; white-space: nowrap', text)
+
+    def test_nothing_controls_a_terminal_or_is_no_utf_8(self):
+        report = odd_report()
+        report.head.trace = '\x1b]0;owned\x07\udcff\u202e'
+        group = report.groups_of_windows[0][0]
+        group.outcome = Outcome(BAD, 'lost: \x1b[31m\udcff', '\x1b[31m\n')
+        shown = {
+            'report': '\n'.join(report.lines()),
+            'page': ''.join(page(report)),
+            'junit': ''.join(junit_lines(report)),
+            'json': ''.join(report.json_pieces()),
+        }
+        for name, text in shown.items():
+            self.assertNotRegex(text, '[\x1b\x07\u202e]' if name != 'json' else '[\x1b\x07]', name)
+            text.encode('utf-8')
+        self.assertIn('lost: \\x1b[31m\\xff', shown['report'])
+        self.assertEqual(json.loads(shown['json'])['trace'], report.head.trace)
+
     def test_a_page_of_thousands_of_states_is_small(self):
         text = HEADER + ''.join(line('creat', f'/{number}') for number in range(100))
         report = report_of(text, lambda files, says: 'lost: one' if len(files) == 7 else '')
@@ -88,6 +118,7 @@ class Differences(unittest.TestCase):
         failing = {
             '/a': entry(b'abcdefgh-old'),
             '/b': entry(b''),
+            '/bytes': entry(b'ab'),
             '/d': entry(None, 0o700),
             '/same': entry(b'x'),
             '/short': entry(b'ab'),
@@ -95,6 +126,7 @@ class Differences(unittest.TestCase):
         good = {
             '/a': entry(b'abcdefgh-new'),
             '/c': entry(b'12'),
+            '/bytes': entry(b'\0\xff'),
             '/d': entry(None),
             '/same': entry(b'x'),
             '/short': entry(b'abc'),
@@ -102,11 +134,13 @@ class Differences(unittest.TestCase):
         self.assertEqual(
             list(different_lines(failing, good)),
             [
-                '/a has 12 bytes, there 12 bytes; at byte 9 6f6c64, there 6e6577',
-                '/b (0 bytes) is only here',
-                '/c (2 bytes) is not here',
-                '/d is 700 u u, there 644 u u',
-                '/short has 2 bytes, there 3 bytes; at byte 2 its end, there 63',
+                '/a has 12 bytes in both; at byte 9 "old", in the good state "new"',
+                '/b (0 bytes) is only in the failing state',
+                '/bytes has 2 bytes in both; at byte 0 "ab", in the good state 00ff',
+                '/c (2 bytes) is only in the good state',
+                '/d is 700 u u, in the good state 644 u u',
+                '/short has 2 bytes, in the good state 3 bytes; at byte 2 its end, in the good '
+                'state "c"',
             ],
         )
 
@@ -143,6 +177,7 @@ class Differences(unittest.TestCase):
 class JUnit(unittest.TestCase):
     def test_there_is_a_case_for_each_entry_and_one_for_the_others(self):
         report = odd_report()
+        report.began -= 8
         suite = minidom.parseString(''.join(junit_lines(report))).documentElement
         cases = suite.getElementsByTagName('testcase')
         self.assertEqual(len(cases), len(report.groups()) + 1)
@@ -150,15 +185,40 @@ class JUnit(unittest.TestCase):
         self.assertEqual(
             int(suite.getAttribute('failures')), len(suite.getElementsByTagName('failure'))
         )
-        self.assertEqual(cases[0].getAttribute('name'), 'lost: <file>?')
+        self.assertEqual(cases[0].getAttribute('name'), 'lost: <file>\\x01')
         (failure,) = cases[0].getElementsByTagName('failure')
-        self.assertIn('was not durable when', failure.getAttribute('message'))
+        message = failure.getAttribute('message')
+        self.assertTrue(message.startswith('line 2 (creat /<b>&\\x01) was not durable when'))
+        self.assertTrue(message.endswith('is never synced: fsync it between them'), message)
+        for case in cases:
+            self.assertGreaterEqual(float(case.getAttribute('time')), 0)
+        self.assertGreater(float(suite.getAttribute('time')), 7)
         self.assertIn(
             'the directory / is never synced: fsync it between them', failure.firstChild.data
         )
         (output,) = cases[0].getElementsByTagName('system-out')
-        self.assertEqual(output.firstChild.data, 'first\n<last>?\n')
+        self.assertEqual(output.firstChild.data, 'first\n<last>\\x01\n')
         self.assertRegex(cases[-1].getAttribute('name'), r'^all other states \(\d+\)$')
+
+    def test_names_of_cases_are_unique(self):
+        report = odd_report()
+        first = report.groups_of_windows[0][0]
+        report.groups_of_windows[0] = [
+            replace(first, kept=None, lost=TraceLine(number, f'word {letter}'))
+            for number, letter in enumerate('abc')
+        ]
+        suite = minidom.parseString(''.join(junit_lines(report))).documentElement
+        names = [one.getAttribute('name') for one in suite.getElementsByTagName('testcase')]
+        self.assertEqual((len(names), len(set(names))), (4, 4))
+        self.assertEqual(names[1], names[0] + ' (2)')
+
+    def test_it_is_well_formed_for_any_name_of_a_trace(self):
+        for name in ['a\x1b\0.trace', 'b\udcff\ufffe.trace', 'c"<>&\n.trace', '\u202ed']:
+            report = odd_report()
+            report.head.trace = name
+            text = ''.join(junit_lines(report))
+            minidom.parseString(text.encode())
+            self.assertNotIn('\u202e', text)
 
     def test_a_state_without_an_answer_is_an_error(self):
         findings = odd_findings()

@@ -58,7 +58,8 @@ class Group:
     """Failing states whose causes agree but for numbers, and whose pairs are of lines of the same
     kind. tried are the different states among them, and places all pairs of lines, the lost one
     first. The example is the state that lacks the least. All else but the advice is of the example:
-    rerun is the outcome of its second run, kept_part what a crash kept of a torn line, swap the
+    rerun is the outcome of its second run, which took so many seconds, kept_part what a crash kept
+    of a torn line, swap the
     result of another order of the two lines, and overwrites says whether the kept line overwrites
     bytes in use. is_covered says whether the advice of larger groups removes all states."""
 
@@ -76,6 +77,7 @@ class Group:
     advice: Advice = field(default_factory=Advice)
     difference: Optional[Difference] = None
     rerun: Optional[Outcome] = None
+    seconds: float = 0.0
     kept_part: str = 'a part of it'
     swap: Optional[Totals] = None
     overwrites: bool = False

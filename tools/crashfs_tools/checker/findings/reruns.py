@@ -21,5 +21,7 @@ def rerun_examples(trying: Trying, findings: Findings, seconds: float = float('i
     for group in findings.groups[:ENTRIES]:
         number = results.first_of[Trial(group.example.same, group.example.says)]
         if number not in results.reruns and time.monotonic() < deadline:
+            began = time.monotonic()
             results.reruns[number] = trying.try_one(group.example)
+            group.seconds = time.monotonic() - began
     findings.take_reruns()

@@ -13,6 +13,7 @@ from .groups import Difference, Findings, Group
 
 # So many lines are shown of each entry, and so many entries have them: the largest.
 SHOWN_LINES, ENTRIES = 20, 5
+SHOWN_BYTES = 8
 
 
 def find_differences(trying: Trying, findings: Findings) -> None:
@@ -47,16 +48,29 @@ def different_lines(failing: Entries, good: Entries) -> Iterator[str]:
         if one is None or other is None:
             present = one or other
             assert present is not None
-            yield f'{path} ({size_text(present)}) is {"only" if one else "not"} here'
+            where = 'failing' if one else 'good'
+            yield f'{path} ({size_text(present)}) is only in the {where} state'
         elif one.data != other.data:
-            sizes = f'{size_text(one)}, there {size_text(other)}'
-            yield f'{path} has {sizes}{first_difference(one, other)}'
+            yield f'{path} {size_difference(one, other)}{first_difference(one, other)}'
         elif (one.owner, one.group, one.mode) != (other.owner, other.group, other.mode):
-            yield f'{path} is {rights_text(one)}, there {rights_text(other)}'
+            yield f'{path} is {rights_text(one)}, in the good state {rights_text(other)}'
 
 
 def size_text(entry: Entry) -> str:
     return 'a directory' if entry.data is None else f'{len(entry.data):,} bytes'
+
+
+def size_difference(one: Entry, other: Entry) -> str:
+    if one.data is not None and other.data is not None and len(one.data) == len(other.data):
+        return f'has {size_text(one)} in both'
+    return f'has {size_text(one)}, in the good state {size_text(other)}'
+
+
+def bytes_text(data: bytes) -> str:
+    """Bytes as text if they are; otherwise as hexadecimal digits."""
+    if data and all(0x20 <= byte < 0x7F for byte in data):
+        return f'"{data.decode("ascii")}"'
+    return data.hex() or 'its end'
 
 
 def rights_text(entry: Entry) -> str:
@@ -73,6 +87,6 @@ def first_difference(one: Entry, other: Entry) -> str:
         min(len(one.data), len(other.data)),
     )
     pieces = [
-        bytes(entry[place : place + 8]).hex() or 'its end' for entry in (one.data, other.data)
+        bytes_text(bytes(entry[place : place + SHOWN_BYTES])) for entry in (one.data, other.data)
     ]
-    return f'; at byte {place:,} {pieces[0]}, there {pieces[1]}'
+    return f'; at byte {place:,} {pieces[0]}, in the good state {pieces[1]}'

@@ -3,28 +3,32 @@
 from __future__ import annotations
 
 import html
-import json
+import shlex
+import time
 from typing import Iterator, List
 
 from crashfs_tools.checker.findings.groups import Group
+from crashfs_tools.common.printable import printable
 from crashfs_tools.common.trace_lines import SYNCS, TraceLine
+from crashfs_tools.common.version import version_of
 
 from .page_parts import SCRIPT, STYLE
-from .report import DRAWN, Report
+from .report import COMPACT, DRAWN, Report, as_json
 
 # Of a long session, so many lines are shown before and after each one that is named.
 NEAR = 20
 
 
 def page(report: Report) -> Iterator[str]:
-    title = html.escape(report.head.trace)
+    title = shown_text(report.head.trace)
     yield (
         f'<!DOCTYPE html>\n<html lang="en"><head><meta charset="utf-8">'
         '<meta name="viewport" content="width=device-width">\n'
         f'<title>{title}</title>\n<style>{STYLE}</style></head>\n<body>\n<h1>{title}</h1>\n'
     )
     for line in report.first_lines():
-        yield f'<p class="summary">{html.escape(line)}</p>\n'
+        yield f'<p class="summary">{shown_text(line)}</p>\n'
+    yield about_line(report)
     groups = report.groups()
     for group in groups:
         yield from entry_lines(report, group)
@@ -40,19 +44,38 @@ def page(report: Report) -> Iterator[str]:
     yield f'<script>const windows = {script_data(report)};\n{SCRIPT}</script>\n</body></html>\n'
 
 
+def shown_text(text: str) -> str:
+    """Text that is shown as it is, but for what would control how the rest is shown."""
+    return html.escape(printable(text, '\n\t'))
+
+
+def about_line(report: Report) -> str:
+    """The command, the versions and the date."""
+    states = (
+        'states by the second reading, in Python' if report.head.unproved else 'states by crashfs'
+    )
+    parts = [
+        f'COMMAND: {shlex.join(report.head.command)}',
+        version_of('crashfs-check'),
+        states,
+        time.strftime('%Y-%m-%d %H:%M:%S UTC', time.gmtime()),
+    ]
+    return f'<p class="about">{shown_text("; ".join(parts))}</p>\n'
+
+
 def entry_lines(report: Report, group: Group) -> Iterator[str]:
     """A cause, what it says, the lines that the example lost, and what the command printed."""
     states = report.states_text(group)
-    yield (f'<section><h2>{html.escape(group.cause)}</h2><p>{html.escape(states)}</p>\n<ul>\n')
+    yield (f'<section><h2>{shown_text(group.cause)}</h2><p>{shown_text(states)}</p>\n<ul>\n')
     for line in report.details(group):
-        yield f'<li>{html.escape(line)}</li>\n'
+        yield f'<li>{shown_text(line)}</li>\n'
     yield '</ul>\n<table class="session">\n'
     for number in sorted({line.number for line in (group.lost, group.kept) if line}):
         yield line_row(report.head.lines.get(number) or TraceLine(number, ''), 'pair')
     yield '</table>\n'
     yield from difference_lines(group)
     if group.outcome.output:
-        yield f'<pre>{html.escape(group.outcome.output)}</pre>\n'
+        yield f'<pre>{shown_text(group.outcome.output)}</pre>\n'
     yield '</section>\n'
 
 
@@ -72,7 +95,7 @@ def difference_lines(group: Group) -> Iterator[str]:
         '\n<ul class="differences">\n'
     )
     for line in difference.lines:
-        yield f'<li>{html.escape(line)}</li>\n'
+        yield f'<li>{shown_text(line)}</li>\n'
     yield '</ul>\n'
 
 
@@ -88,12 +111,12 @@ def session_lines(report: Report, groups: List[Group]) -> Iterator[str]:
 def line_row(line: TraceLine, mark: str) -> str:
     kind = 'sync' if line.word in SYNCS else line.word
     return (
-        f'<tr class="{html.escape(kind)} {mark}"><td>{line.number}</td>'
-        f'<td>{html.escape(line.text)}</td><td>{html.escape(line.note)}</td></tr>\n'
+        f'<tr class="{shown_text(kind)} {mark}"><td>{line.number}</td>'
+        f'<td>{shown_text(line.text)}</td><td>{shown_text(line.note)}</td></tr>\n'
     )
 
 
 def script_data(report: Report) -> str:
     """What the page's script draws, with no `<` that could end the script."""
-    shown = json.dumps(report.drawings[:DRAWN], separators=(',', ':'))
+    shown = as_json(report.drawings[:DRAWN], **COMPACT)
     return shown.replace('<', '\\u003c')

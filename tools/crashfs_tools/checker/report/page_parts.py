@@ -4,13 +4,15 @@ STYLE = """
 body { font: 15px/1.4 sans-serif; margin: 2em auto; max-width: 70em; padding: 0 1em;
   color: #222; background: #fff }
 h1 { font-size: 1.5em } h2 { font-size: 1.15em; margin: 1.2em 0 .3em }
+.about { color: #666; font-size: .9em; overflow-wrap: anywhere }
 .summary { font-family: monospace; font-size: 1.05em }
 section { border: 1px solid #ccc; border-left: 6px solid #c33; padding: 0 1em .8em; margin: 1em 0 }
 section h2 { margin-top: .5em; font-family: monospace }
 pre { background: #f4f4f4; padding: .6em; overflow-x: auto; white-space: pre-wrap }
 table { border-collapse: collapse; font-family: monospace; font-size: .92em }
 td { padding: .1em .8em .1em 0; vertical-align: top; overflow-wrap: anywhere }
-td:first-child { text-align: right; color: #777 } td:last-child { color: #666 }
+td:first-child { text-align: right; color: #777; white-space: nowrap; overflow-wrap: normal }
+td:last-child { color: #666 }
 tr.sync td:nth-child(2) { color: #06a; font-weight: bold }
 tr.say td:nth-child(2) { color: #170; font-weight: bold }
 tr.pair { background: #fde8e4 }

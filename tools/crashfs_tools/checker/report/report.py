@@ -3,6 +3,8 @@
 from __future__ import annotations
 
 import json
+import re
+import time
 from dataclasses import replace
 from typing import TYPE_CHECKING, Any
 from typing import Dict, Iterator, List, Optional
@@ -18,6 +20,7 @@ from crashfs_tools.checker.findings.groups import (
 from crashfs_tools.checker.running.results import Head
 from crashfs_tools.checker.running.runner import NO_ANSWER
 from crashfs_tools.common.program import can_be_built
+from crashfs_tools.common.printable import printable
 from crashfs_tools.common.trace_lines import TraceLine
 
 from .counts import StateCounts
@@ -34,6 +37,8 @@ SHOWN_LINES = 3
 # So many windows are drawn: the page must stay small.
 DRAWN = 8
 WIDTH = 100
+COMPACT = {'separators': (',', ':')}
+SURROGATE = re.compile('[\ud800-\udfff]')
 CAUSE_WIDTH = 52
 NONE_FAILS, SOME_FAIL, NOT_ALL_TRIED = 0, 1, 3
 UNPROVED = 'unproved: a Python program computed these states, not crashfs'
@@ -49,6 +54,7 @@ class Report:
         self.has_json = has_json
         self.has_page = has_page
         self.counts = StateCounts()
+        self.began = time.monotonic()
         self.groups_of_windows: List[List[Group]] = []
         self.unions: List[Optional[Union]] = []
         self.packed_windows: List[bytes] = []
@@ -61,7 +67,7 @@ class Report:
         self.groups_of_windows.append(findings.groups)
         self.unions.append(findings.union)
         if self.has_json:
-            self.packed_windows.append(packed(as_json(findings.results.fields())))
+            self.packed_windows.append(packed(as_json(findings.results.fields(), **COMPACT)))
         self.add_drawing(findings)
 
     def replace_last(self, findings: Findings) -> None:
@@ -69,13 +75,18 @@ class Report:
         self.groups_of_windows[-1] = findings.groups
         self.unions[-1] = findings.union
         if self.has_json:
-            self.packed_windows[-1] = packed(as_json(findings.results.fields()))
+            self.packed_windows[-1] = packed(as_json(findings.results.fields(), **COMPACT))
 
     def add_drawing(self, findings: Findings) -> None:
         if self.has_page and (findings.groups or not self.drawings):
             from .drawing import drawing_of
 
             self.drawings.append(drawing_of(findings))
+
+    @property
+    def seconds(self) -> float:
+        """How long the check has taken by now."""
+        return time.monotonic() - self.began
 
     def groups(self) -> List[Group]:
         """The groups of all windows; those that agree are one."""
@@ -123,7 +134,7 @@ class Report:
             )
         lines += self.union_lines(shown, [group for group in groups if group.is_covered])
         return self.first_lines() + [
-            cut(line)
+            cut(printable(line))
             for line in [
                 *lines,
                 *self.cut_off_lines(),
@@ -147,7 +158,7 @@ class Report:
             lines.append('  with these syncs these entries are gone too:')
         for group in covered[:SHOWN_GROUPS]:
             states = self.states_text(group)
-            cause = cut(group.cause, CAUSE_WIDTH - 2)
+            cause = cut(printable(group.cause), CAUSE_WIDTH - 2)
             lines.append(f'    {cause:<{CAUSE_WIDTH - 2}} {states}')
         if len(covered) > SHOWN_GROUPS:
             lines.append(f'    and {len(covered) - SHOWN_GROUPS:,} more')
@@ -208,14 +219,14 @@ class Report:
         from textwrap import wrap
 
         states = self.states_text(group, f'{second.state}/' if second else '')
-        cause = cut(group.cause, max(CAUSE_WIDTH, WIDTH - len(states) - 3))
+        cause = cut(printable(group.cause), max(CAUSE_WIDTH, WIDTH - len(states) - 3))
         lines = [f'  {cause:<{CAUSE_WIDTH}} {states}']
         details = self.details(group)
         if second is not None:
             details = [f'state {second.state}, then a crash {second.place}', *group.advice.lines()]
         for line in details:
             lines += wrap(
-                line,
+                printable(line),
                 WIDTH,
                 initial_indent='    ',
                 subsequent_indent='      ',
@@ -254,13 +265,13 @@ class Report:
 
     def json_pieces(self) -> Iterator[str]:
         """The results, and the entries with their texts."""
-        yield as_json(self.head.fields())[:-1] + ',\n"windows":[\n'
+        yield as_json(self.head.fields(), **COMPACT)[:-1] + ',\n"windows":[\n'
         for place, window in enumerate(self.packed_windows):
             yield (',\n' if place else '') + unpacked(window)
         groups = [self.group_fields(group) for group in self.groups()]
-        yield '],\n"groups":' + json.dumps(groups, indent=1, ensure_ascii=False)
+        yield '],\n"groups":' + as_json(groups, indent=1)
         recoveries = [self.recovery_fields(one) for one in self.recoveries]
-        yield ',\n"recoveries":' + json.dumps(recoveries, indent=1, ensure_ascii=False)
+        yield ',\n"recoveries":' + as_json(recoveries, indent=1)
         if self.sightings is not None:
             yield ',\n"disks":' + json.dumps(self.sightings.fields(), indent=1, ensure_ascii=False)
         yield '}\n'
@@ -317,8 +328,12 @@ def unpacked(packed_text: bytes) -> str:
     return zlib.decompress(packed_text).decode('utf-8', 'surrogateescape')
 
 
-def as_json(fields: Dict[str, Any]) -> str:
-    return json.dumps(fields, ensure_ascii=False, separators=(',', ':'))
+def as_json(fields: Any, **layout: Any) -> str:
+    """JSON that is UTF-8 even if its texts aren't."""
+    return SURROGATE.sub(
+        lambda match: f'\\u{ord(match[0]):04x}',
+        json.dumps(fields, ensure_ascii=False, **layout),
+    )
 
 
 def number_of(count: int, noun: str) -> str:
