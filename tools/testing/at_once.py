@@ -73,9 +73,11 @@ def outcomes(parts: Dict[str, Part], count: int) -> Iterator[Outcome]:
 
     shower = threading.Thread(target=progress.keep_showing, daemon=True)
     shower.start()
-    with ThreadPoolExecutor(count) as pool:
-        for one in as_completed([pool.submit(run, name) for name in parts]):
-            progress.clear()
-            yield one.result()
-    progress.is_over.set()
-    shower.join()
+    try:
+        with ThreadPoolExecutor(count) as pool:
+            for one in as_completed([pool.submit(run, name) for name in parts]):
+                progress.clear()
+                yield one.result()
+    finally:
+        progress.is_over.set()
+        shower.join()

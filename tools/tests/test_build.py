@@ -8,7 +8,6 @@ import os
 import signal
 import sys
 import tempfile
-import threading
 import unittest
 from contextlib import redirect_stderr, redirect_stdout
 from pathlib import Path
@@ -191,7 +190,6 @@ class Reports(unittest.TestCase):
         ), redirect_stderr(err):
             self.assertEqual(main.main(), 1)
         self.assertIn('rt: command not found', err.getvalue())
-        self.assertEqual(threading.active_count(), 1)
 
 
 if __name__ == '__main__':

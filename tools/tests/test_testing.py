@@ -155,8 +155,10 @@ class AtOnce(unittest.TestCase):
         def broken() -> Outcome:
             raise OSError('no rt')
 
+        threads = threading.active_count()
         with self.assertRaises(OSError):
             list(outcomes({'a': broken}, 1))
+        self.assertEqual(threading.active_count(), threads)
 
 
 class Main(unittest.TestCase):
