@@ -107,6 +107,11 @@ TROUBLES = [
         FILE,
         [OPEN_F, '1 ftruncate(3</d/f>, 99999999999) = 0'],
     ),
+    (
+        '/f: ioctl BTRFS_IOC_CLONE or FICLONE: its bytes are not in the log; its later',
+        TWO_FILES,
+        [OPEN_F, '1 ioctl(3</d/f>, BTRFS_IOC_CLONE or FICLONE, 4</d/g>) = 0'],
+    ),
     ('/: io_uring_setup: what is done by it', [], ['1 io_uring_setup(8, {}) = 3']),
     (
         '/s: a socket was bound',
@@ -123,6 +128,11 @@ TROUBLES = [
 
 # What is only noted.
 NOTES = [
+    (
+        '/f: sync_file_range: it promises nothing of a crash',
+        FILE,
+        [OPEN_F, '1 sync_file_range2(3</d/f>, SYNC_FILE_RANGE_WRITE, 0, 0) = 0'],
+    ),
     ('/f: it gets the mode bits 4000, beyond 777', FILE, ['1 chmod("f", 04644) = 0']),
     (
         '/f: sync_file_range: it promises nothing of a crash, and is left out (after line 2, '

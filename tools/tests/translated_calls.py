@@ -82,6 +82,20 @@ CASES = [
         ],
         ['write /f 0 a', 'write /f 1 b'],
     ),
+    *[
+        (
+            f'a child of {name} has what its parent had then',
+            FILE,
+            [
+                OPEN_F,
+                f'1 {name}(child_stack=NULL, flags=SIGCHLD) = 2',
+                '1 close(3</d/f>) = 0',
+                '2 write(3</d/f>, "x", 1) = 1',
+            ],
+            ['write /f 0 x'],
+        )
+        for name in ('clone', 'clone3', 'fork', 'vfork')
+    ],
     (
         'O_TRUNC empties what isn\'t empty',
         TWO_FILES,

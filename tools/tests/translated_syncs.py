@@ -138,7 +138,7 @@ SYNCS = [
     ),
     (
         '32-bit programs',
-        FILE,
+        TWO_FILES,
         [
             OPEN_F,
             '1 ftruncate64(3</d/f>, 2) = 0',
@@ -146,8 +146,36 @@ SYNCS = [
             '1 mmap2(NULL, 4096, PROT_READ, MAP_SHARED, 3</d/f>, 0) = 0x10000',
             '1 msync(0x10000, 4096, MS_SYNC) = 0',
             '1 fcntl64(3</d/f>, F_DUPFD, 9) = 9',
+            '1 fcntl64(9</d/f>, F_SETFL, O_APPEND) = 0',
             '1 write(9</d/f>, "x", 1) = 1',
+            '1 chown32("f", 54321, -1) = 0',
+            '1 lchown32("f", -1, 54322) = 0',
+            '1 fchown32(3</d/f>, 54323, -1) = 0',
+            '1 openat(AT_FDCWD</d>, "g", O_WRONLY) = 4</d/g>',
+            '1 sendfile64(4</d/g>, 3</d/f>, [0] => [1], 1) = 1',
         ],
-        ['truncate /f 2', 'truncate /f 1', 'fsyncrange /f 0 4096', 'write /f 0 x'],
+        [
+            'truncate /f 2',
+            'truncate /f 1',
+            'fsyncrange /f 0 4096',
+            'write /f 1 x',
+            'chown /f u54321 u',
+            'chown /f u54321 g54322',
+            'chown /f u54323 g54322',
+            'write /g 0 h',
+        ],
+    ),
+    (
+        'a copy of nothing',
+        FILE,
+        [
+            OPEN_F,
+            *(
+                f'1 {name}(9</etc/x>, NULL, 3</d/f>, NULL, 9, 0) = 0'
+                for name in ('copy_file_range', 'splice')
+            ),
+            '1 sendfile(3</d/f>, 9</etc/x>, NULL, 9) = 0',
+        ],
+        [],
     ),
 ]

@@ -167,6 +167,8 @@ def copy_between_descriptors(
     to_offset: Optional[int],
 ) -> None:
     """Copies bytes from one descriptor to another, as the kernel does without the program."""
+    if call.result == 0:
+        return
     data = None
     file = process.descriptors.files.get(call.descriptor(source).number)
     if file is not None and file.node is not None:
@@ -200,11 +202,6 @@ def on_copy_file_range(files: LiveFiles, process: Process, call: Call) -> None:
         arguments.offset_cell(call.word(1)),
         arguments.offset_cell(call.word(3)),
     )
-
-
-def on_splice(files: LiveFiles, process: Process, call: Call) -> None:
-    if call.result > 0:
-        on_copy_file_range(files, process, call)
 
 
 def on_tee(files: LiveFiles, process: Process, call: Call) -> None:
@@ -251,7 +248,7 @@ HANDLERS = {
     'sendfile': on_sendfile,
     'sendfile64': on_sendfile,
     'copy_file_range': on_copy_file_range,
-    'splice': on_splice,
+    'splice': on_copy_file_range,
     'tee': on_tee,
     'ioctl': on_ioctl,
     'io_uring_setup': on_io_uring,

@@ -35,7 +35,8 @@ def on_umask(files: LiveFiles, process: Process, call: Call) -> None:
 
 
 def on_chroot(files: LiveFiles, process: Process, call: Call) -> None:
-    files.report('chroot: paths of that process mean other files from here on', call.word(0))
+    path = arguments.path(call.word(0)) or '/'
+    files.report('chroot: paths of that process mean other files from here on', path)
 
 
 HANDLERS = {
