@@ -186,6 +186,21 @@ ctypes.CDLL(None).chmod(b'f', 0o100640)
             ],
         )
 
+    def test_a_file_with_the_directory_s_path_is_noted(self):
+        self.write('d/start', f'see {self.path("d")}/old')
+        script = 'echo $PWD > here; echo ${PWD}2 > other; echo x > x; echo $PWD >> here'
+        ran = self.record(script)
+        self.assertEqual(ran.returncode, 4, ran.stderr)
+        self.assertIn(
+            'not in the trace: /start: it has the path of the recorded directory: a recovery that '
+            'opens that path reads no crash state, and of 1 path more\n',
+            ran.stderr,
+        )
+        os.unlink(self.path('d', 'start'))
+        os.unlink(self.path('d', 'here'))
+        self.assertEqual(self.record('echo ${PWD}2 > other').returncode, 0)
+        self.assertIn('/here: it has the path', self.record('echo $PWD > here').stderr)
+
     def test_a_file_that_is_too_large_is_one_line(self):
         ran = self.record('truncate -s 20M f')
         self.assertEqual(ran.returncode, 3)

@@ -26,6 +26,8 @@ from .log_stream import LogStream
 from .mapped_files import FileCopies, MappedFiles
 from .options import NAME, RecordOptions, check, read_options
 from .output_streams import SayEach
+from .own_path import NOTE as OWN_PATH
+from .own_path import files_with_path
 from .recording import Recording, TraceSettings, is_private
 from .strace_log import Log, read_log
 from .translate import Translator
@@ -192,6 +194,8 @@ def translate(options: RecordOptions, files: LiveFiles, run: RecordedRun) -> Non
         recording.report(
             f'no acknowledged line is {wanted}: the trace begins with COMMAND', '--begin-after'
         )
+    for path in files_with_path(recording.trace, files.conditions.top):
+        recording.note(OWN_PATH, path)
     operations = recording.trace.operations
     if options.from_log is not None and all(isinstance(it, Say) for it in operations):
         raise Refused(
