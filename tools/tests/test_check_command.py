@@ -196,6 +196,16 @@ class Checks(InStore):
             ran = self.run_tool('crashfs-check', '--merge', *(files[one] for one in given))
             self.assertEqual((ran.returncode, ran.stderr), (2, f'crashfs-check: {told}\n'))
 
+    def test_shards_of_different_commands_are_refused(self):
+        files = [self.path('1.json'), self.path('2.json')]
+        self.check('--shard', '1/2', '--json', files[0], self.good, command=['true'])
+        self.check('--shard', '2/2', '--json', files[1], self.good, command=['test', '1'])
+        ran = self.run_tool('crashfs-check', '--merge', *files)
+        self.assertEqual(
+            (ran.returncode, ran.stdout, ran.stderr),
+            (2, '', 'crashfs-check: the reports are of different COMMANDs: true and test 1\n'),
+        )
+
     def merged_with_trace(self, whole, files):
         """The trace gives a merged report the differences of files."""
         words = ['--crashfs', FAKE, '--json', 'all.json', '--html', 'all.html']

@@ -53,6 +53,11 @@ class Reruns(InStore):
         reruns = json.loads(self.read('r.json'))['windows'][0]['reruns']
         self.assertEqual(sorted(one[0] for one in reruns.values()), ['bad', 'good'])
 
+    def test_failures_that_do_not_come_again_are_one_entry(self):
+        ran = self.check('4 5 6 7', '--prefixes')
+        self.assertEqual(ran.stdout.count('not reproducible'), 1, ran.stdout)
+        self.assertEqual(ran.stdout.count('  bind: '), 1)
+
     def test_a_failure_that_comes_again_keeps_its_advice(self):
         entries = self.entries(self.check(''))
         self.assertEqual(list(entries), ['lost: the row'])

@@ -116,8 +116,9 @@ class Group:
     @property
     def key(self) -> Tuple[object, ...]:
         kinds = [line.kind if line else '' for line in (self.kept, self.lost)]
+        if not self.is_reproducible:
+            return without_numbers(self.cause), self.result
         return (
-            self.is_reproducible,
             without_numbers(self.cause),
             self.result,
             self.is_torn,

@@ -3,6 +3,8 @@
 from __future__ import annotations
 
 import json
+import os
+import shlex
 from dataclasses import dataclass, field
 from typing import Any, Dict, List, Tuple
 
@@ -179,6 +181,15 @@ def refuse_other_parts(parts: List[int], count: int) -> None:
             )
 
 
+def refuse_other_commands(commands: List[List[str]]) -> None:
+    """Refused unless all are one command; its program may be in another directory."""
+    first, *others = ([os.path.basename(one[0]), *one[1:]] if one else [] for one in commands)
+    for other in others:
+        if other != first:
+            shown = ' and '.join(map(shlex.join, (first, other)))
+            raise Refused(f'the reports are of different COMMANDs: {shown}')
+
+
 def merged(parts: List[AllResults]) -> AllResults:
     """The shards of one check together; Refused if they aren't all shards of one. Of a check that
     was stopped some windows may be missing."""
@@ -190,6 +201,7 @@ def merged(parts: List[AllResults]) -> AllResults:
             first.head.shard.parts,
         ) or [window.identity() for window in one.windows] != same:
             raise Refused('the reports are not shards of one check')
+    refuse_other_commands([one.head.command for one in parts])
     refuse_other_parts([one.head.shard.part for one in parts], first.head.shard.parts)
     head = Head(
         first.head.trace,
