@@ -163,8 +163,9 @@ def finish(options: RecordOptions, recording: Recording, before: Scan, run: Reco
     how = summary.NOT_COMPARED
     if options.from_log is None:
         how = summary.compare(options, recording, before, found)
-    begins = [BEGINS] if recording.begins_later else []
-    for line in found.lines + found.notes + begins:
+    also = [BEGINS] if recording.begins_later else []
+    also += summary.without_stack(recording.trace) if options.stacks else []
+    for line in found.lines + found.notes + also:
         print_text(line)
     print_text(summary.summary(options, recording, how))
     return found.status
@@ -186,7 +187,8 @@ def translate(options: RecordOptions, files: LiveFiles, run: RecordedRun) -> Non
         recording.report(f'a process that COMMAND left could not be ended: {run.left}', '/')
     recording.streams.set_standard_output(run.output)
     if options.stacks or any(call.frames for call in run.log.calls):
-        stacks.note_all(run.log.calls)
+        for program in stacks.note_all(run.log.calls):
+            print_text(f'--stacks: no source line of {program} is known{stacks.reason()}')
     wanted = options.begin_after
     start = None if wanted is None else LateStart(recording, wanted)
     Translator(files, run.log, run.copies).run()

@@ -9,7 +9,7 @@ from typing import Dict, List, Optional, Tuple
 from crashfs_tools.common.command import ended, relative_arguments
 from crashfs_tools.common.limits import MICRO_OPERATIONS
 from crashfs_tools.common.program import Crashfs, ProgramFault, is_too_large
-from crashfs_tools.common.trace import Say
+from crashfs_tools.common.trace import Say, Trace
 from crashfs_tools.reading import ReadingFault, count_states
 
 from .comparison import (
@@ -57,6 +57,17 @@ def final_report(
     if not options.no_say:
         found.lines += acknowledgement_faults(recording)
     return found
+
+
+def without_stack(trace: Trace) -> List[str]:
+    """How many operations --stacks found no function for, if there are some."""
+    missing = len(trace.operations) - len(trace.notes)
+    if not missing:
+        return []
+    return [
+        f'--stacks: {counted(missing, "operation")} without a note: no function of the program '
+        'itself was found in the stack'
+    ]
 
 
 def relative_hints(options: RecordOptions) -> List[str]:
