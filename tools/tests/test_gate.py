@@ -202,6 +202,7 @@ class Verdicts(unittest.TestCase):
             ({'toolchain': 'kit-2'}, f'its toolchain is kit-2, not {KIT}'),
             ({'status': '1'}, 'its status is 1'),
             ({'counts': '0 passed, 9 failed'}, 'it counts 0 passed, 9 failed'),
+            ({'counts': '9 passed, 1 failed'}, 'it counts 9 passed, 1 failed'),
             ({'counts': '0 passed, 0 failed'}, 'it counts 0 passed, 0 failed'),
         ):
             with self.assertRaises(ValueError) as caught:

@@ -9,7 +9,8 @@ import subprocess
 import sys
 from contextlib import contextmanager
 from functools import cached_property
-from typing import Dict, Iterator, List, Optional
+from itertools import groupby
+from typing import Dict, Iterator, List, Optional, Tuple
 
 from .archive import ArchiveFault, Member, members
 from .command import Refused, ended
@@ -154,9 +155,22 @@ class Crashfs:
         tree.pop('/', None)
         return tree
 
+    def trees(
+        self, words: List[str], environment: Optional[Dict[str, str]] = None
+    ) -> Iterator[Tuple[int, Entries]]:
+        """Each state that `--states` names, in ascending order: its number and its tree."""
+        with self.archive(words, environment) as archive:
+            for top, state in groupby(archive, top_of):
+                yield int(top), {'/' + path[len(top) + 1 :]: entry for path, entry in state}
+
     def whole_tree(self, words: List[str], environment: Optional[Dict[str, str]] = None) -> Entries:
         with self.archive(words, environment) as archive:
             return {'/' + path: entry for path, entry in archive}
+
+
+def top_of(member: Member) -> str:
+    """The first name of an entry's path: with `--states` the number of its state."""
+    return member[0].partition('/')[0]
 
 
 def program_beside(library: str) -> Optional[str]:

@@ -6,12 +6,11 @@ from __future__ import annotations
 import os
 import time
 from dataclasses import dataclass, field
-from itertools import groupby
 from typing import Any, Callable, Dict, Iterator, List, NamedTuple, Sequence, Set, Tuple
 
 from crashfs_tools.checker.running.runner import GOOD, Outcome
 from crashfs_tools.checker.running.trying import Trying
-from crashfs_tools.checker.states.layout import lay_out, top_of
+from crashfs_tools.checker.states.layout import lay_out
 from crashfs_tools.common.archive import Member
 from crashfs_tools.common.entry import Entries, Entry
 from crashfs_tools.common.guard import Guard
@@ -215,10 +214,8 @@ class Search:
         digests: Dict[int, str] = {}
         firsts = {state.same for state in planned.plan.listed}
         words = [*planned.words, '--states', planned.list_of(firsts)]
-        with self.trying.program.archive(words, self.trying.guard.environment) as archive:
-            for top, members in groupby(archive, top_of):
-                tree = {f'/{path[len(top) + 1 :]}': entry for path, entry in members}
-                digests[int(top) + planned.plan.first] = digest_of(tree)
+        for number, tree in self.trying.program.trees(words, self.trying.guard.environment):
+            digests[number + planned.plan.first] = digest_of(tree)
         found: Dict[Left, List[int]] = {}
         for state in planned.plan.listed:
             found.setdefault((digests[state.same], state.says), []).append(state.number)

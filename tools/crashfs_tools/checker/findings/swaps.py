@@ -173,9 +173,9 @@ def overwrites(trying: Trying, findings: Findings, group: Group) -> bool:
     if place is None or plan.operations[place].kind != 'write_block':
         return False
     path = plan.operations[place].path
-    before, after = (
-        trying.tree(findings.pairs.prefixes[count]).get(path) for count in (place, place + 1)
-    )
+    prefixes = findings.pairs.prefixes
+    trees = trying.trees([prefixes[place], prefixes[place + 1]])
+    before, after = (tree.get(path) for tree in trees)
     if before is None or after is None or before.data is None or after.data is None:
         return False
     return any(old not in (0, new) for old, new in zip(before.data, after.data))

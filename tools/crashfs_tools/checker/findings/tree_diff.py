@@ -21,9 +21,8 @@ def find_differences(trying: Trying, findings: Findings) -> None:
     for group in findings.groups[:ENTRIES]:
         good = nearest_good(findings, group)
         if good is not None:
-            lines = list(
-                different_lines(trying.tree(group.example.number), trying.tree(good.number))
-            )
+            failing, other = trying.trees([group.example.number, good.number])
+            lines = list(different_lines(failing, other))
             group.difference = Difference(good.number, lines[:SHOWN_LINES])
 
 

@@ -2,7 +2,7 @@
 
 from __future__ import annotations
 
-from typing import TYPE_CHECKING, Dict, Set
+from typing import TYPE_CHECKING, Dict, List, Sequence, Set
 
 from crashfs_tools.checker.options import Options
 from crashfs_tools.checker.states.layout import Archive, Layout
@@ -77,6 +77,14 @@ class Trying:
     def tree(self, number: int) -> Entries:
         words = [*self.planned.words, '--state', str(self.planned.local(number))]
         return self.program.tree_of(words, self.guard.environment)
+
+    def trees(self, numbers: Sequence[int]) -> List[Entries]:
+        """The trees of these states, by one start of the program."""
+        words = [*self.planned.words, '--states', self.planned.list_of(set(numbers))]
+        found = dict(self.program.trees(words, self.guard.environment))
+        for tree in found.values():
+            tree.pop('/', None)
+        return [found[self.planned.local(number)] for number in numbers]
 
     def try_one(self, state: State) -> Outcome:
         found: Dict[int, Outcome] = {}

@@ -11,7 +11,7 @@ from typing import ContextManager, Dict, Iterable, Iterator, List, Set, Tuple
 from crashfs_tools.common.archive import Member
 from crashfs_tools.common.entry import Entry
 from crashfs_tools.common.removal import remove_tree
-from crashfs_tools.common.program import Crashfs, ProgramFault
+from crashfs_tools.common.program import Crashfs, ProgramFault, top_of
 
 from .plan import Planned
 
@@ -69,10 +69,6 @@ class Archive(Layout):
 def unused(path: str) -> str:
     """A path where nothing is: what COMMAND left may be one that can't be removed."""
     return unused(f'{path}+') if os.path.lexists(path) else path
-
-
-def top_of(member: Member) -> str:
-    return member[0].partition('/')[0]
 
 
 def lay_out(directory: str, tree: Iterable[Member]) -> None:

@@ -27,8 +27,7 @@ class Planner:
         self.guard = guard
 
     def plan(self, trace: str, before: Before = Before()) -> Planned:
-        needs = self.prefixes(trace).needs
-        words = ['--trace', trace, *self.families(trace, needs)]
+        words = ['--trace', trace, *self.families(trace)]
         return Planned(
             trace, words, read_plan(self.ask(['list', *words, '--json']), before), before
         )
@@ -46,9 +45,12 @@ class Planner:
         """The plan of the prefixes only: it has no limit but that of the micro-operations."""
         return read_plan(self.ask(['list', '--trace', trace, '--json']))
 
-    def families(self, trace: str, needs: Needs) -> List[str]:
+    def families(self, trace: str) -> List[str]:
         """The options of the families; a set of more than one of them is in the plan once."""
         words = [] if self.options.prefixes else ['--holes']
+        if not (self.options.has_lost or self.options.has_files):
+            return words
+        needs = self.prefixes(trace).needs
         lines = list(lost_family(needs)) if self.options.has_lost else []
         lines = lines + (self.files_family(trace) if self.options.has_files else [])
         if not self.options.prefixes and self.options.serve is None:
