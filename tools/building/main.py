@@ -15,12 +15,12 @@ from .order import TOP, Work, chains, libraries
 from .proving import build_program, copy_to, prove_in
 
 DESCRIPTION = """\
-Proves all that crashfs stands on, several crates side by side, and builds the program.
+Proves all that crashfs uses, several crates side by side, and builds the program.
 
 `rt run` in crates/crashfs does the same, one crate after the other. Here as many copies of the
 repository as there are processors (4 at most) take a crate each, lowest first, and those with the
 longest chain of crates above them before others. The crate with the longest chain has two
-processors, and those that no other crate could use, unless it stands on many crates. The copies
+processors, and those that no other crate could use, unless it is above many crates. The copies
 are in a temporary folder that is removed at the end; `rt` takes over what they proved, since it
 knows a library that was proved from the same text.
 

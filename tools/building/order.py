@@ -1,4 +1,4 @@
-"""Which crates the program stands on, and which of them is proved next."""
+"""Which crates the program uses, and which of them is proved next."""
 
 from __future__ import annotations
 
@@ -16,7 +16,7 @@ MANY_BELOW = 16
 
 
 def all_below(below: Dict[str, List[str]], name: str) -> Set[str]:
-    """The crates that a crate stands on, and those that they stand on."""
+    """The crates that a crate uses, directly or not."""
     found: Set[str] = set()
     left = [name]
     while left:
@@ -27,7 +27,7 @@ def all_below(below: Dict[str, List[str]], name: str) -> Set[str]:
 
 
 def libraries() -> Dict[str, List[str]]:
-    """Each crate that the program stands on, with those of them that it uses itself."""
+    """Each crate that the program uses, directly or not, with those that it uses directly."""
     named: Dict[str, List[str]] = {}
     for line in (TOP / 'crates.txt').read_text().splitlines():
         head, colon, names = line.partition('#')[0].partition(':')

@@ -44,11 +44,3 @@ ALLOWED = {
     ('docs/BEHAVIOUR.md', 'CONN tells no more: out of memory'): 'a line that the server prints',
     ('crates/cs_tcp/src/log.rt', 'tells no more'): 'printed by version 0.2.0; goes with the next',
 }
-# Rooms whose documentation and names are still to be gone through.
-NOT_YET_READ = (
-    'tools/build',
-    'tools/crashfs_tools/checker/',
-    'tools/crashfs_tools/common/command.py',
-    'tools/crashfs_tools/common/guard.py',
-    'tools/crashfs_tools/recorder/',
-)

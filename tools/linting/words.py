@@ -10,7 +10,7 @@ from typing import Iterator, List, NamedTuple, Set, Tuple
 
 from inventory.pages import BEGIN, END
 
-from .retired import ALLOWED, NOT_YET_READ, RETIRED, RETIRED_NAMES
+from .retired import ALLOWED, RETIRED, RETIRED_NAMES
 from .sources import CRATES, EXAMPLES, TOP, name_of, programs
 
 # It has the retired words themselves.
@@ -91,7 +91,7 @@ def prints(path: Path) -> bool:
 
 def programs_to_read() -> List[Path]:
     """The programs whose words are looked after."""
-    return [path for path in programs() if not name_of(path).startswith((TABLES, *NOT_YET_READ))]
+    return [path for path in programs() if name_of(path) != TABLES]
 
 
 def lines_of_programs() -> Iterator[Line]:

@@ -92,7 +92,7 @@ class Checking:
         )
 
     def digest(self) -> str:
-        """That of the trace, if a file of results has it or is to have it."""
+        """That of the trace, if a file of results has it or will have it."""
         if not (self.options.json or self.options.resume or self.options.merge):
             return ''
         import hashlib

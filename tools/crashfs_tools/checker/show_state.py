@@ -34,7 +34,7 @@ def show(trying: Trying, number: int) -> int:
         raise Refused(f'no such state: {number} (there are {len(trying.plan.listed):,})')
     state = trying.plan.state(number)
     outcome = trying.try_one(state)
-    left, told = leave(trying, state)
+    left, acknowledged = leave(trying, state)
     command = shlex.join(trying.options.command)
     with standard_output():
         print(
@@ -45,7 +45,7 @@ def show(trying: Trying, number: int) -> int:
             f'It is laid out in {left}. To try it there:\n'
             f'    cd {shlex.quote(left)}\n'
             f'    CRASHFS_STATE={number} CRASHFS_SAYS={state.says} '
-            f'{command} < {shlex.quote(told)}'
+            f'{command} < {shlex.quote(acknowledged)}'
         )
     return STATUSES[outcome.result]
 
@@ -56,10 +56,10 @@ def leave(trying: Trying, state: State) -> Tuple[str, str]:
     folder = tempfile.mkdtemp(prefix=f'crashfs-state-{state.number}-')
     try:
         ((_, directory),) = trying.archive(folder).states({state.number})
-        told = os.path.join(folder, f'says-{state.says}')
-        with open(told, 'w', **TEXT) as file:
+        acknowledged = os.path.join(folder, f'says-{state.says}')
+        with open(acknowledged, 'w', **TEXT) as file:
             file.write(trying.says.text(state.says))
-        return directory, told
+        return directory, acknowledged
     except BaseException:
         remove_tree(folder)
         raise

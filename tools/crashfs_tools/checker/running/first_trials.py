@@ -23,7 +23,7 @@ class First:
         self.end = end
 
     def run(self) -> None:
-        """Refused if COMMAND fails in one. An outcome is kept if its state is to be tried."""
+        """Refused if COMMAND fails in one. An outcome is kept if its state will be tried."""
         prefixes = [state for state in self.trying.plan.states if state.family == 'prefix']
         if self.end is None:
             self.try_state(prefixes[-1], "the tree at the session's end")

@@ -24,7 +24,7 @@ class Progress:
     ) -> None:
         self.stream = stream
         self.clock = clock
-        self.told = clock()
+        self.reported = clock()
         self.terminal = stream.isatty()
         self.begin(0)
 
@@ -37,11 +37,11 @@ class Progress:
     def step(self, outcome: Outcome) -> None:
         self.tried += 1
         self.failed += outcome.result == BAD
-        if self.terminal and self.clock() - self.told >= TERMINAL_SECONDS:
-            self.told = self.clock()
+        if self.terminal and self.clock() - self.reported >= TERMINAL_SECONDS:
+            self.reported = self.clock()
             print(f'\r{self.line()}\033[K', end='', file=self.stream, flush=True)
-        elif not self.terminal and self.clock() - self.told >= EVERY_SECONDS:
-            self.told = self.clock()
+        elif not self.terminal and self.clock() - self.reported >= EVERY_SECONDS:
+            self.reported = self.clock()
             print(f'{NAME}: {self.line()}', file=self.stream, flush=True)
 
     def line(self) -> str:
@@ -54,8 +54,8 @@ class Progress:
 
     def note(self, done: int, total: int) -> None:
         """How many of the moments of a session were tried on real disks."""
-        if self.terminal and self.clock() - self.told >= TERMINAL_SECONDS:
-            self.told = self.clock()
+        if self.terminal and self.clock() - self.reported >= TERMINAL_SECONDS:
+            self.reported = self.clock()
             text = f'disks: {done:,} of {total:,} moments'
             print(f'\r{text}\033[K' if done < total else '\r\033[K', end='', file=self.stream)
             self.stream.flush()

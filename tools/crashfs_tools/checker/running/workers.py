@@ -104,12 +104,12 @@ class Workers:
         while left and not self.ending:
             # By turns: Python sees a signal that comes just as it begins to wait when it is over.
             for pipe, _ in poll.poll(TURN_SECONDS * 1000):
-                if not self.hear(left[pipe]):
+                if not self.read_outcomes(left[pipe]):
                     poll.unregister(pipe)
                     self.reap(left.pop(pipe))
 
-    def hear(self, worker: Worker) -> bool:
-        """Takes what a process says; False if it says no more."""
+    def read_outcomes(self, worker: Worker) -> bool:
+        """Takes the outcomes that a process has written; False if it writes no more."""
         lines = worker.lines()
         for line in lines or []:
             self.take(line)
@@ -200,16 +200,16 @@ class Workers:
         if is_late:
             os.kill(worker.process, signal.SIGKILL)
         has_ended = os.waitpid(worker.process, 0 if is_late else os.WNOHANG)[0]
-        self.hear_last(worker)
+        self.read_last(worker)
         if has_ended:
             os.close(worker.pipe)
             self.workers.remove(worker)
 
-    def hear_last(self, worker: Worker) -> None:
+    def read_last(self, worker: Worker) -> None:
         """Takes the outcomes that a process has said by now; faults are known or late."""
         os.set_blocking(worker.pipe, False)
         try:
-            while self.hear(worker):
+            while self.read_outcomes(worker):
                 pass
         except (BlockingIOError, OSError, Refused, ProgramFault, RuntimeError):
             return

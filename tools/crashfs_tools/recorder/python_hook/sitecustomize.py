@@ -1,4 +1,4 @@
-"""Tells strace which line of a Python program makes a call: for --stacks of crashfs-record.
+"""Shows strace which line of a Python program makes a call: for --stacks of crashfs-record.
 
 Before each built-in function that may write, sync or rename, `access` is called with a path that
 has the line. The directory of this file is first on PYTHONPATH; a `sitecustomize` that is found
