@@ -212,7 +212,7 @@ class Checks(InStore):
         ran = self.run_tool('crashfs-check', *words, self.bad, '--merge', *files)
         self.assertEqual((ran.returncode, ran.stdout), (1, re.sub(' *tried: .*\n', '', whole)))
         (group,) = json.loads(self.read('all.json'))['groups']
-        self.assertIn('/log has 0 bytes, there 4 bytes', group['differences'][0])
+        self.assertIn('/log has 0 bytes, in the good state 4 bytes', group['differences'][0])
         self.assertIn('class="differences"', self.read('all.html'))
         for more, told in [
             ((self.good,), f'{self.good}: that is not the trace of the reports'),

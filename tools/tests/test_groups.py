@@ -294,6 +294,7 @@ class Texts(unittest.TestCase):
             ('/o/3f/a8b2c4d6e8', '/o/b7/0f1e2d3c4b'),
             ('/objects/2a/tmp_obj_aB3xYz', '/objects/fe/tmp_obj_KqWxYz'),
             ('/.git/objects/2b', '/.git/objects/fe'),
+            ('/o/2a/tmp_obj_aB3xYz', '/o/fe/tmp_obj_KqWxYz'),
             ('row 3: 0x1f', 'row 12: 0x2f'),
             ('f.Q7a9B2', 'f.p3X8k1'),
         ]:
