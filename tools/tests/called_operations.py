@@ -17,7 +17,7 @@ OPERATIONS = {
         'write a 4 5',
     ],
     'fcntl_append': ['creat a 644', 'write a 0 12345', 'write a 5 6', 'write a 0 0'],
-    'fcntl_by_exec': ['creat a 644'],
+    'fcntl_by_exec': ['creat b 644', 'creat a 644'],
     'read_': ['creat a 644', 'write a 0 0123456789', 'write a 5 A', 'write a 7 B'],
     'write_': [
         'creat a 644',

@@ -97,6 +97,28 @@ CASES = [
         for name in ('clone', 'clone3', 'fork', 'vfork')
     ],
     (
+        'calls that change no bytes',
+        FILE,
+        [
+            '1 openat(AT_FDCWD</d>, "f", O_RDONLY|O_TRUNC|O_PATH) = 4</d/f>',
+            OPEN_F,
+            '1 ioctl(3</d/f>, BTRFS_IOC_FILE_EXTENT_SAME or FIDEDUPERANGE, {}) = 0',
+            '1 write(3</d/f>, "J", 1) = 1',
+        ],
+        ['write /f 0 J'],
+    ),
+    (
+        'a table of descriptors that is shared, and no more',
+        FILE,
+        [
+            OPEN_F,
+            '1 clone(child_stack=0x7f, flags=CLONE_VM|CLONE_FILES) = 2',
+            '2 close_range(3, 3, CLOSE_RANGE_UNSHARE) = 0',
+            '1 write(3</d/f>, "x", 1) = 1',
+        ],
+        ['write /f 0 x'],
+    ),
+    (
         'O_TRUNC empties what isn\'t empty',
         TWO_FILES,
         [

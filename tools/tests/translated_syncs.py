@@ -166,6 +166,17 @@ SYNCS = [
         ],
     ),
     (
+        'what a thread maps, all its threads sync',
+        FILE,
+        [
+            OPEN_F,
+            '1 clone(child_stack=0x7f, flags=CLONE_VM|CLONE_FILES|CLONE_THREAD) = 2',
+            '2 mmap(NULL, 4096, PROT_READ, MAP_SHARED, 3</d/f>, 0) = 0x10000',
+            '1 msync(0x10000, 4096, MS_SYNC) = 0',
+        ],
+        ['fsyncrange /f 0 4096'],
+    ),
+    (
         'a copy of nothing',
         FILE,
         [

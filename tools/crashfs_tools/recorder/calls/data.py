@@ -211,8 +211,7 @@ def on_tee(files: LiveFiles, process: Process, call: Call) -> None:
 
 def on_ioctl(files: LiveFiles, process: Process, call: Call) -> None:
     file = process.descriptors.files.get(call.descriptor().number)
-    clones = 'FICLONE' in call.word(1) or 'DEDUPE' in call.word(1)
-    if file is not None and file.node is not None and clones:
+    if file is not None and file.node is not None and 'FICLONE' in call.word(1):
         files.drop_bytes(file.node, f'ioctl {call.word(1)}: {NOT_IN_LOG}')
 
 

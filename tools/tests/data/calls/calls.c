@@ -121,7 +121,9 @@ static void fcntl_append(void) {
   put(f, "0");
 }
 static void fcntl_by_exec(void) {
-  int f = new_file("a");
+  /* The loader opens and closes the first free descriptor. */
+  int free = new_file("b"), f = new_file("a");
+  CALL(SYS_close, free);
   must(CALL(SYS_fcntl, f, F_SETFD, FD_CLOEXEC));
   long child = fork();
   if (child == 0) run_self(SYS_execve, f, "reuse");
