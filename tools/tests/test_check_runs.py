@@ -233,7 +233,13 @@ class Stops(InCounted):
         )
         self.assertEqual(
             (group['good'], group['differences']),
-            (8, ['/log has 0 bytes, there 4 bytes; at byte 0 its end, there ' '613d320a']),
+            (
+                8,
+                [
+                    '/log has 0 bytes, in the good state 4 bytes; at byte 0 its end, in the good '
+                    'state 613d320a'
+                ],
+            ),
         )
 
 
