@@ -88,11 +88,6 @@ class First(InCounted):
         self.assertEqual(ran.returncode, 3, ran.stdout + ran.stderr)
 
 
-DIFFERENCE = (
-    '/log has 0 bytes, in the good state 4 bytes; ' 'at byte 0 its end, in the good state 613d320a'
-)
-
-
 class Stops(InCounted):
     def test_a_stop_has_a_report_and_a_json_that_a_later_check_goes_on_from(self):
         whole = self.check(self.bad)
@@ -238,7 +233,6 @@ class Stops(InCounted):
         )
         self.assertEqual(
             (group['good'], group['differences']),
-<<<<<<< HEAD
             (
                 8,
                 [
@@ -246,9 +240,6 @@ class Stops(InCounted):
                     'state 613d320a'
                 ],
             ),
-=======
-            (8, [DIFFERENCE]),
->>>>>>> 62e9713c (The test of a report that nobody reads has the words of differences)
         )
 
 
