@@ -7,7 +7,7 @@ import signal
 import unittest
 
 from crashfs_tools.checker.running import progress
-from crashfs_tools.checker.running.results import read_json
+from crashfs_tools.checker.running.read_results import read_json
 from crashfs_tools.checker.running.runner import BAD, GOOD, NO_ANSWER, Outcome
 
 from .support import FAKE, PATIENCE, PROGRESS
@@ -257,7 +257,8 @@ class Archives(InStore):
                 0o755,
             )
             ran = self.run_tool('crashfs-check', '--crashfs', cut, self.good, '--', 'true')
-            self.assertEqual((ran.returncode, ran.stdout), (2, ''))
+            self.assertEqual(ran.returncode, 3, ran.stdout)
+            self.assertIn('(stopped by a fault)', ran.stdout)
             self.assertIn(f'crashfs-check: crashfs tar {told}', ran.stderr)
 
     def test_a_program_may_write_its_archive_to_the_end(self):

@@ -58,7 +58,7 @@ class Stops(InStore):
         _, err = child.communicate(timeout=PATIENCE)
         self.assertEqual(
             (child.returncode, err),
-            (2, 'crashfs-check: a process of this check was ended by SIGKILL\n'),
+            (3, 'crashfs-check: a process of this check was ended by SIGKILL\n'),
         )
         self.assert_ended()
         self.assert_nothing_left()

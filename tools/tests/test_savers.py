@@ -5,7 +5,7 @@ import os
 import sys
 import unittest
 
-from .support import FAKE, InFolder, needs_strace, needs_version_3
+from .support import FAKE, TOOLS, InFolder, needs_strace, needs_version_3
 
 
 def text_of(version):
@@ -51,6 +51,24 @@ if whole[0] < int(os.environ['CRASHFS_SAYS']):
     sys.exit('lost: an older version')
 """
 )
+
+# Two reports that the tools' own saver writes, and what must be found of them.
+OWN_SAVER = f"""
+import os, sys
+sys.path.insert(0, {str(TOOLS)!r})
+from crashfs_tools.common.command import write_whole
+for version in (1, 2):
+    write_whole('r.json', (f'version {{version}}, line {{line}}\\n' for line in range(900)))
+    os.write(1, b'written\\n')
+"""
+OWN_CHECK = """
+import os, sys
+lines = open('r.json').readlines() if os.path.exists('r.json') else []
+if lines and lines != [f'version {lines[0][8]}, line {line}\\n' for line in range(900)]:
+    sys.exit('corrupt: the report is not whole')
+if int(lines[0][8] if lines else 0) < int(os.environ['CRASHFS_SAYS']):
+    sys.exit('lost: a report that was written')
+"""
 
 # The way, its micro-operations, states, and different ones, and how many of these and of all fail.
 WAYS = [
@@ -104,6 +122,17 @@ class Savers(InFolder):
                 begin = f'out.trace: {operations} micro-operations, {states} states, '
                 begin += f'{different} different: {fail if failing else "none fails"}'
                 self.assertEqual(line[: len(begin)], begin)
+
+    def test_no_state_fails_of_the_tools_own_files(self):
+        os.mkdir(self.path('own'))
+        for name, text in [('saver.py', OWN_SAVER), ('check.py', OWN_CHECK)]:
+            self.write(name, text)
+        saver = [sys.executable, '-S', self.path('saver.py')]
+        ran = self.run_tool('crashfs-record', 'own', 'own.trace', '--', *saver)
+        self.assertEqual(ran.returncode, 0, ran.stderr)
+        check = [sys.executable, '-S', self.path('check.py')]
+        ran = self.run_tool('crashfs-check', '--crashfs', FAKE, 'own.trace', '--', *check)
+        self.assertEqual((ran.returncode, ran.stderr), (0, ''), ran.stdout)
 
 
 if __name__ == '__main__':

@@ -3,8 +3,12 @@ as many states."""
 
 from __future__ import annotations
 
+import os
+import stat
 import sys
 import tempfile
+from functools import reduce
+from operator import and_
 from typing import List, Optional
 
 from crashfs_tools.checker.report.report import NOT_ALL_TRIED, Report
@@ -14,30 +18,30 @@ from crashfs_tools.common.command import (
     Refused,
     folder_of,
     found,
-    standard_output,
     print_line,
+    run_guarded,
+    standard_output,
     write_whole,
 )
 from crashfs_tools.common.guard import Guard, Stopped, stop_by_exception
+from crashfs_tools.common.printable import print_utf8
 from crashfs_tools.common.program import Crashfs, ProgramFault
 
-from .checking import Checking, Run
+from .checking import Checking, Interrupted, Run
 from .options import NAME, Options, read_options
 
 BAD_INPUT = 2
 
 
 def check(options: Options) -> int:
-    for path in (options.json, options.junit, options.html):
-        if path is not None:
-            folder_of(path)
+    refuse_outputs(options)
     if options.merge is not None:
         from .merging import merged_report
 
         if options.trace is not None:
-            readable(options.trace)
-        return finish(options, merged_report(options))
-    options.trace = readable(options.trace or '')
+            refuse_unreadable(options.trace)
+        return finish(options, merged_report(options), mode_of_reports(options.merge))
+    refuse_unreadable(options.trace or '')
     if options.disks is not None:
         from crashfs_tools.disks.filesystems import need
 
@@ -52,28 +56,49 @@ def check(options: Options) -> int:
                 from .show_state import show_state
 
                 return show_state(checking, *options.state)
-            report, stop = Run(checking).run()
+            report, end = Run(checking).run()
         except ProgramFault as fault:
             raise checking.planner.refused('tar', fault) from fault
-    status = finish(options, report)
-    if stop is not None:
-        raise stop
+    status = finish(options, report, checking.mode)
+    if end is not None:
+        raise end
     return status
 
 
-def readable(trace: str) -> str:
+def refuse_outputs(options: Options) -> None:
+    """Refuses files that can't be written, or that would be written over TRACE."""
+    outputs = {'--json': options.json, '--junit': options.junit, '--html': options.html}
+    for name, path in outputs.items():
+        if path is None:
+            continue
+        folder_of(path)
+        if options.trace is not None and os.path.realpath(path) == os.path.realpath(options.trace):
+            raise Refused(f'{name} {path}: that is TRACE')
+
+
+def refuse_unreadable(trace: str) -> None:
+    """Refuses a trace that can't be read, or is a device; a pipe isn't opened, it is read once."""
     try:
-        with open(trace, 'rb'):
-            return trace
+        mode = os.stat(trace).st_mode
+        if stat.S_ISREG(mode):
+            with open(trace, 'rb'):
+                return
+        if not stat.S_ISFIFO(mode):
+            raise Refused(f'{trace} is no file')
     except OSError as error:
         raise Refused(f'{trace}: {error.strerror}') from error
 
 
-def finish(options: Options, report: Report) -> int:
+def mode_of_reports(paths: List[str]) -> int:
+    """Who may read a report of others: those who may read them all."""
+    return reduce(and_, (0o600 | os.stat(path).st_mode & 0o066 for path in paths))
+
+
+def finish(options: Options, report: Report, mode: int) -> int:
     """Writes the files and then prints the report; it prints it also if a file can't be written."""
     fault = None
     try:
-        write_files(options, report)
+        write_files(options, report, mode)
     except OSError as error:
         fault = error
     with standard_output():
@@ -83,31 +108,51 @@ def finish(options: Options, report: Report) -> int:
     return report.status
 
 
-def write_files(options: Options, report: Report) -> None:
+def write_files(options: Options, report: Report, mode: int) -> None:
     if options.json is not None:
-        write_whole(options.json, report.json_pieces())
+        write_whole(options.json, report.json_pieces(), mode)
     if options.junit is not None:
         from crashfs_tools.checker.report.junit import junit_lines
 
-        write_whole(options.junit, junit_lines(report))
+        write_whole(options.junit, junit_lines(report), mode)
     if options.html is not None:
         from crashfs_tools.checker.report.page import page
 
-        write_whole(options.html, page(report))
+        write_whole(options.html, page(report), mode)
 
 
-def main(arguments: Optional[List[str]] = None) -> int:
-    options = read_options(sys.argv[1:] if arguments is None else arguments)
+def run_check(arguments: List[str]) -> int:
+    """Runs a check. A fault that somebody else can mend is in a line that names it."""
+    options = read_options(arguments)
     stop_by_exception()
     try:
         return check(options)
     except Stopped as stopped:
         print_line(NAME, f'stopped by {stopped}')
         return stopped.status
+    except Interrupted as interrupted:
+        print_fault(interrupted.__cause__)
+        return NOT_ALL_TRIED
     except (Refused, PlanError) as refused:
-        for line in str(refused).split('\n'):
-            print_line(NAME, line)
+        print_fault(refused)
         return BAD_INPUT
     except OSError as error:
-        print_line(NAME, f'{error.filename or tempfile.gettempdir()}: {error.strerror}')
+        print_fault(error)
         return NOT_ALL_TRIED
+
+
+def print_fault(fault: Optional[BaseException]) -> None:
+    """Prints a fault; raises one that nobody expected."""
+    if isinstance(fault, OSError) and fault.strerror:
+        print_line(NAME, f'{fault.filename or tempfile.gettempdir()}: {fault.strerror}')
+    elif isinstance(fault, (Refused, PlanError, ProgramFault)):
+        for line in str(fault).split('\n'):
+            print_line(NAME, line)
+    elif fault is not None:
+        raise fault
+
+
+def main(arguments: Optional[List[str]] = None) -> int:
+    words = sys.argv[1:] if arguments is None else arguments
+    print_utf8()
+    return run_guarded(NAME, lambda: run_check(words), NOT_ALL_TRIED)

@@ -7,7 +7,8 @@ from typing import Dict, Optional
 from crashfs_tools.checker.findings.groups import Findings
 from crashfs_tools.checker.findings.tree_diff import find_differences
 from crashfs_tools.checker.report.report import Report
-from crashfs_tools.checker.running.results import AllResults, Results, merged, read_json
+from crashfs_tools.checker.running.results import AllResults, Results, merged
+from crashfs_tools.checker.running.read_results import read_json
 from crashfs_tools.checker.running.runner import Outcome
 from crashfs_tools.common.command import Refused
 from crashfs_tools.common.guard import Guard

@@ -13,6 +13,8 @@ from crashfs_tools.common.version import version_of
 from .address import Address
 
 NAME = 'crashfs-check'
+# Each job is a process, and one of the program.
+MOST_JOBS = 1_024
 
 DESCRIPTION = """\
 Runs COMMAND in the crash states of a trace, and reports in which states it fails, and why.
@@ -104,6 +106,13 @@ def positive(text: str) -> int:
     if not (text.isdigit() and int(text) > 0):
         raise argparse.ArgumentTypeError(f'{text} is not a number from 1')
     return int(text)
+
+
+def job_count(text: str) -> int:
+    count = positive(text)
+    if count > MOST_JOBS:
+        raise argparse.ArgumentTypeError(f'{text} is more than {MOST_JOBS:,}')
+    return count
 
 
 def state(text: str) -> Tuple[int, Optional[int]]:
@@ -205,7 +214,7 @@ def parser() -> argparse.ArgumentParser:
     made.add_argument(
         '--jobs',
         metavar='N',
-        type=positive,
+        type=job_count,
         default=len(os.sched_getaffinity(0)),
         help='run N commands at once (default: one per processor, %(default)s)',
     )

@@ -3,14 +3,18 @@
 from __future__ import annotations
 
 import argparse
+import errno
 import io
 import os
 import shutil
 import signal
+import stat
 import sys
 import tempfile
 from contextlib import contextmanager, redirect_stdout
-from typing import Any, Dict, Iterable, Iterator, List, Tuple
+from typing import Any, Callable, Dict, Iterable, Iterator, List, Tuple
+
+from .printable import printable
 
 # How every file of text is written.
 TEXT: Dict[str, Any] = {'encoding': 'utf-8', 'errors': 'surrogateescape', 'newline': '\n'}
@@ -18,6 +22,9 @@ TEXT: Dict[str, Any] = {'encoding': 'utf-8', 'errors': 'surrogateescape', 'newli
 
 # The status of a text that could not be printed.
 NOT_PRINTED = 3
+# The variable that has a fault of a tool's own printed with its traceback.
+TRACEBACK = 'CRASHFS_TRACEBACK'
+FAULT_LETTERS = 500
 
 
 class Refused(Exception):
@@ -90,38 +97,66 @@ def folder_of(path: str) -> str:
     return folder
 
 
-def write_whole(path: str, pieces: Iterable[str]) -> None:
-    """Writes the whole file, or none of it; an OSError has its name. `-` is standard output, and
-    what is there and is no plain file, as a device or a pipe, is written in place."""
+def write_whole(path: str, pieces: Iterable[str], mode: int = 0o666) -> None:
+    """Writes the whole file, or none of it, and returns when it is durable; an OSError has its
+    name. A mode says who may read it at most. `-` is standard output, and what is there and is no
+    plain file, as a device or a pipe, is written in place."""
     if path == '-':
         with standard_output():
             sys.stdout.writelines(pieces)
         return
     try:
+        refuse_planted(path)
         if os.path.exists(path) and not os.path.isfile(path):
             with open(path, 'w', **TEXT) as file:
                 file.writelines(pieces)
         else:
-            replace_file(os.path.realpath(path), pieces)
+            replace_file(os.path.realpath(path), pieces, mode)
     except OSError as error:
         raise OSError(error.errno, error.strerror, path) from error
 
 
-def replace_file(path: str, pieces: Iterable[str]) -> None:
-    """A new file takes the path when it is whole and synced."""
-    number, part = tempfile.mkstemp(
-        prefix='.' + os.path.basename(path)[:100], dir=os.path.dirname(path)
-    )
+def refuse_planted(path: str) -> None:
+    """Refuses a link or a pipe that another user made in a directory that everybody may write."""
+    if not os.path.lexists(path):
+        return
+    status, folder = os.lstat(path), os.stat(os.path.dirname(path) or '.')
+    is_shared = folder.st_mode & stat.S_ISVTX and folder.st_mode & stat.S_IWOTH
+    is_ours = status.st_uid in (os.geteuid(), folder.st_uid)
+    if is_shared and not is_ours and not stat.S_ISREG(status.st_mode):
+        raise OSError(errno.EACCES, 'another user made it, and it is no plain file', path)
+
+
+def replace_file(path: str, pieces: Iterable[str], mode: int) -> None:
+    """A new file takes the path when it is whole and synced, and the directory is synced then."""
+    folder = os.path.dirname(path)
+    number, part = tempfile.mkstemp(prefix='.' + os.path.basename(path)[:100], dir=folder)
     try:
         with open(number, 'w', **TEXT) as file:
             file.writelines(pieces)
             file.flush()
-            os.fchmod(number, mode_of(path))
+            os.fchmod(number, mode_of(path) & mode)
             os.fsync(number)
         os.replace(part, path)
     except BaseException:
         os.unlink(part)
         raise
+    sync_directory(folder)
+
+
+def sync_directory(folder: str) -> None:
+    """Makes the names of a directory durable, if its file system can, and its mode lets us."""
+    try:
+        directory = os.open(folder, os.O_RDONLY | os.O_DIRECTORY | os.O_CLOEXEC)
+    except PermissionError:
+        return
+    try:
+        os.fsync(directory)
+    except OSError as error:
+        if error.errno != errno.EINVAL:
+            raise
+    finally:
+        os.close(directory)
 
 
 def mode_of(path: str) -> int:
@@ -133,10 +168,31 @@ def mode_of(path: str) -> int:
     return 0o666 & ~umask
 
 
+def run_guarded(program: str, run: Callable[[], int], status: int) -> int:
+    """Runs a whole command. A fault of its own is one line, and a status that is no verdict; with
+    the variable TRACEBACK it has its traceback."""
+    try:
+        return run()
+    except Exception as fault:
+        if os.environ.get(TRACEBACK):
+            import traceback
+
+            traceback.print_exc()
+        print_line(program, f'{fault_text(fault)} ({TRACEBACK}=1 shows where)')
+        return status
+
+
+def fault_text(fault: Exception) -> str:
+    """A fault that nobody expected, in a line."""
+    return printable(f'a fault of its own: {type(fault).__name__}: {fault}'[:FAULT_LETTERS])
+
+
 @contextmanager
 def standard_output() -> Iterator[None]:
     """What is printed within this is written at its end; an OSError has the stream's name. A reader
     that reads no more, as `head`, is no fault: the rest goes nowhere."""
+    if sys.stdout is None:
+        raise OSError(errno.EBADF, os.strerror(errno.EBADF), 'standard output')
     try:
         yield
         sys.stdout.flush()
@@ -158,5 +214,10 @@ def ended(status: int) -> str:
 
 
 def print_line(program: str, text: str) -> None:
-    """One line on standard error."""
-    print(f'{program}: {text}', file=sys.stderr, flush=True)
+    """One line on standard error, if that can be written."""
+    if sys.stderr is None:
+        return
+    try:
+        print(f'{program}: {text}', file=sys.stderr, flush=True)
+    except OSError:
+        pass

@@ -46,6 +46,7 @@ class Guard:
             # Where no place for temporary files can be written, the error has no name.
             name = error.filename or 'temporary files'
             raise OSError(error.errno, error.strerror, name) from error
+        self.report_other_place()
         self.is_reaper = is_reaper_now()
         waiting, self.alive = os.pipe()
         # A signal waits meanwhile: it must not reach the second process before that ignores it.
@@ -57,6 +58,13 @@ class Guard:
         signal.pthread_sigmask(signal.SIG_SETMASK, before)
         os.close(waiting)
         return self
+
+    def report_other_place(self) -> None:
+        """Says so if the place that TMPDIR names is not the one that is used."""
+        named, used = os.environ.get('TMPDIR'), os.path.dirname(self.directory)
+        if named and os.path.realpath(named) != used:
+            program = self.prefix.rstrip('-')
+            print_line(program, f'TMPDIR={named} can not be written: {used} is used')
 
     @property
     def environment(self) -> Dict[str, str]:

@@ -3,14 +3,16 @@ this package takes its place."""
 
 from __future__ import annotations
 
+import io
 import os
+import select
 import shutil
 import subprocess
 import sys
 from contextlib import contextmanager
 from functools import cached_property
 from itertools import groupby
-from typing import Dict, Iterator, List, Optional, Tuple
+from typing import Any, Dict, Iterator, List, Optional, Tuple
 
 from .archive import ArchiveFault, Member, members
 from .command import Refused, ended
@@ -117,9 +119,9 @@ class Crashfs:
         """The archive that `crashfs tar` writes, as a stream that is read once."""
         child = self.start(['tar', *words], environment)
         assert child.stdout is not None and child.stderr is not None
+        streams = Streams(child.stdout.fileno(), child.stderr.fileno())
         try:
-            with open(child.stdout.fileno(), 'rb', ARCHIVE_BYTES, closefd=False) as stream:
-                yield members(stream)
+            yield members(io.BufferedReader(streams, ARCHIVE_BYTES))
         except ArchiveFault as error:
             fault: Optional[str] = f'what it wrote is no archive: {error}'
         except BaseException:
@@ -130,7 +132,7 @@ class Crashfs:
             raise
         else:
             fault = None
-        error_text = read_to_end(child)
+        error_text = read_to_end(child, streams)
         if child.returncode != 0 or fault is not None:
             how = f'crashfs tar {ended(child.returncode)}'
             raise ProgramFault(
@@ -181,16 +183,52 @@ def program_beside(library: str) -> Optional[str]:
     return path if os.access(path, os.X_OK) else None
 
 
-def read_to_end(child: subprocess.Popen[bytes]) -> bytes:
-    """Waits for a program's end, so that it can write all; what it printed as an error."""
+class Streams(io.RawIOBase):
+    """A program's standard output, as a stream. The end of what it prints as an error is kept
+    meanwhile: it would wait for ever if nobody read that."""
+
+    def __init__(self, output: int, errors: int) -> None:
+        super().__init__()
+        self.output, self.errors = output, errors
+        self.error_text = b''
+        self.has_errors = True
+        self.poll = select.poll()
+        self.poll.register(output, select.POLLIN)
+        self.poll.register(errors, select.POLLIN)
+
+    def readable(self) -> bool:
+        return True
+
+    def readinto(self, buffer: Any) -> int:
+        while True:
+            ready = {one for one, _ in self.poll.poll()}
+            if self.errors in ready:
+                self.read_errors()
+            if self.output in ready:
+                return os.readv(self.output, [buffer])
+
+    def read_errors(self) -> bool:
+        """Reads some; returns False at the end."""
+        piece = os.read(self.errors, PIECE_BYTES)
+        self.error_text = (self.error_text + piece)[-PIECE_BYTES:]
+        if not piece and self.has_errors:
+            self.poll.unregister(self.errors)
+            self.has_errors = False
+        return bool(piece)
+
+
+def read_to_end(child: subprocess.Popen[bytes], streams: Streams) -> bytes:
+    """Waits for a program's end, so that it can write all; the end of what it printed as an
+    error."""
     assert child.stdout is not None and child.stderr is not None
-    while child.stdout.read(PIECE_BYTES):
+    while streams.read(PIECE_BYTES):
         pass
-    error_text = child.stderr.read()
     child.stdout.close()
+    while streams.read_errors():
+        pass
     child.stderr.close()
     child.wait()
-    return error_text
+    return streams.error_text
 
 
 def is_too_large(fault: Exception) -> bool:

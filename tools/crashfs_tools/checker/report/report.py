@@ -17,7 +17,7 @@ from crashfs_tools.checker.findings.groups import (
     merged_groups,
     set_all_advice,
 )
-from crashfs_tools.checker.running.results import Head
+from crashfs_tools.checker.running.results import Head, Results
 from crashfs_tools.checker.running.runner import NO_ANSWER
 from crashfs_tools.common.program import can_be_built
 from crashfs_tools.common.printable import printable
@@ -43,6 +43,8 @@ CAUSE_WIDTH = 52
 NONE_FAILS, SOME_FAIL, NOT_ALL_TRIED = 0, 1, 3
 UNPROVED = 'unproved: a Python program computed these states, not crashfs'
 HOW_TO_BUILD = ' (tools/build builds crashfs)'
+# What stopped a check that could not say so itself.
+KILLED = 'a kill'
 
 
 class Report:
@@ -118,6 +120,7 @@ class Report:
         if self.counts.failing or further or any(one.groups for one in self.recoveries):
             return SOME_FAIL
         is_whole = not self.counts.left and not self.head.stopped
+        is_whole = is_whole and not any(one.fault for one in self.recoveries)
         return NONE_FAILS if is_whole else NOT_ALL_TRIED
 
     def lines(self) -> List[str]:
@@ -275,6 +278,14 @@ class Report:
         if self.sightings is not None:
             yield ',\n"disks":' + json.dumps(self.sightings.fields(), indent=1, ensure_ascii=False)
         yield '}\n'
+
+    def partial_pieces(self, results: Results) -> Iterator[str]:
+        """The results before the check's end, with those of the window that is tried; without
+        entries. It reads as the report of a check that was killed."""
+        yield as_json(replace(self.head, stopped=KILLED).fields())[:-1] + ',\n"windows":[\n'
+        for window in self.packed_windows:
+            yield unpacked(window) + ',\n'
+        yield as_json(results.fields()) + '],\n"groups":[],\n"recoveries":[]}\n'
 
     @staticmethod
     def recovery_fields(recovery: Recovery) -> Dict[str, Any]:

@@ -14,7 +14,7 @@ from .runner import BAD, Outcome
 from .trying import Trying
 
 
-class First:
+class FirstTrials:
     """Tries the two trees; end is a plan of the tree at the end, if the first window hasn't it."""
 
     def __init__(self, trying: Trying, results: Results, end: Optional[Planned] = None) -> None:
@@ -32,7 +32,7 @@ class First:
             outcome = self.trying.with_plan(self.end).try_one(state)
             self.judge(
                 outcome,
-                f"the tree at the session's end, where nothing is lost (says " f'{state.says})',
+                f"the tree at the session's end, where nothing is lost (says {state.says})",
                 [],
             )
         self.try_state(prefixes[0], 'the start tree')
@@ -47,7 +47,7 @@ class First:
         look = [f'inspect it with --state {number}']
         if outcome.result == BAD and state.numbers[0] == 0 and self.trying.tree(number):
             look.insert(
-                0, 'did the directory have files of an earlier session when it was ' 'recorded?'
+                0, 'did the directory have files of an earlier session when it was recorded?'
             )
         self.judge(
             outcome, f'{tree}, where nothing is lost (state {number}, says {state.says})', look

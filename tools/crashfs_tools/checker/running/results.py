@@ -2,14 +2,13 @@
 
 from __future__ import annotations
 
-import json
 import os
 import shlex
-from dataclasses import dataclass, field
+from dataclasses import dataclass, field, replace
 from typing import Any, Dict, List, Tuple
 
 from crashfs_tools.checker.options import Shard
-from crashfs_tools.checker.states.plan import MicroOperation, Needs, Plan, State, Trial
+from crashfs_tools.checker.states.plan import Plan, Trial
 from crashfs_tools.common.command import Refused
 from crashfs_tools.common.trace_lines import TraceLine
 
@@ -52,23 +51,6 @@ class Head:
             'lines': [list(line) for line in self.lines.values()],
         }
 
-    @staticmethod
-    def of(fields: Dict[str, Any]) -> Head:
-        if fields['crashfs-check'] != FORMAT:
-            raise ValueError('another format')
-        lines = [TraceLine(*line) for line in fields['lines']]
-        return Head(
-            fields['trace'],
-            fields['sha256'],
-            fields['command'],
-            Shard(*fields['shard']),
-            fields['unproved'],
-            {line.number: line for line in lines},
-            fields['stopped'],
-            [(line, tried) for line, tried in fields['cut_off']],
-            bool(fields.get('has_rest', False)),
-        )
-
 
 @dataclass
 class Results:
@@ -106,6 +88,11 @@ class Results:
             {state: one for state, one in earlier.outcomes.items() if one.result != NO_ANSWER}
         )
 
+    @property
+    def is_whole(self) -> bool:
+        """Whether each trial has an outcome."""
+        return all(number in self.outcomes for number in self.trials.values())
+
     def identity(self) -> Tuple[object, ...]:
         return self.plan.operations, self.plan.listed, self.plan.needs.masks
 
@@ -119,24 +106,6 @@ class Results:
             'operations': [list(one) for one in self.plan.operations],
             'states': [list(one) for one in self.plan.listed],
         }
-
-    @staticmethod
-    def of(fields: Dict[str, Any]) -> Results:
-        plan = Plan(
-            [MicroOperation(*one) for one in fields['operations']],
-            [
-                State(number, family, tuple(numbers), says, same)
-                for number, family, numbers, says, same in fields['states']
-            ],
-            Needs([int(mask, 16) for mask in fields['needs']]),
-            fields['first'],
-        )
-        return Results(
-            plan,
-            {int(state): Outcome(*one) for state, one in fields['outcomes'].items()},
-            {int(state): other for state, other in fields['known'].items()},
-            {int(state): Outcome(*one) for state, one in fields.get('reruns', {}).items()},
-        )
 
 
 @dataclass
@@ -157,18 +126,6 @@ def known_states(before: Plan, plan: Plan) -> Dict[int, int]:
         if number is not None:
             shared[state.number] = number
     return shared
-
-
-def read_json(path: str) -> AllResults:
-    """Refused for a file that isn't the JSON of a check."""
-    try:
-        with open(path, encoding='utf-8', errors='surrogateescape') as file:
-            fields = json.load(file)
-        return AllResults(Head.of(fields), [Results.of(one) for one in fields['windows']])
-    except OSError as error:
-        raise Refused(f'{path}: {error.strerror}') from error
-    except (ValueError, KeyError, TypeError, AttributeError) as error:
-        raise Refused(f'{path} is no report of crashfs-check') from error
 
 
 def refuse_other_parts(parts: List[int], count: int) -> None:
@@ -195,26 +152,32 @@ def merged(parts: List[AllResults]) -> AllResults:
     was stopped some windows may be missing."""
     first = max(parts, key=lambda one: len(one.windows))
     for one in parts:
-        same = [window.identity() for window in first.windows[: len(one.windows)]]
-        if (one.head.digest, one.head.shard.parts) != (
-            first.head.digest,
-            first.head.shard.parts,
-        ) or [window.identity() for window in one.windows] != same:
-            raise Refused('the reports are not shards of one check')
+        refuse_other_check(first, one)
     refuse_other_commands([one.head.command for one in parts])
     refuse_other_parts([one.head.shard.part for one in parts], first.head.shard.parts)
-    head = Head(
-        first.head.trace,
-        first.head.digest,
-        first.head.command,
-        unproved=any(one.head.unproved for one in parts),
-        lines=first.head.lines,
-        stopped=next((one.head.stopped for one in parts if one.head.stopped), ''),
-        cut_off=first.head.cut_off,
-        has_rest=any(one.head.has_rest for one in parts),
-    )
     for one in parts:
         for whole, window in zip(first.windows, one.windows):
             whole.outcomes.update(window.outcomes)
-            whole.reruns.update(window.reruns)
+    head = replace(
+        first.head,
+        shard=Shard(),
+        unproved=any(one.head.unproved for one in parts),
+        has_rest=any(one.head.has_rest for one in parts),
+        stopped=next((one.head.stopped for one in parts if one.head.stopped), ''),
+    )
+    if not head.stopped and not all(window.is_whole for window in first.windows):
+        head.stopped = 'a part without all outcomes'
     return AllResults(head, first.windows)
+
+
+def refuse_other_check(first: AllResults, other: AllResults) -> None:
+    """Refused unless two reports are shards of one check: of one trace and plan."""
+    plans = [
+        [window.identity() for window in one.windows[: len(other.windows)]]
+        for one in (first, other)
+    ]
+    if plans[0] != plans[1] or (other.head.digest, other.head.shard.parts) != (
+        first.head.digest,
+        first.head.shard.parts,
+    ):
+        raise Refused('the reports are not shards of one check')

@@ -2,7 +2,7 @@
 
 from __future__ import annotations
 
-from typing import TYPE_CHECKING, Dict, List, Sequence, Set
+from typing import TYPE_CHECKING, Callable, Dict, List, Sequence, Set
 
 from crashfs_tools.checker.options import Options
 from crashfs_tools.checker.states.layout import Archive, Layout
@@ -15,7 +15,7 @@ from crashfs_tools.common.trace_text import has_much, root_owner
 
 from .progress import Progress
 from .results import Results
-from .runner import Checker, Outcome, Says
+from .runner import Checker, Outcome, Says, nothing
 from .workers import OnOutcome, Workers
 
 if TYPE_CHECKING:
@@ -129,12 +129,16 @@ class Trying:
             )
         return firsts
 
-    def run(self, results: Results) -> bool:
+    def run(self, results: Results, after_each: Callable[[], None] = nothing) -> bool:
         """Tries each different state of the shard that has no outcome yet; returns whether it
         tried all."""
 
+        def keep(number: int, outcome: Outcome) -> None:
+            results.outcomes[number] = outcome
+            after_each()
+
         left = self.wanted(results) - set(results.outcomes)
-        self.try_states(left, results.outcomes.__setitem__)
+        self.try_states(left, keep)
         return left <= set(results.outcomes)
 
 

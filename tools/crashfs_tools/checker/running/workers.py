@@ -94,9 +94,10 @@ class Workers:
 
     def run(self, wanted: Set[int], says_of: Dict[int, int]) -> None:
         """Runs the command in each wanted state; the first fault ends it all."""
-        shares = [sorted(wanted)[place :: self.jobs] for place in range(self.jobs)]
-        for share in filter(None, shares):
-            self.start(share, says_of)
+        ordered = sorted(wanted)
+        jobs = min(self.jobs, len(ordered))
+        for place in range(jobs):
+            self.start(ordered[place::jobs], says_of)
         poll = select.poll()
         left = {worker.pipe: worker for worker in self.workers}
         for pipe in left:

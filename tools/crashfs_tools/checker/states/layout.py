@@ -14,6 +14,7 @@ from crashfs_tools.common.removal import remove_tree
 from crashfs_tools.common.program import Crashfs, ProgramFault, top_of
 
 from .plan import Planned
+from .rewriting import PIECE_BYTES, has_bytes, write_at
 
 NEW_FILE = os.O_WRONLY | os.O_CREAT | os.O_EXCL | os.O_CLOEXEC
 # A directory's mode while it is filled.
@@ -108,6 +109,12 @@ def write_file(path: str, mode: int, data: bytes, at: int) -> None:
 
 
 def write_all(file: int, data: bytes) -> None:
-    left = memoryview(data)
-    while left:
-        left = left[os.write(file, left) :]
+    """Writes a new file's bytes; large runs of zeros become holes, as of a file that was grown."""
+    if len(data) <= PIECE_BYTES:
+        write_at(file, 0, data)
+        return
+    for place in range(0, len(data), PIECE_BYTES):
+        piece = data[place : place + PIECE_BYTES]
+        if has_bytes(piece):
+            write_at(file, place, piece)
+    os.ftruncate(file, len(data))
