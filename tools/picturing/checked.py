@@ -35,8 +35,7 @@ def checked(trace: str, command: Sequence[str]) -> Checked:
         if stop is not None:
             raise stop
         planned = next(iter(checking.all_planned()))
-        assert run.findings is not None
+        assert run.window is not None
         state = report.groups()[0].example.number
         files = program.tree_of([*planned.words, '--state', str(state)], guard.environment)
-    assert run.findings is not None
-    return Checked(run.findings, report, files)
+    return Checked(run.window.findings, report, files)

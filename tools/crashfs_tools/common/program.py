@@ -185,7 +185,7 @@ def program_beside(library: str) -> Optional[str]:
 
 class Streams(io.RawIOBase):
     """A program's standard output, as a stream. The end of what it prints as an error is kept
-    meanwhile: it would wait for ever if nobody read that."""
+    meanwhile: it would wait forever if nobody read that."""
 
     def __init__(self, output: int, errors: int) -> None:
         super().__init__()
