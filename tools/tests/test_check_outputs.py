@@ -9,8 +9,8 @@ import unittest
 from crashfs_tools.checker.running.read_results import read_json
 from crashfs_tools.checker.states.layout import lay_out
 from crashfs_tools.checker.states.rewriting import rewrite
-from crashfs_tools.common.archive import Member
 from crashfs_tools.common.command import Refused, write_whole
+from crashfs_tools.common.entry import Entry
 
 from .support import EXAMPLES, InFolder
 from .test_check_command import InStore
@@ -156,8 +156,8 @@ class Sparse(InFolder):
         return os.stat(path).st_blocks * 512
 
     def test_zeros_of_a_large_file_take_no_place(self):
-        root = Member('', 0o755, 'u', 'u', None)
-        file = Member('f', 0o644, 'u', 'u', self.DATA)
+        root = '', Entry('u', 'u', 0o755, None)
+        file = 'f', Entry('u', 'u', 0o644, self.DATA)
         lay_out(self.path('tree'), [root, file])
         with open(self.path('tree', 'f'), 'rb') as laid:
             self.assertEqual(laid.read(), self.DATA)

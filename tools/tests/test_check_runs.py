@@ -257,8 +257,10 @@ class Archives(InStore):
                 0o755,
             )
             ran = self.run_tool('crashfs-check', '--crashfs', cut, self.good, '--', 'true')
-            self.assertEqual(ran.returncode, 3, ran.stdout)
-            self.assertIn('(stopped by a fault)', ran.stdout)
+            # The trees that are tried first are shorter, and whole unless the status says more.
+            in_the_middle = end == 'exit 0'
+            self.assertEqual(ran.returncode, 3 if in_the_middle else 2, ran.stdout)
+            self.assertEqual('(stopped by a fault)' in ran.stdout, in_the_middle)
             self.assertIn(f'crashfs-check: crashfs tar {told}', ran.stderr)
 
     def test_a_program_may_write_its_archive_to_the_end(self):
