@@ -121,6 +121,14 @@ class Rooms(unittest.TestCase):
                 allowed = other in ('', room) or other in ROOMS.get(room, set())
                 self.assertTrue(allowed, f'{name} of {room} imports from {other}')
 
+    def test_each_class_has_a_name_of_its_own(self) -> None:
+        named: Dict[str, List[str]] = {}
+        for name, path in modules().items():
+            for node in ast.walk(ast.parse(path.read_text('utf-8'))):
+                if isinstance(node, ast.ClassDef):
+                    named.setdefault(node.name, []).append(name)
+        self.assertEqual({name: where for name, where in named.items() if len(where) > 1}, {})
+
     def test_no_import_goes_in_a_circle(self) -> None:
         self.assertEqual(circle(self.imports()), [])
 

@@ -10,7 +10,7 @@ from __future__ import annotations
 from typing import Dict, FrozenSet, Iterator, List, NamedTuple, Optional, Set, Tuple
 
 from .contents import Contents
-from .micro import ChangeSize, LinkEntry, MicroOperation
+from .micro import ChangeSize, LinkEntry, Micro
 from .order import Order
 from .states import change_nodes
 from .trace import Node, Reading
@@ -101,7 +101,7 @@ class Classes:
             return found._replace(names=self.renamed(found.names, place, operation))
         return found._replace(says=found.says + 1)
 
-    def renamed(self, names: int, place: int, operation: MicroOperation) -> int:
+    def renamed(self, names: int, place: int, operation: Micro) -> int:
         key = names, place
         if key not in self._renamed:
             changed = dict(self.names[names])

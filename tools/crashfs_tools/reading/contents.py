@@ -4,7 +4,7 @@ from __future__ import annotations
 
 from typing import Dict, List, NamedTuple, Tuple
 
-from .micro import ChangeSize, MicroOperation, Rights, SetRights, WriteBlock
+from .micro import ChangeSize, Micro, Rights, SetRights, WriteBlock
 from .trace import Reading
 
 # The number of a block of zeros. Blocks at a file's end that are zero are left out.
@@ -60,7 +60,7 @@ class Contents:
             self._changed[key] = self.number(self.after(self.contents[content], operation))
         return self._changed[key]
 
-    def after(self, content: Content, operation: MicroOperation) -> Content:
+    def after(self, content: Content, operation: Micro) -> Content:
         if isinstance(operation, SetRights):
             return content._replace(rights=operation.rights)
         if isinstance(operation, ChangeSize):

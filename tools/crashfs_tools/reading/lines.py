@@ -69,7 +69,7 @@ class Line:
         return bytes.fromhex(self.fields['bytes'])
 
 
-class Lines:
+class LineJudge:
     """Judges line after line. The version is that of the header."""
 
     def __init__(self) -> None:

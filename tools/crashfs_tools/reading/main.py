@@ -9,7 +9,7 @@ from typing import Dict, List, Union
 
 from .faults import ReadingFault
 from .listing import json_listing, listing
-from .plan import Plan, different, file_sets, lost_sets, plan_of, read_picks
+from .plan import StateList, different, file_sets, lost_sets, plan_of, read_picks
 from .trace import read
 
 FLAGS = {
@@ -98,7 +98,7 @@ def file_bytes(path: str) -> bytes:
         raise ReadingFault(f'{path}: cannot read') from error
 
 
-def write_archive(plan: Plan, options: Options) -> None:
+def write_archive(plan: StateList, options: Options) -> None:
     # `list` begins faster without tarfile.
     from .archive import write_changes, write_state, write_states
 

@@ -10,10 +10,10 @@ from .micro import (
     CreateEntry,
     DeleteEntry,
     LinkEntry,
-    MicroOperation,
-    Say,
+    Micro,
+    Acknowledgement,
     SetRights,
-    Sync,
+    SyncPoint,
     WriteBlock,
 )
 from .names import parent
@@ -22,7 +22,7 @@ from .trace import Reading
 Mark = Tuple[object, ...]
 
 
-def same_thing(operation: MicroOperation) -> Iterator[Mark]:
+def same_thing(operation: Micro) -> Iterator[Mark]:
     """What no two micro-operations change out of order: a block, a size, a file's rights (P1, P7),
     and a path (P2)."""
     if isinstance(operation, WriteBlock):
@@ -35,10 +35,10 @@ def same_thing(operation: MicroOperation) -> Iterator[Mark]:
         yield 'path', path
 
 
-def marks_left(operation: MicroOperation) -> Iterator[Mark]:
+def marks_left(operation: Micro) -> Iterator[Mark]:
     """What a micro-operation is found by when a later one asks."""
     yield from same_thing(operation)
-    if isinstance(operation, Say):
+    if isinstance(operation, Acknowledgement):
         yield ('say',)
     if operation.touched:
         yield ('entry',)
@@ -48,12 +48,12 @@ def marks_left(operation: MicroOperation) -> Iterator[Mark]:
         yield 'made', operation.made
 
 
-def marks_asked(operation: MicroOperation, reading: Reading, profile: str) -> Iterator[Mark]:
+def marks_asked(operation: Micro, reading: Reading, profile: str) -> Iterator[Mark]:
     """What a micro-operation asks for: it needs all earlier ones with such a mark."""
     yield from same_thing(operation)
     if isinstance(operation, DeleteEntry) and operation.is_directory:
         yield 'entry of', operation.touched[0]  # P4
-    if isinstance(operation, Say) or reading.version == 3:
+    if isinstance(operation, Acknowledgement) or reading.version == 3:
         yield ('say',)  # P6, P9
     if operation.touched and profile == 'ordered':
         yield ('entry',)  # P8
@@ -133,7 +133,7 @@ def inverse(needs: List[int]) -> List[int]:
     return found
 
 
-def synced_sets(operations: List[MicroOperation], syncs: List[Sync]) -> List[int]:
+def synced_sets(operations: List[Micro], syncs: List[SyncPoint]) -> List[int]:
     """For each place what the sync points before it cover."""
     covered = [0] * (len(operations) + 1)
     for sync in syncs:

@@ -11,7 +11,7 @@ from .micro import (
     CreateEntry,
     DeleteEntry,
     LinkEntry,
-    MicroOperation,
+    Micro,
     MoveEntry,
     Rights,
     SetRights,
@@ -79,16 +79,14 @@ class States:
 
     def make_file(self, number: int, places: int) -> Tuple[Rights, bytes]:
         rights = self.reading.made_rights[number]
-        operations: List[MicroOperation] = [
-            self.reading.operations[place] for place in bits(places)
-        ]
+        operations: List[Micro] = [self.reading.operations[place] for place in bits(places)]
         for operation in operations:
             if isinstance(operation, SetRights):
                 rights = operation.rights
         return rights, file_bytes(self.reading.start_data.get(number, b''), operations)
 
 
-def change_nodes(nodes: Dict[str, Node], operation: MicroOperation) -> None:
+def change_nodes(nodes: Dict[str, Node], operation: Micro) -> None:
     if isinstance(operation, CreateEntry):
         made = operation.made
         nodes[operation.touched[0]] = operation.rights if made is None else made
@@ -102,7 +100,7 @@ def change_nodes(nodes: Dict[str, Node], operation: MicroOperation) -> None:
         nodes[operation.directory] = operation.rights
 
 
-def file_bytes(start: bytes, operations: List[MicroOperation]) -> bytes:
+def file_bytes(start: bytes, operations: List[Micro]) -> bytes:
     """Bytes past the size are hidden until a size covers them; a size that shrinks drops them."""
     data, size = bytearray(start), len(start)
     for operation in operations:

@@ -5,7 +5,7 @@ from __future__ import annotations
 from typing import Dict, List, Optional, Union
 
 from .faults import LineFault, ReadingFault, syntax
-from .lines import Line, Lines
+from .lines import Line, LineJudge
 from .micro import (
     ChangeSize,
     CreateEntry,
@@ -13,13 +13,13 @@ from .micro import (
     DirectorySync,
     FileSync,
     LinkEntry,
-    MicroOperation,
+    Micro,
     MoveEntry,
     RangeSync,
     Rights,
-    Say,
+    Acknowledgement,
     SetRights,
-    Sync,
+    SyncPoint,
     WriteBlock,
 )
 from .names import Names
@@ -43,8 +43,8 @@ class Reading:
         # The rights with which each file was made, and those that each file and directory has now.
         self.made_rights: Dict[int, Rights] = {}
         self.rights: Dict[Union[int, str], Rights] = {}
-        self.operations: List[MicroOperation] = []
-        self.syncs: List[Sync] = []
+        self.operations: List[Micro] = []
+        self.syncs: List[SyncPoint] = []
         self.names = Names()
 
     def take(self, line: Line) -> None:
@@ -64,7 +64,7 @@ class Reading:
         self.block_size = line.fields.get('block', self.block_size)
         self.start['/'] = self.rights['/'] = line.rights
 
-    def add_change(self, operation: MicroOperation) -> None:
+    def add_change(self, operation: Micro) -> None:
         """Adds a change of a file, with the oldest of the file's paths."""
         assert operation.file is not None
         operation.path = self.names.paths[operation.file][0]
@@ -167,9 +167,9 @@ class Reading:
             self.operations.append(SetRights(None, key, rights))
 
     def op_say(self, line: Line) -> None:
-        self.operations.append(Say())
+        self.operations.append(Acknowledgement())
 
-    # Sync points
+    # SyncPoint points
 
     def op_fsync(self, line: Line) -> None:
         number: Optional[int] = self.names.nodes[line.fields['path']]
@@ -189,7 +189,7 @@ class Reading:
         )
 
     def op_sync(self, line: Line) -> None:
-        self.syncs.append(Sync(len(self.operations)))
+        self.syncs.append(SyncPoint(len(self.operations)))
 
 
 def read(data: bytes) -> Reading:
@@ -198,7 +198,7 @@ def read(data: bytes) -> Reading:
         text = data.decode('utf-8')
     except UnicodeDecodeError as error:
         raise ReadingFault('trace: NotText') from error
-    reading, lines = Reading(), Lines()
+    reading, lines = Reading(), LineJudge()
     for number, line in enumerate(text.split('\n'), 1):
         if line.strip(BLANKS):
             try:
