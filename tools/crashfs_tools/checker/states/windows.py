@@ -35,7 +35,7 @@ class CutOff:
 
 
 @dataclass
-class Window:
+class PlannedWindow:
     """A plan, the step that it ends before, and the places in it that no sync has made durable.
     needs has what each micro-operation needs, also of those behind the end that were asked for."""
 
@@ -77,7 +77,7 @@ class Windows:
             if os.path.exists(path):
                 os.unlink(path)
 
-    def next(self, steps: Steps, last: Window, states: int) -> Window:
+    def next(self, steps: Steps, last: PlannedWindow, states: int) -> PlannedWindow:
         """The window after one; if what still was pending leaves it no room, it begins at the
         end of that."""
         begin = self.next_begin(last)
@@ -90,7 +90,7 @@ class Windows:
         self.note_cut_off(last, self.session.places[begin])
         return window
 
-    def window(self, steps: Steps, states: int) -> Window:
+    def window(self, steps: Steps, states: int) -> PlannedWindow:
         """The longest window from where the steps are."""
         path = os.path.join(self.planner.guard.directory, f'window-{states}.trace')
         end = steps.end_within(self.largest)
@@ -111,7 +111,7 @@ class Windows:
                 end = steps.end_within(fitting - max(1, fitting // FEWER))
                 continue
             operations = planned.plan.operations
-            return Window(
+            return PlannedWindow(
                 planned,
                 end,
                 [
@@ -141,7 +141,7 @@ class Windows:
                 return place
         return len(needs)
 
-    def next_begin(self, last: Window) -> int:
+    def next_begin(self, last: PlannedWindow) -> int:
         """The step of the first pending micro-operation, but no earlier than half a window on."""
         places, plan = self.session.places, last.planned.plan
         begin = last.planned.before.operations
@@ -152,7 +152,7 @@ class Windows:
             step += 1
         return step if self.passes(last, step) else last.end
 
-    def passes(self, last: Window, step: int) -> bool:
+    def passes(self, last: PlannedWindow, step: int) -> bool:
         """Whether a window from a step ends behind the last one. What it needs is what that one
         needs, without what is durable where it begins."""
         places = self.session.places
@@ -163,7 +163,7 @@ class Windows:
             fitting == len(needs) or places[step] + fitting >= places[last.end + 1]
         )
 
-    def go_to(self, steps: Steps, last: Window, step: int) -> None:
+    def go_to(self, steps: Steps, last: PlannedWindow, step: int) -> None:
         """Goes to a step, with the tree that the program gives of its moment."""
         prefix = self.session.places[step] - last.planned.before.operations
         words = [*last.planned.words, '--state', str(prefix)]
@@ -175,7 +175,7 @@ class Windows:
                 'is not that of these tools, of which one is wrong'
             )
 
-    def note_cut_off(self, last: Window, begin: int) -> None:
+    def note_cut_off(self, last: PlannedWindow, begin: int) -> None:
         operations = last.planned.plan.operations
         for place in last.pending:
             if operations[place].place < begin:
