@@ -6,7 +6,7 @@ import sys
 import unittest
 from unittest import mock
 
-from crashfs_tools.common import limits, own_faults
+from crashfs_tools.common import command, limits
 from crashfs_tools.recorder import main
 from crashfs_tools.recorder.mapped_files import MAPPED
 from crashfs_tools.common.trace import Start
@@ -67,7 +67,7 @@ class WithoutStrace(InRecordings):
                 '(CRASHFS_TRACEBACK=1 shows where)',
             ),
         )
-        with mock.patch.dict(os.environ, {own_faults.VARIABLE: '1'}):
+        with mock.patch.dict(os.environ, {command.TRACEBACK: '1'}):
             status, shown = self.fails_in(place, KeyError('ours'), *words)
         self.assertIn('Traceback', shown)
         place = 'crashfs_tools.recorder.summary.summary'

@@ -7,11 +7,8 @@ import os
 import sys
 import traceback
 
-from .command import print_line
+from .command import TRACEBACK, print_line
 from .printable import print_utf8, printable
-
-# Set to anything, it shows the traceback of a fault of a tool's own.
-VARIABLE = 'CRASHFS_TRACEBACK'
 
 
 def prepare_standard_streams() -> None:
@@ -31,8 +28,8 @@ def prepare_standard_streams() -> None:
 
 def print_own_fault(program: str, error: Exception, result: str) -> None:
     """Prints that an error is a fault of the program's own, and what came of it."""
-    is_asked = bool(os.environ.get(VARIABLE))
-    hint = '' if is_asked else f' ({VARIABLE}=1 shows where)'
+    is_asked = bool(os.environ.get(TRACEBACK))
+    hint = '' if is_asked else f' ({TRACEBACK}=1 shows where)'
     text = f'an error of its own, {type(error).__name__}: {error}; {result}{hint}'
     print_line(program, printable(text))
     if is_asked:

@@ -149,12 +149,8 @@ def record(options: RecordOptions) -> int:
 
 def write_trace(options: RecordOptions, recording: Recording) -> None:
     """Writes the trace; only for its owner if a file that it has is not for everybody."""
-    before = os.umask(0o077) if is_private(recording.trace) else None
-    try:
-        write_whole(options.out, (line + '\n' for line in recording.trace.lines()))
-    finally:
-        if before is not None:
-            os.umask(before)
+    mode = 0o600 if is_private(recording.trace) else 0o666
+    write_whole(options.out, (line + '\n' for line in recording.trace.lines()), mode)
 
 
 def finish(options: RecordOptions, recording: Recording, before: Scan, run: RecordedRun) -> int:
