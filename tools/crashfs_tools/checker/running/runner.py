@@ -235,10 +235,13 @@ class Checker:
                 ready = waiting.wait(min(left, self.timeout - passed, TURN_SECONDS))
                 if self.life in ready:
                     raise Over
-                if waiting.has_ended(ready):
-                    return End.EXITED
+                has_ended = waiting.has_ended(ready)
+                if has_ended:
+                    output.tail()
                 if output.is_flood:
                     return End.FLOODED
+                if has_ended:
+                    return End.EXITED
         finally:
             waiting.close()
 
