@@ -11,17 +11,18 @@ import unittest
 from collections import Counter
 from pathlib import Path
 from typing import Dict, List, Set
+from unittest import mock
 
 from crashfs_tools.common.command import Refused
 from crashfs_tools.common.entry import Entries, Entry
-from crashfs_tools.common.trace import Trace
+from crashfs_tools.common.trace import KINDS, Trace
 from crashfs_tools.common.trace_read import read_trace, replay
 from crashfs_tools.disks import disk, filesystems, images
-from crashfs_tools.disks.levers import Lever, pulls
+from crashfs_tools.disks.levers import Lever, Pull, pulls
 from crashfs_tools.disks.moments import Moment, moments
 from crashfs_tools.disks.owners import FIRST_UNKNOWN, Owners
-from crashfs_tools.disks.pool import Crashes
-from crashfs_tools.disks.replay import Replay, lay_out_start
+from crashfs_tools.disks.pool import DiskPool
+from crashfs_tools.disks.replay import CALLS, Replay, lay_out_start
 from crashfs_tools.reading import plan_of, read
 from crashfs_tools.reading.order import Order
 
@@ -99,12 +100,10 @@ class Moments(unittest.TestCase):
         self.assertEqual(len(found), len(trace.operations) + 1 - 3)
 
     def test_a_lever_is_pulled_as_often_as_it_makes_sense(self) -> None:
-        self.assertEqual(
-            list(pulls(Lever.ONE, 3)), [(Lever.ONE, 0), (Lever.ONE, 1), (Lever.ONE, 2)]
-        )
+        self.assertEqual(list(pulls(Lever.ONE, 3)), [Pull(Lever.ONE, place) for place in range(3)])
         self.assertEqual(list(pulls(Lever.ONE, 1)), [])
         self.assertEqual(list(pulls(Lever.BYTES, 0)), [])
-        self.assertEqual(list(pulls(Lever.LOG, 0)), [(Lever.LOG, None)])
+        self.assertEqual(list(pulls(Lever.LOG, 0)), [Pull(Lever.LOG)])
 
 
 class Replays(InFolder):
@@ -134,6 +133,15 @@ class Replays(InFolder):
         tree = self.replayed(read_trace(text))
         self.assertEqual({entry.owner for entry in tree.values()}, {'no such user'})
         self.assertEqual(os.stat(self.path('d/c')).st_uid, FIRST_UNKNOWN)
+
+    def test_a_number_with_two_names_is_read_as_the_first(self) -> None:
+        owners = Owners(read_trace(ALL_KINDS))
+        with mock.patch.object(owners.users, 'known', return_value=0):
+            self.assertEqual(owners.users.number('toor'), 0)
+        self.assertEqual(owners.users.name(0), 'root')
+
+    def test_each_kind_of_operation_has_its_call(self) -> None:
+        self.assertEqual(set(CALLS), set(KINDS.values()))
 
 
 class Digests(unittest.TestCase):
@@ -174,7 +182,7 @@ class Names(unittest.TestCase):
 class Disks(InFolder):
     def test_every_disk_of_ext4_is_an_allowed_set(self) -> None:
         trace = read_trace(CONFIG.read_text('utf-8'))
-        made = Crashes([filesystems.KNOWN['ext4']], trace, self.path(''))
+        made = DiskPool([filesystems.KNOWN['ext4']], trace, self.path(''))
         steps: List[int] = []
         seen: List[str] = []
 
@@ -199,7 +207,7 @@ class Disks(InFolder):
                 '{"op":"say","text":"renamed"}',
             ]
         )
-        made = Crashes([filesystems.KNOWN['ext4']], read_trace(text), self.path(''))
+        made = DiskPool([filesystems.KNOWN['ext4']], read_trace(text), self.path(''))
         trees = {
             crash.lever: '/d/g' in one.tree
             for one in made.disks(1, lambda *_: None)['ext4']
@@ -208,6 +216,24 @@ class Disks(InFolder):
         }
         self.assertEqual(trees[Lever.NOTHING], False)
         self.assertEqual(trees[Lever.LOG], True)
+
+    def test_a_lever_works_without_the_ones_before_it(self) -> None:
+        lines = [
+            *ALL_KINDS.splitlines()[:3],
+            '{"op":"write","path":"/d/f","offset":0,"text":"HELLO"}',
+        ]
+        pool = DiskPool(
+            [filesystems.KNOWN['ext4']],
+            read_trace('\n'.join(lines)),
+            self.path(''),
+            [Lever.BYTES],
+        )
+        found = [
+            (one.tree['/d/f'].data, crash.lever)
+            for one in pool.disks(1, lambda *_: None)['ext4']
+            for crash in one.crashes
+        ]
+        self.assertEqual(found, [(b'HELLO', Lever.BYTES)])
 
     def test_syncs_of_data_make_what_they_cover_durable(self) -> None:
         for sync in ('"offset":0,"length":9000', '"offset":4096,"length":4096', ''):
@@ -218,7 +244,7 @@ class Disks(InFolder):
                 '{"op":"say","text":"written"}',
             ]
             with self.subTest(sync):
-                crashes = Crashes(
+                crashes = DiskPool(
                     [filesystems.KNOWN['ext4']],
                     read_trace('\n'.join(lines)),
                     tempfile.mkdtemp(dir=self.path('')),
@@ -237,9 +263,9 @@ class Disks(InFolder):
             f'import sys; sys.path.insert(0, {str(TOOLS)!r})\n'
             'from crashfs_tools.common.trace_read import read_trace\n'
             'from crashfs_tools.disks.filesystems import KNOWN\n'
-            'from crashfs_tools.disks.pool import Crashes\n'
+            'from crashfs_tools.disks.pool import DiskPool\n'
             f'trace = read_trace(open({str(CONFIG)!r}).read())\n'
-            f'crashes = Crashes([KNOWN["ext4"]], trace, {self.path("")!r})\n'
+            f'crashes = DiskPool([KNOWN["ext4"]], trace, {self.path("")!r})\n'
             'crashes.disks(2, lambda done, of: print(done, flush=True))\n'
         )
         child = subprocess.Popen([sys.executable, '-c', program], stdout=subprocess.PIPE)

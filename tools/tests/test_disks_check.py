@@ -8,8 +8,16 @@ import shutil
 import signal
 import unittest
 from pathlib import Path
+from unittest import mock
 
-from crashfs_tools.checker.findings.on_disks import OUTSIDE, OnDisk, Sightings, sentence
+from crashfs_tools.checker.findings import disk_search
+from crashfs_tools.checker.findings.sightings import (
+    OUTSIDE,
+    DiskFailure,
+    Explanation,
+    Sightings,
+    sentence,
+)
 from crashfs_tools.checker.running.runner import BAD, Outcome
 from crashfs_tools.common.entry import Entry
 from crashfs_tools.disks.disk import Crash
@@ -58,12 +66,28 @@ class Sentences(unittest.TestCase):
 
     def test_a_tree_on_a_disk_is_shown_with_its_first_paths(self) -> None:
         tree = {f'/{number:02}': Entry('u', 'g', 0o644, bytearray(3)) for number in range(14)}
-        one = OnDisk(Outcome(BAD, 'lost: a'), [1, 2], {'ext4': FIRST}, OUTSIDE, tree)
+        one = DiskFailure(
+            Outcome(BAD, 'lost: a'), [1, 2], {'ext4': FIRST}, tree, Explanation(OUTSIDE)
+        )
         where, why, paths = one.lines()
         self.assertEqual(why, 'no crash state has this tree')
         self.assertEqual(where, 'seen on ext4 (after line 9, nothing more written), says 1 or 2')
         self.assertTrue(paths.startswith('/00 (3 bytes), /01 (3 bytes)'), paths)
         self.assertTrue(paths.endswith('/11 (3 bytes) and 2 more'), paths)
+
+
+class Explanations(unittest.TestCase):
+    def test_a_search_that_was_cut_off_says_how_many_states_it_saw(self) -> None:
+        trace = (CONFIG / 'config.trace').read_bytes()
+        with mock.patch.object(disk_search, 'MOST_STATES', 3):
+            result = disk_search.search(trace, {('none', 0)})
+        self.assertEqual(
+            result.explanation(('none', 0)).text,
+            'none of the 3 crash states that were looked through has this tree',
+        )
+        self.assertEqual(
+            disk_search.search(trace, {('none', 0)}).explanation(('none', 0)), Explanation(OUTSIDE)
+        )
 
 
 class Refusals(InStore):

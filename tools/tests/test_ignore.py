@@ -33,6 +33,13 @@ CASES = [
     (['d', '!d/a'], '/d/a', True),
     (['\\!x'], '/!x', True),
     (['a.b'], '/axb', False),
+    (['a[!x]b'], '/a/b', False),
+    (['x[a/b]y'], '/x/y', False),
+    (['[[:digit:]]x'], '/7x', True),
+    (['[[:digit:]]x'], '/ax', False),
+    (['[]a]x'], '/]x', True),
+    (['[a'], '/[a', True),
+    (['[]'], '/[]', True),
     ([], '/x', False),
 ]
 
@@ -42,6 +49,11 @@ class Patterns(unittest.TestCase):
         for globs, path, wanted in CASES:
             with self.subTest(f'{globs} {path}'):
                 self.assertEqual(Ignore(globs)(path), wanted)
+
+    def test_a_set_that_has_no_meaning_is_refused(self):
+        for glob in ('[z-a]', 'x[b-a]y'):
+            with self.subTest(glob), self.assertRaisesRegex(ValueError, 'is no set of letters'):
+                Ignore([glob])
 
 
 if __name__ == '__main__':

@@ -274,7 +274,7 @@ class Run:
         if self.options.nested:
             self.report.recoveries += self.nested.run(trying, window.findings)
         if self.options.disks is not None:
-            from crashfs_tools.checker.findings.on_disks import sightings_of
+            from crashfs_tools.checker.findings.disk_search import sightings_of
 
             self.report.sightings = sightings_of(trying, window.findings.by_state)
 

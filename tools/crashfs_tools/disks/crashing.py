@@ -15,7 +15,7 @@ from crashfs_tools.common.trace import Trace
 from . import images
 from .disk import Crash, read_tree
 from .filesystems import FileSystem
-from .levers import Lever, pull, pulls
+from .levers import Lever, Pull, pull, pulls
 from .moments import Moment, moments
 from .owners import Owners
 from .replay import Replay, lay_out_start
@@ -24,7 +24,7 @@ from .replay import Replay, lay_out_start
 DIRECTORY, OTHER = 'd', 'other'
 
 
-class Crashing:
+class CrashMaker:
     """One file system, and a folder for its images; mounts are those of this process."""
 
     def __init__(self, filesystem: FileSystem, trace: Trace, folder: str) -> None:
@@ -53,13 +53,15 @@ class Crashing:
 
     def crashes(self, moment: Moment, levers: Sequence[Lever]) -> Iterator[Tuple[Entries, Crash]]:
         """The trees that crashes at a moment leave, one for each lever and file."""
-        unsynced = 0
+        unsynced = self.replay(moment, Pull(Lever.NOTHING))
+        if Lever.NOTHING in levers:
+            yield self.tree(), Crash(moment, Lever.NOTHING)
         for lever in levers:
-            for one, place in pulls(lever, unsynced):
-                unsynced = self.replay(moment, one, place)
-                yield self.tree(), Crash(moment, one)
+            for one in pulls(lever, unsynced) if lever is not Lever.NOTHING else ():
+                self.replay(moment, one)
+                yield self.tree(), Crash(moment, lever)
 
-    def replay(self, moment: Moment, lever: Lever, place: object) -> int:
+    def replay(self, moment: Moment, one: Pull) -> int:
         """Makes the session up to a moment, pulls a lever and copies the disk; returns how many
         files had unsynced bytes."""
         disk = self.file('disk')
@@ -69,8 +71,7 @@ class Crashing:
                 for operation in self.trace.operations[: moment.done]:
                     replay.do(operation)
                 unsynced = len(replay.unsynced)
-                assert place is None or isinstance(place, int)
-                pull(replay, lever, place, os.path.join(top, OTHER))
+                pull(replay, one, os.path.join(top, OTHER))
                 images.copy(disk, self.file('copy'))
         return unsynced
 

@@ -21,6 +21,11 @@ class Crash(NamedTuple):
     moment: Moment
     lever: Lever
 
+    @property
+    def rank(self) -> Tuple[int, int]:
+        """Crashes for which the kernel wrote less by itself come first, then earlier ones."""
+        return self.lever.rank, self.moment.done
+
 
 @dataclass
 class Disk:

@@ -11,6 +11,10 @@ from crashfs_tools.common.command import Refused
 
 LOOP_CONTROL = '/dev/loop-control'
 MEBIBYTE = 1 << 20
+# So many images of each file system a process has at once: the start, the disk, and its copy.
+IMAGES = 3
+# The programs that images are made and mounted by, besides `mkfs`.
+PROGRAMS = ('mount', 'fallocate')
 EXT_BLOCKS = ('-q', '-F', '-b', '4096')
 LAZY = ('-E', 'lazy_itable_init=0,lazy_journal_init=0')
 
@@ -76,6 +80,7 @@ def lacking(filesystems: Sequence[FileSystem]) -> Optional[str]:
     if not os.path.exists(LOOP_CONTROL):
         return f'it needs loop devices ({LOOP_CONTROL} is missing)'
     for one in filesystems:
-        if shutil.which(one.program) is None:
-            return f'{one.name} needs {one.program}, which is not installed'
+        for program in (one.program, *one.repair[:1], *PROGRAMS):
+            if shutil.which(program) is None:
+                return f'{one.name} needs {program}, which is not installed'
     return None

@@ -4,7 +4,7 @@ from __future__ import annotations
 
 import os
 from enum import Enum
-from typing import Iterator, List, Optional, Tuple
+from typing import Iterator, NamedTuple, Optional
 
 from .replay import Replay, sync_directory
 
@@ -19,29 +19,33 @@ class Lever(Enum):
     ONE = 'the bytes of one file and the log written'
     DIRECTORY = 'the directory synced'
 
-    @staticmethod
-    def all() -> List[Lever]:
-        return list(Lever)
+    @property
+    def rank(self) -> int:
+        """Its place in the order of the levers."""
+        return list(Lever).index(self)
 
 
-Pull = Tuple[Lever, Optional[int]]
+class Pull(NamedTuple):
+    """A lever; for ONE also the file's place among those with unsynced bytes."""
+
+    lever: Lever
+    place: Optional[int] = None
 
 
 def pulls(lever: Lever, unsynced: int) -> Iterator[Pull]:
-    """A lever as often as it makes sense with so many files that have unsynced bytes: for ONE
-    each file's place among them."""
+    """A lever as often as it makes sense with so many files that have unsynced bytes."""
     if lever is Lever.ONE:
-        yield from ((lever, place) for place in range(unsynced) if unsynced > 1)
+        yield from (Pull(lever, place) for place in range(unsynced) if unsynced > 1)
     elif unsynced or lever not in (Lever.BYTES, Lever.BOTH):
-        yield lever, None
+        yield Pull(lever)
 
 
-def pull(replay: Replay, lever: Lever, place: Optional[int], other: str) -> None:
+def pull(replay: Replay, one: Pull, other: str) -> None:
     """Moves what the kernel has to the disk. other is the path of a file outside the session's
     directory, whose fsync writes the log."""
-    files = list(replay.unsynced)
-    if lever is Lever.ONE and place is not None:
-        files = files[place : place + 1]
+    lever, files = one.lever, list(replay.unsynced)
+    if one.place is not None:
+        files = files[one.place : one.place + 1]
     if lever in (Lever.BYTES, Lever.BOTH, Lever.ONE):
         for inode in files:
             replay.write_back(inode)

@@ -23,7 +23,7 @@ class Numbers:
     def number(self, name: str) -> int:
         if name not in self.numbers:
             self.numbers[name] = self.known(name)
-            self.names[self.numbers[name]] = name
+            self.names.setdefault(self.numbers[name], name)
         return self.numbers[name]
 
     def known(self, name: str) -> int:
@@ -33,7 +33,7 @@ class Numbers:
             return FIRST_UNKNOWN + len(self.numbers)
 
     def name(self, number: int) -> str:
-        """The name that was given this number; else the number as a text."""
+        """The first name that was given this number; else the number as a text."""
         return self.names.get(number, str(number))
 
 

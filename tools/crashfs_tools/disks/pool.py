@@ -5,6 +5,7 @@ from __future__ import annotations
 import ctypes
 import multiprocessing
 import os
+import resource
 import signal
 from typing import Callable, Dict, Iterator, List, NamedTuple, Sequence, Tuple
 
@@ -12,7 +13,7 @@ from crashfs_tools.common.entry import Entries
 from crashfs_tools.common.trace import Trace
 
 from . import images
-from .crashing import Crashing
+from .crashing import CrashMaker
 from .disk import Crash, Disk, joined
 from .filesystems import FileSystem
 from .levers import Lever
@@ -29,8 +30,8 @@ class Task(NamedTuple):
     moment: Moment
 
 
-class Crashes:
-    """The crashes of a session on file systems. folder is for their images."""
+class DiskPool:
+    """The disks of a session on file systems. folder is for their images."""
 
     def __init__(
         self,
@@ -39,25 +40,23 @@ class Crashes:
         folder: str,
         levers: Sequence[Lever] = tuple(Lever),
     ) -> None:
-        self.crashing = {one.name: Crashing(one, trace, folder) for one in filesystems}
+        self.makers = {one.name: CrashMaker(one, trace, folder) for one in filesystems}
         self.levers = levers
 
     def tasks(self) -> List[Task]:
         return [
-            Task(name, moment)
-            for name, crashing in self.crashing.items()
-            for moment in crashing.moments()
+            Task(name, moment) for name, maker in self.makers.items() for moment in maker.moments()
         ]
 
     def disks(self, jobs: int, on_step: Callable[[int, int], None]) -> Dict[str, List[Disk]]:
         """The different disks of each file system. on_step is called with how many of the tasks
         are done, and with how many there are."""
         tasks = self.tasks()
-        found: Dict[str, Found] = {name: [] for name in self.crashing}
+        found: Dict[str, Found] = {name: [] for name in self.makers}
         context = multiprocessing.get_context('fork')
-        pool = context.Pool(min(jobs, len(tasks)), begin_worker, (os.getpid(),))
+        pool = context.Pool(min(jobs, len(tasks)), begin_worker, (self, os.getpid()))
         try:
-            for count, (name, crashes) in enumerate(pool.imap_unordered(self.crash, tasks), 1):
+            for count, (name, crashes) in enumerate(pool.imap_unordered(crashes_of, tasks), 1):
                 found[name] += crashes
                 on_step(count, len(tasks))
         finally:
@@ -66,11 +65,23 @@ class Crashes:
         return {name: joined(in_order(crashes)) for name, crashes in found.items()}
 
     def crash(self, task: Task) -> Tuple[str, Found]:
-        return task.name, list(self.crashing[task.name].crashes(task.moment, self.levers))
+        return task.name, list(self.makers[task.name].crashes(task.moment, self.levers))
 
 
-def begin_worker(parent: int) -> None:
-    """A worker ends with its parent, hears no Ctrl-C, and has its mounts for itself."""
+# The pool of this worker: it comes by the fork, and isn't sent with each task.
+OF_WORKER: List[DiskPool] = []
+
+
+def crashes_of(task: Task) -> Tuple[str, Found]:
+    return OF_WORKER[0].crash(task)
+
+
+def begin_worker(pool: DiskPool, parent: int) -> None:
+    """A worker ends with its parent, hears no Ctrl-C, has its mounts for itself, and may open as
+    many files as the system lets it."""
+    OF_WORKER[:] = [pool]
+    _, most = resource.getrlimit(resource.RLIMIT_NOFILE)
+    resource.setrlimit(resource.RLIMIT_NOFILE, (most, most))
     for number in (signal.SIGINT, signal.SIGHUP):
         signal.signal(number, signal.SIG_IGN)
     signal.signal(signal.SIGTERM, signal.SIG_DFL)
@@ -83,5 +94,4 @@ def begin_worker(parent: int) -> None:
 
 def in_order(found: Found) -> Iterator[Tuple[Entries, Crash]]:
     """The crashes by moment, and of one moment in the order of the levers."""
-    levers = list(Lever)
-    return iter(sorted(found, key=lambda one: (one[1].moment, levers.index(one[1].lever))))
+    return iter(sorted(found, key=lambda one: (one[1].moment, one[1].lever.rank)))

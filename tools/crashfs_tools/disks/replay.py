@@ -6,7 +6,7 @@ import ctypes
 import mmap
 import os
 from contextlib import contextmanager
-from typing import Dict, Iterator, List, Union
+from typing import Any, Callable, Dict, Iterator, List, Type, Union
 
 from crashfs_tools.common.trace import (
     Chmod,
@@ -89,7 +89,8 @@ class Replay:
         return self.files[inode]
 
     def do(self, operation: Operation) -> None:
-        getattr(self, type(operation).__name__.lower())(operation)
+        """Makes an operation."""
+        CALLS[type(operation)](self, operation)
 
     def creat(self, made: Creat) -> None:
         descriptor = os.open(self.path(made.path), NEW_FILE, made.mode)
@@ -151,7 +152,7 @@ class Replay:
             os.fsync(self.descriptor(one.path))
             self.unsynced.pop(os.stat(self.path(one.path)).st_ino, None)
 
-    def fsyncrange(self, one: FsyncRange) -> None:
+    def fsync_range(self, one: FsyncRange) -> None:
         """A sync of the whole file is an fdatasync; one of a part is made by msync, which syncs
         only the pages of the part."""
         descriptor = self.descriptor(one.path)
@@ -182,6 +183,24 @@ class Replay:
             SYNC_FILE_RANGE_WRITE_AND_WAIT,
         ):
             raise OSError(ctypes.get_errno(), os.strerror(ctypes.get_errno()))
+
+
+CALLS: Dict[Type[Any], Callable[[Replay, Any], None]] = {
+    Creat: Replay.creat,
+    Mkdir: Replay.mkdir,
+    Unlink: Replay.unlink,
+    Rmdir: Replay.rmdir,
+    Rename: Replay.rename,
+    Link: Replay.link,
+    Write: Replay.write,
+    Truncate: Replay.truncate,
+    Chmod: Replay.chmod,
+    Chown: Replay.chown,
+    Fsync: Replay.fsync,
+    FsyncRange: Replay.fsync_range,
+    Sync: Replay.sync,
+    Say: Replay.say,
+}
 
 
 def sync_directory(path: str) -> None:

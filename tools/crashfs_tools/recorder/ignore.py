@@ -24,22 +24,23 @@ class Rule:
         directories = body.endswith('/')
         body = body.rstrip('/')
         anchored = '/' in body
-        pattern = ('' if anchored else '(?:.*/)?') + expression(body.lstrip('/'))
+        pattern = ('' if anchored else '(?:.*/)?') + regex_of(body.lstrip('/'))
         return Rule(re.compile(pattern, re.S), takes_back, directories)
 
 
-def expression(glob: str) -> str:
-    """A pattern as a regular expression: `*` and `?` match no slash, `**` matches any."""
+def regex_of(glob: str) -> str:
+    """A pattern as a regular expression: `*`, `?` and sets match no slash, `**` matches any.
+    ValueError for a set that has no meaning, such as `[z-a]`."""
     found, place = '', 0
     while place < len(glob):
         rest = glob[place:]
         step = next((step for step in STEPS if rest.startswith(step)), None)
-        group = re.match(r'\[[!^]?\]?[^\]]*\]', rest)
+        chosen = SET.match(rest)
         if step is not None:
             found += STEPS[step]
-        elif group:
-            step = group[0]
-            found += '[' + re.sub('^[!^]', '^', step[1:-1]).replace('\\', '\\\\') + ']'
+        elif chosen:
+            step = chosen[0]
+            found += regex_of_set(glob, step)
         else:
             step = rest[:2] if rest[0] == '\\' and len(rest) > 1 else rest[0]
             found += re.escape(step[-1])
@@ -47,6 +48,30 @@ def expression(glob: str) -> str:
     return found
 
 
+def regex_of_set(glob: str, chosen: str) -> str:
+    """A set as a regular expression that matches no slash."""
+    body = NAMED.sub(lambda match: CLASSES[match[1]], chosen[1:-1].replace('\\', '\\\\'))
+    is_negative = body[:1] in ('!', '^')
+    regex = f'(?!/)[{"^" if is_negative else ""}{body[is_negative:]}]'
+    try:
+        re.compile(regex)
+    except re.error as error:
+        raise ValueError(f'{glob}: {chosen} is no set of letters') from error
+    return regex
+
+
+# A set of letters; a `]` right after its beginning belongs to it.
+SET = re.compile(r'\[[!^]?(?:\[:\w+:\]|.)(?:\[:\w+:\]|[^\]])*\]', re.S)
+CLASSES = {
+    'alnum': 'a-zA-Z0-9',
+    'alpha': 'a-zA-Z',
+    'digit': '0-9',
+    'lower': 'a-z',
+    'space': ' \\t\\n\\r\\f\\v',
+    'upper': 'A-Z',
+    'xdigit': '0-9a-fA-F',
+}
+NAMED = re.compile(rf'\[:({"|".join(CLASSES)}):\]')
 # The first that a pattern begins with counts.
 STEPS = {
     '/**/': '/(?:.*/)?',

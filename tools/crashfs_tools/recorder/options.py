@@ -11,7 +11,7 @@ from crashfs_tools.common.command import Refused, folder_of, found, parse
 from crashfs_tools.common.trace import BLOCK_SIZES, BLOCKS, PROFILES
 from crashfs_tools.common.version import version_of
 
-from .ignore import Ignore
+from .ignore import Ignore, Rule
 from .output_streams import SOCKETS, SayEach
 
 NAME = 'crashfs-record'
@@ -86,6 +86,7 @@ def add_what_is_recorded(made: argparse.ArgumentParser) -> None:
         '--ignore',
         metavar='GLOB',
         action='append',
+        type=glob,
         default=[],
         help='leave out files that match, by the rules of .gitignore (may be ' 'repeated)',
     )
@@ -164,6 +165,15 @@ def add_logs(made: argparse.ArgumentParser) -> None:
         dest='log_directory',
         help="with --from-log: DIR's path where the log was written",
     )
+
+
+def glob(text: str) -> str:
+    """A pattern of --ignore, as it is."""
+    try:
+        Rule.of(text)
+    except ValueError as error:
+        raise argparse.ArgumentTypeError(str(error)) from error
+    return text
 
 
 def descriptor(word: str) -> str:

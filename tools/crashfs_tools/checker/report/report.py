@@ -26,7 +26,7 @@ from crashfs_tools.common.trace_lines import TraceLine
 from .counts import StateCounts
 
 if TYPE_CHECKING:
-    from crashfs_tools.checker.findings.on_disks import Sightings
+    from crashfs_tools.checker.findings.sightings import Sightings
     from crashfs_tools.checker.findings.second_crashes import Recovery, SecondCrash
 
     from .drawing import Drawing
@@ -213,7 +213,9 @@ class Report:
             return []
         lines = [f'  {line}' for line in self.sightings.lines()]
         for one in self.sightings.further:
-            lines.append(f'  {cut(one.outcome.cause, CAUSE_WIDTH):<{CAUSE_WIDTH}} {one.where}')
+            lines.append(
+                f'  {cut(one.outcome.cause, CAUSE_WIDTH):<{CAUSE_WIDTH}} {one.explanation.where}'
+            )
             lines += [f'    {line}' for line in one.lines()]
         return lines
 
