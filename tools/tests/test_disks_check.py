@@ -8,6 +8,7 @@ import shutil
 import signal
 import unittest
 from pathlib import Path
+from typing import Set
 from unittest import mock
 
 from crashfs_tools.checker.findings import disk_search
@@ -102,6 +103,11 @@ class Refusals(InStore):
             self.assertIn(wanted, result.stderr)
 
 
+def images() -> Set[str]:
+    """The folders of images in memory."""
+    return {name for name in os.listdir('/dev/shm') if name.startswith('crashfs-disks-')}
+
+
 @needs_disks
 class OnDisks(InStore):
     def check_disks(self, trace: str, *command: str, more: str = 'ext4'):
@@ -153,18 +159,17 @@ class OnDisks(InStore):
         )
 
     def test_a_stop_leaves_no_mount_no_image_and_no_device(self) -> None:
-        before = set(os.listdir('/dev/shm'))
+        before = images()
         for number in (signal.SIGINT, signal.SIGKILL):
             child = self.start(
                 *('crashfs-check', '--crashfs', FAKE, '--disks', 'ext4'),
                 *(str(EXAMPLES / 'sqlite' / 'full.trace'), '--', 'true'),
             )
-            self.wait_until(
-                lambda: bool(set(os.listdir('/dev/shm')) - before), 'images are made', child
-            )
+            self.wait_until(lambda: bool(images() - before), 'images are made', child)
+            made = images() - before
             child.send_signal(number)
             child.communicate()
-            self.wait_until(lambda: set(os.listdir('/dev/shm')) <= before, 'the images are gone')
+            self.wait_until(lambda: not made & images(), 'the images are gone')
             self.assertEqual(mounted_below('crashfs-disks-'), [])
             self.wait_until(lambda: 'crashfs-disks-' not in loops(), 'the loop devices are free')
 

@@ -27,6 +27,8 @@ test "$*" = ci || exit 9
 mkdir -p crates/crashfs/out
 [ "$FAKE_BUILDS" = no ] || touch crates/crashfs/out/crashfs
 echo 'cs_names proved'
+# What runs beside it gets the time to begin.
+sleep 0.5
 [ -z "$FAKE_COUNTS" ] || echo "$FAKE_COUNTS"
 exit "$FAKE_STATUS"
 """

@@ -3,7 +3,9 @@
 from __future__ import annotations
 
 import unittest
+from concurrent.futures import ProcessPoolExecutor
 from functools import lru_cache
+from multiprocessing import get_context
 from pathlib import Path
 from typing import Dict
 from xml.dom import minidom
@@ -19,7 +21,9 @@ MOST_BYTES = 60_000
 
 @lru_cache(maxsize=1)
 def drawn() -> Dict[Path, str]:
-    return pictures()
+    """Draws in a process of its own: a check ends all children of its process."""
+    with ProcessPoolExecutor(1, get_context('fork')) as pool:
+        return pool.submit(pictures).result()
 
 
 @needs_sqlite

@@ -67,7 +67,7 @@ CHECK: List[Tuple[str, int, str]] = [
     ('--merge a -- true', 2, 'error: --merge goes with no COMMAND'),
     ('--merge none', 2, 'none: No such file or directory'),
     ('none -- true', 2, 'none: No such file or directory'),
-    ('tmp -- true', 2, 'tmp: Is a directory'),
+    ('tmp -- true', 2, 'tmp is no file'),
     ('TRACE -- no-such', 2, 'no-such: command not found'),
     ('TRACE -- /etc/passwd', 2, '/etc/passwd: not executable'),
     ('--json none/r TRACE -- true', 2, 'none/r: its directory is not there'),
