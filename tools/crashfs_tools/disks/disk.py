@@ -77,7 +77,7 @@ def digest_of(tree: Entries) -> str:
 def pieces_of(path: str, entry: Entry) -> Iterator[bytes]:
     yield os.fsencode(path)
     yield f'{entry.owner}\0{entry.group}\0{entry.mode:o}'.encode('utf-8', 'surrogateescape')
-    yield b'' if entry.data is None else b'f' + entry.data
+    yield b'' if entry.data is None else b'f' + bytes(entry.data)
 
 
 def joined(found: Iterator[Tuple[Entries, Crash]]) -> List[Disk]:

@@ -23,6 +23,7 @@ from crashfs_tools.common.trace import (
     Say,
     Start,
     StartLink,
+    StartSymlink,
     Sync,
     Trace,
     Truncate,
@@ -47,12 +48,17 @@ def lay_out_start(trace: Trace, top: str, owners: Owners) -> None:
         if isinstance(entry, StartLink):
             os.link(top + entry.source, top + entry.path)
             continue
+        if isinstance(entry, StartSymlink):
+            os.symlink(entry.link, top + entry.path)
+            user = owners.users.number(entry.owner)
+            os.lchown(top + entry.path, user, owners.groups.number(entry.group))
+            continue
         rights.append(entry)
         if entry.data is None:
             os.mkdir(top + entry.path, NEW_DIRECTORY)
         else:
             with open(top + entry.path, 'xb') as file:
-                file.write(entry.data)
+                file.write(bytes(entry.data))
     for one in reversed([trace.header, *rights]):
         path = top + (one.path if isinstance(one, Start) else '')
         os.chown(path, owners.users.number(one.owner), owners.groups.number(one.group))

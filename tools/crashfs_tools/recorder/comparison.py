@@ -69,7 +69,7 @@ def differences(directory: Scan, last: Entries, reported: Iterable[str]) -> List
             lines.append(f'{path}: the trace has it, and at the end it is not there')
         else:
             start = there[path]
-            data = None if start.data is None else bytearray(start.data)
+            data = None if start.data is None else bytearray(bytes(start.data))
             real = Entry(start.owner, start.group, start.mode, data)
             lines += [f'{path}: {text}' for text in entry_differences(real, last[path])]
     return lines

@@ -74,7 +74,7 @@ class LiveFiles:
                 node = self.tree.nodes[source]
                 trace.start.append(StartLink(entry.path, source))
             else:
-                data = entry.data
+                data = None if entry.data is None else bytes(entry.data)
                 node = Node.directory(entry.mode) if data is None else Node.file(entry.mode, data)
                 trace.start.append(entry)
             node.traced_paths.add(entry.path)

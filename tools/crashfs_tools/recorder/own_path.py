@@ -28,7 +28,7 @@ def bytes_of(trace: Trace) -> Iterator[Tuple[str, bytes]]:
     """The bytes that a trace has, with the path of their file there."""
     for entry in trace.start:
         if isinstance(entry, Start) and entry.data:
-            yield entry.path, entry.data
+            yield entry.path, bytes(entry.data)
     for operation in trace.operations:
         if isinstance(operation, Write):
             yield operation.path, operation.data

@@ -178,4 +178,4 @@ def overwrites(trying: Trying, findings: Findings, group: Group) -> bool:
     before, after = (tree.get(path) for tree in trees)
     if before is None or after is None or before.data is None or after.data is None:
         return False
-    return any(old not in (0, new) for old, new in zip(before.data, after.data))
+    return any(old not in (0, new) for old, new in zip(bytes(before.data), bytes(after.data)))

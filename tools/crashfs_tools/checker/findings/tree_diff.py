@@ -80,7 +80,7 @@ def first_difference(one: Entry, other: Entry) -> str:
     """Where the bytes begin to differ, and the bytes there."""
     if one.data is None or other.data is None:
         return ''
-    pairs = zip(one.data, other.data)
+    pairs = zip(bytes(one.data), bytes(other.data))
     place = next(
         (at for at, (left, right) in enumerate(pairs) if left != right),
         min(len(one.data), len(other.data)),

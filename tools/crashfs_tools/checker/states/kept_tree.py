@@ -183,7 +183,7 @@ class KeptTree:
             if attributes_of(file) != laid.attributes:
                 return False
             before = laid.entry.data if self.is_as_laid(laid, status) else stream.read()
-            rewrite(file, before or b'', wanted.data or b'')
+            rewrite(file, bytes(before or b''), bytes(wanted.data or b''))
             self.files[path] = Laid(wanted, signature_of(os.fstat(file)), laid.attributes)
         return True
 
@@ -194,7 +194,7 @@ class KeptTree:
             return
         file = os.open(path, NEW_FILE, one.mode, dir_fd=at)
         try:
-            write_all(file, one.data)
+            write_all(file, bytes(one.data))
             attributes = attributes_of(file) if is_large(one) else []
             self.files[path] = Laid(one, signature_of(os.fstat(file)), attributes)
         finally:

@@ -95,7 +95,7 @@ def lay_out(directory: str, tree: Iterable[Member]) -> None:
 
 def put(path: str, entry: Entry, at: int) -> None:
     if entry.data is not None:
-        write_file(path, entry.mode, entry.data, at)
+        write_file(path, entry.mode, bytes(entry.data), at)
     elif path:
         os.mkdir(path, FILLED_MODE, dir_fd=at)
 
