@@ -13,6 +13,7 @@ from crashfs_tools.checker.states.layout import lay_out
 from crashfs_tools.checker.states.rewriting import rewrite
 from crashfs_tools.common.command import Refused, write_whole
 from crashfs_tools.common.entry import Entry
+from crashfs_tools.recorder.log_stream import open_log
 
 from .support import EXAMPLES, InFolder
 from .test_check_command import InStore
@@ -84,6 +85,8 @@ class Outputs(InStore):
             os.chown(path, 65534, 65534, follow_symlinks=False)
             with self.assertRaisesRegex(OSError, 'another user made it'):
                 write_whole(path, ['x'])
+            with self.assertRaisesRegex(OSError, 'another user made it'):
+                open_log(path)
         os.chown(self.path('shared', 'link'), 0, 0, follow_symlinks=False)
         write_whole(self.path('shared', 'link'), ['mine'])
         self.assertEqual(self.read('victim'), 'mine')
