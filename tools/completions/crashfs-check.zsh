@@ -5,6 +5,8 @@ _arguments -S \
     '--version[show program’s version number and exit]' \
     '--jobs[run N commands at once]:N:_files' \
     '--shard[try only part I of N]:I/N:_files' \
+    '--every[all crash states if at most N of them differ, however long that takes]:N:_files' \
+    '--families[not all crash states, but the prefixes, those with one hole, --lost and --files]' \
     '--prefixes[the prefixes only]' \
     '--quick[the prefixes and those with one hole]' \
     '--lost[for each change, the state with it and as few others as possible]' \

@@ -62,6 +62,8 @@ def log_of(count):
 class Reader:
     """The second reading in this process, in the place of the program."""
 
+    has_every = False
+
     @staticmethod
     def plan(options):
         with open(options['--trace'], 'rb') as file:
@@ -97,7 +99,7 @@ class Reader:
 class InWindows(InStore):
     def made(self, text, size, quick=False):
         options = SimpleNamespace(
-            prefixes=False, has_lost=not quick, has_files=not quick, serve=None
+            prefixes=False, has_lost=not quick, has_files=not quick, serve=None, has_every=False
         )
         guard = SimpleNamespace(directory=self.temporary, environment={})
         return Windows(Planner(options, Reader(), guard), Session('w', text), size)

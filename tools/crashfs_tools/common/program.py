@@ -88,6 +88,14 @@ class Crashfs:
         except ProgramFault:
             return False
 
+    @cached_property
+    def has_every(self) -> bool:
+        """Whether it has `picks --every`."""
+        try:
+            return not self.unproved and '--every' in self.text(['picks', '--help'])
+        except ProgramFault:
+            return False
+
     def text(self, words: List[str], environment: Optional[Dict[str, str]] = None) -> str:
         """What a command prints; ProgramFault where its status isn't 0."""
         child = self.start(words, environment)

@@ -113,6 +113,16 @@ class Order:
         both.needed_by = inverse(both.needs)
         return both
 
+    def acknowledged_first(self, reading: Reading) -> Order:
+        """The order that besides allows only sets that, for each member, have all acknowledged
+        lines before it."""
+        first = copy(self)
+        says, first.needs = 0, []
+        for place, operation in enumerate(reading.operations):
+            first.needs.append(says)
+            says |= isinstance(operation, Acknowledgement) << place
+        return self.both(first)
+
     def is_allowed(self, places: int) -> bool:
         return all(self.needs[place] & ~places == 0 for place in bits(places))
 

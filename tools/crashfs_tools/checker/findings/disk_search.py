@@ -112,9 +112,9 @@ class Search:
         planned = self.trying.planned
         digests: Dict[int, str] = {}
         firsts = {state.same for state in planned.plan.listed}
-        words = [*planned.words, '--states', planned.list_of(firsts)]
-        for number, tree in self.trying.program.trees(words, self.trying.guard.environment):
-            digests[number + planned.plan.first] = digest_of(tree)
+        for request in planned.requests(firsts):
+            trees = self.trying.program.trees(request.words, self.trying.guard.environment)
+            digests.update((own + request.lead, digest_of(tree)) for own, tree in trees)
         found: Dict[TreeAndCount, List[int]] = {}
         for state in planned.plan.listed:
             found.setdefault((digests[state.same], state.says), []).append(state.number)

@@ -42,6 +42,7 @@ SURROGATE = re.compile('[\ud800-\udfff]')
 CAUSE_WIDTH = 52
 NONE_FAILS, SOME_FAIL, NOT_ALL_TRIED = 0, 1, 3
 UNPROVED = 'unproved: a Python program computed these states, not crashfs'
+SETS_UNPROVED = 'unproved: a Python program found which states there are, not crashfs'
 HOW_TO_BUILD = ' (tools/build builds crashfs)'
 # What stopped a check that could not say so itself.
 KILLED = 'a kill'
@@ -169,7 +170,9 @@ class Report:
 
     def first_lines(self) -> List[str]:
         how = HOW_TO_BUILD if can_be_built() else ''
-        return [UNPROVED + how, self.summary()] if self.head.unproved else [self.summary()]
+        if self.head.unproved:
+            return [UNPROVED + how, self.summary()]
+        return [SETS_UNPROVED, self.summary()] if self.counts.are_read else [self.summary()]
 
     def cut_off_lines(self) -> List[str]:
         """Lines that were still pending where their last window ended."""

@@ -51,20 +51,23 @@ class Archive(Layout):
         remove_tree(directory)
 
     def states(self, wanted: Set[int]) -> Iterator[Tuple[int, str]]:
-        """One archive is read, as fast as the states are taken: each has its tree already."""
-        words = [*self.planned.words, '--states', self.planned.list_of(wanted)]
+        """An archive is read as fast as the states are taken: each has its tree already."""
         left = set(wanted)
-        with self.program.archive(words, self.environment) as members:
-            for top, tree in groupby(members, top_of):
-                number = int(top) + self.planned.plan.first
-                if number not in left:
-                    continue
-                left.remove(number)
-                directory = unused(os.path.join(self.folder, str(number)))
-                lay_out(directory, ((path[len(top) + 1 :], entry) for path, entry in tree))
-                yield number, directory
+        for request in self.planned.requests(wanted):
+            with self.program.archive(request.words, self.environment) as members:
+                for top, tree in groupby(members, top_of):
+                    number = int(top) + request.lead
+                    if number in left:
+                        left.remove(number)
+                        yield number, self.directory_of(number, top, tree)
         if left:
             raise ProgramFault(0, f'crashfs tar wrote no state {min(left)}'.encode())
+
+    def directory_of(self, number: int, top: str, tree: Iterable[Member]) -> str:
+        """Lays out a state, whose paths in the archive begin with a name."""
+        directory = unused(os.path.join(self.folder, str(number)))
+        lay_out(directory, ((path[len(top) + 1 :], entry) for path, entry in tree))
+        return directory
 
 
 def unused(path: str) -> str:
