@@ -13,6 +13,7 @@ from pathlib import Path
 from typing import Dict, List, Set
 from unittest import mock
 
+from crashfs_tools.checker.findings.read_trees import entries_of
 from crashfs_tools.common.command import Refused
 from crashfs_tools.common.entry import Entries, Entry
 from crashfs_tools.common.trace import KINDS, Trace
@@ -72,13 +73,7 @@ def allowed_trees(path: Path) -> Set[str]:
     found = set()
     for places in range(1 << order.count):
         if order.is_allowed(places):
-            tree = {
-                name: Entry(
-                    *rights[:2], int(rights[2], 8), None if data is None else bytearray(data)
-                )
-                for name, (rights, data) in plan.trees.tree(places).items()
-            }
-            found.add(disk.digest_of(tree))
+            found.add(disk.digest_of(entries_of(plan.trees.tree(places))))
     return found
 
 

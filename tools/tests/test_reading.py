@@ -91,7 +91,7 @@ class Rows(unittest.TestCase):
         def contents(name, number):
             plan = plan_of(read(row(name).encode()), True)
             tree = plan.trees.tree(plan.states[number][1])
-            return {path: data for path, (_, data) in tree.items() if path != '/'}
+            return {path: item.content for path, item in tree.items() if path != '/'}
 
         self.assertEqual(contents('row46.trace', 4), {'/t': b'm', '/m': b'm'})
         self.assertEqual(contents('row46.trace', 15), {})
@@ -130,6 +130,10 @@ class Rows(unittest.TestCase):
         self.assertEqual(list(different(file_sets(plan_of(read(text.encode()))))), [[0], [0, 3]])
 
 
+def contents_of(tree):
+    return [(path, item.kind, item.rights, item.content) for path, item in sorted(tree.items())]
+
+
 class Digests(unittest.TestCase):
     def test_states_have_the_same_digest_just_if_their_trees_are_equal(self):
         write = '{"op":"write","path":"/a","offset":%d,"text":"aaaa"}\n'
@@ -158,7 +162,7 @@ class Digests(unittest.TestCase):
             except ReadingFault:
                 continue
             trees = [
-                (plan.trees.digest(places), sorted(plan.trees.tree(places).items()))
+                (plan.trees.digest(places), contents_of(plan.trees.tree(places)))
                 for _, places in plan.states
             ]
             first = {}
@@ -206,7 +210,10 @@ class Faults(unittest.TestCase):
             (third.replace('4096', '4096.0'), '1: Syntax'),
             (third.replace('4096', '"4096"'), '1: Syntax'),
             (third.replace('"block":4096,', ''), '1: Syntax'),
-            (third.replace('"trace":3', '"trace":4'), '1: Syntax'),
+            (third.replace('"trace":3', '"trace":4'), None),
+            (third.replace('"trace":3', '"trace":5'), '1: Syntax'),
+            (third.replace('blocks', 'journal'), '1: Syntax'),
+            (third.replace('"trace":3', '"trace":4').replace('blocks', 'journal'), None),
             (third.replace('"trace":3', '"trace":2'), '1: Syntax'),
             (third.replace('cat', ''), '1: BadName'),
             (third + third, '2: Syntax'),

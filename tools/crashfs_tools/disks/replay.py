@@ -12,6 +12,7 @@ from crashfs_tools.common.trace import (
     Chmod,
     Chown,
     Creat,
+    Fdatasync,
     Fsync,
     FsyncRange,
     Header,
@@ -24,6 +25,7 @@ from crashfs_tools.common.trace import (
     Start,
     StartLink,
     StartSymlink,
+    Symlink,
     Sync,
     Trace,
     Truncate,
@@ -149,7 +151,8 @@ class Replay:
 
     def chown(self, one: Chown) -> None:
         users, groups = self.owners.users, self.owners.groups
-        os.chown(self.path(one.path), users.number(one.owner), groups.number(one.group))
+        user, group = users.number(one.owner), groups.number(one.group)
+        os.chown(self.path(one.path), user, group, follow_symlinks=False)
 
     def fsync(self, one: Fsync) -> None:
         if os.path.isdir(self.path(one.path)):
@@ -157,6 +160,18 @@ class Replay:
         else:
             os.fsync(self.descriptor(one.path))
             self.unsynced.pop(os.stat(self.path(one.path)).st_ino, None)
+
+    def symlink(self, made: Symlink) -> None:
+        os.symlink(made.link, self.path(made.path))
+        user = self.owners.users.number(made.owner)
+        group = self.owners.groups.number(made.group)
+        status = os.lstat(self.path(made.path))
+        if (status.st_uid, status.st_gid) != (user, group):
+            os.lchown(self.path(made.path), user, group)
+
+    def fdatasync(self, one: Fdatasync) -> None:
+        os.fdatasync(self.descriptor(one.path))
+        self.unsynced.pop(os.stat(self.path(one.path)).st_ino, None)
 
     def fsync_range(self, one: FsyncRange) -> None:
         """A sync of the whole file is an fdatasync; one of a part is made by msync, which syncs
@@ -198,11 +213,13 @@ CALLS: Dict[Type[Any], Callable[[Replay, Any], None]] = {
     Rmdir: Replay.rmdir,
     Rename: Replay.rename,
     Link: Replay.link,
+    Symlink: Replay.symlink,
     Write: Replay.write,
     Truncate: Replay.truncate,
     Chmod: Replay.chmod,
     Chown: Replay.chown,
     Fsync: Replay.fsync,
+    Fdatasync: Replay.fdatasync,
     FsyncRange: Replay.fsync_range,
     Sync: Replay.sync,
     Say: Replay.say,

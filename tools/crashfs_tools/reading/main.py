@@ -15,7 +15,7 @@ from .trace import read
 FLAGS = {
     'list': ('--holes', '--lines', '--same', '--json'),
     'picks': ('--lost', '--files', '--every', '--different', '--count', '--help'),
-    'tar': ('--holes', '--changes', '--help'),
+    'tar': ('--holes', '--changes', '--sparse', '--help'),
 }
 VALUED = {
     'list': ('--trace', '--picks'),
@@ -103,24 +103,33 @@ def file_bytes(path: str) -> bytes:
 
 def write_archive(plan: StateList, options: Options) -> None:
     # `list` begins faster without tarfile.
-    from .archive import write_changes, write_state, write_states
+    from .archive import ArchiveWriter
 
-    if '--state' in options and '--changes' not in options:
+    numbers = states_of(plan, options)
+    with ArchiveWriter(plan, sys.stdout.buffer, '--sparse' in options) as archive:
+        if '--changes' in options:
+            archive.write_changes(numbers)
+        elif '--state' in options:
+            archive.write_state(numbers[0])
+        else:
+            archive.write_states(numbers)
+
+
+def states_of(plan: StateList, options: Options) -> List[int]:
+    """The states that options name, in their order."""
+    if '--state' in options:
         number = str(options['--state'])
         if not number.isdigit():
             raise Usage(f"invalid value '{number}' for '--state <N>'")
-        if int(number) >= len(plan.states):
-            raise ReadingFault('no such state')
-        write_state(plan, int(number), sys.stdout.buffer)
-        return
-    numbers = states_of(str(options.get('--states') or options.get('--state', '')))
+        numbers = [int(number)]
+    else:
+        numbers = numbers_of(str(options.get('--states', '')))
     if max(numbers) >= len(plan.states):
         raise ReadingFault('no such state')
-    write = write_changes if '--changes' in options else write_states
-    write(plan, numbers, sys.stdout.buffer)
+    return numbers
 
 
-def states_of(shown: str) -> List[int]:
+def numbers_of(shown: str) -> List[int]:
     """The states of a list of numbers and ranges, in its order."""
     numbers: List[int] = []
     for piece in shown.split(','):

@@ -9,9 +9,10 @@ from typing import Dict, Iterator, List, Union
 from .classes import Classes
 from .every import count_sets, every_set, sample
 from .faults import ReadingFault
+from .lines import PROFILES
 from .order import Order, bits
 from .plan import StateList, different, file_sets, lost_sets
-from .profiles import PROFILES, order_in
+from .profiles import order_in
 from .trace import Reading
 
 MOST = 1_000_000

@@ -12,7 +12,7 @@ from crashfs_tools.checker.running.runner import GOOD, Outcome
 from crashfs_tools.checker.running.trying import Trying
 from crashfs_tools.checker.states.layout import lay_out
 from crashfs_tools.common.archive import Member
-from crashfs_tools.common.entry import Entries, Entry
+from crashfs_tools.common.entry import Entries
 from crashfs_tools.common.guard import Guard
 from crashfs_tools.common.removal import remove_tree
 from crashfs_tools.common.trace_read import read_trace
@@ -24,6 +24,7 @@ from crashfs_tools.reading.classes import Classes
 from crashfs_tools.reading.order import Order
 from crashfs_tools.reading.states import States
 
+from .read_trees import entries_of
 from .sightings import OUTSIDE, UNKNOWN, UNTRIED, DiskFailure, Explanation, Sightings, keep_first
 
 MEMORY = '/dev/shm'
@@ -193,10 +194,7 @@ def search(trace: bytes, wanted: Set[TreeAndCount]) -> SearchResult:
         if searched >= MOST_STATES or time.monotonic() > deadline:
             return SearchResult(found, searched, False)
         searched += 1
-        tree = {
-            path: Entry(*rights[:2], int(rights[2], 8), None if data is None else bytearray(data))
-            for path, (rights, data) in states.tree(places).items()
-        }
+        tree = entries_of(states.tree(places))
         found |= {(digest_of(tree), states.count_says(places))} & wanted
         if found == wanted:
             break
