@@ -98,7 +98,7 @@ class AllListed(InFolder):
             for own, tree in program.trees(request.words):
                 found[own + request.lead] = {path: entry.data for path, entry in tree.items()}
         for number, kept in planned.plan.kept.items():
-            wanted = {path: data for path, (_, data) in trees.tree(kept).items()}
+            wanted = {path: item.content for path, item in trees.tree(kept).items()}
             self.assertEqual(found[number], wanted, number)
 
     def test_a_program_that_lists_all_is_asked(self) -> None:

@@ -3,6 +3,7 @@
 from __future__ import annotations
 
 from copy import copy
+from operator import or_
 from typing import Dict, Iterator, List, Optional, Tuple
 
 from .micro import (
@@ -122,21 +123,26 @@ class Order:
         """What is added with the lowest place of a future."""
         return self.units.get(lowest.bit_length() - 1, lowest)
 
-    def within(self, reading: Reading, profile: str) -> Order:
-        """The order that allows a set if this one does, and a profile may have it: a file system of
-        another profile than `blocks` has both halves of a rename, or none."""
-        other, within = Order(reading, profile), copy(self)
-        within.needs, within.units = [], {}
-        for place, (mine, others) in enumerate(zip(self.needs, other.needs)):
-            needs = mine | others
-            if profile != 'blocks' and reading.operations[place].half == 1:
-                within.units[place] = 0b11 << place
+    def both(self, other: Order) -> Order:
+        """The order that allows a set if this one and another do, of the same micro-operations."""
+        both = copy(self)
+        both.needs, both.units = [], {**self.units, **other.units}
+        for place, needs in enumerate(map(or_, self.needs, other.needs)):
+            if place in both.units:
                 needs |= (self.needs[place + 1] | other.needs[place + 1]) & ~(1 << place)
             for needed in bits(needs):
-                needs |= within.needs[needed]
-            within.needs.append(needs)
-        within.needed_by = inverse(within.needs)
-        return within
+                needs |= both.needs[needed]
+            both.needs.append(needs)
+        both.needed_by = inverse(both.needs)
+        return both
+
+    def within(self, reading: Reading, profile: str) -> Order:
+        """The order that allows a set if this one does, and a file system of a profile may leave
+        it: only with `blocks` a rename may be half done."""
+        other = Order(reading, profile)
+        if profile != 'blocks':
+            other.units = {place: 0b11 << place for place in half_places(reading.operations)}
+        return self.both(other)
 
     def acknowledged_first(self, reading: Reading) -> Order:
         """The order that besides allows only sets that, for each member, have all acknowledged

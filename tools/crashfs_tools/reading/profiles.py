@@ -24,6 +24,11 @@ def order_in(reading: Reading, profile: str) -> Order:
     return order if profile == order.profile else order.within(reading, profile)
 
 
+def orders_in(reading: Reading) -> Dict[str, Order]:
+    """That order for each of the profiles."""
+    return {profile: order_in(reading, profile) for profile in profiles_of(reading)}
+
+
 class Profiles:
     """Asks for sets of one trace. The micro-operations are those of the trace's own profile."""
 
