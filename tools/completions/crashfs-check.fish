@@ -7,6 +7,7 @@ complete -c crashfs-check -l every -r -d 'all crash states if at most N of them 
 complete -c crashfs-check -l families -d 'not all crash states, but the prefixes, those with one hole, --lost and --files'
 complete -c crashfs-check -l prefixes -d 'the prefixes only'
 complete -c crashfs-check -l quick -d 'the prefixes and those with one hole'
+complete -c crashfs-check -l in -r -d 'only states that this profile allows, such as ordered'
 complete -c crashfs-check -l lost -d 'for each change, the state with it and as few others as possible'
 complete -c crashfs-check -l files -d 'for each file, the states without its unsynced changes'
 complete -c crashfs-check -l nested -r -d 'crash the recovery too'

@@ -9,6 +9,7 @@ _arguments -S \
     '--families[not all crash states, but the prefixes, those with one hole, --lost and --files]' \
     '--prefixes[the prefixes only]' \
     '--quick[the prefixes and those with one hole]' \
+    '--in[only states that this profile allows, such as ordered]:PROFILE:_files' \
     '--lost[for each change, the state with it and as few others as possible]' \
     '--files[for each file, the states without its unsynced changes]' \
     '--nested[crash the recovery too]:N:_files' \

@@ -48,7 +48,7 @@ def wanted_trials(text: str) -> Set[Tuple[object, int]]:
 
 class AllListed(InFolder):
     def planner(self, program: Any, most: int = 20_000) -> Planner:
-        options: Any = SimpleNamespace(**OPTIONS, has_every=True, most_states=most)
+        options: Any = SimpleNamespace(**OPTIONS, has_every=True, most_states=most, profile=None)
         guard: Any = SimpleNamespace(directory=self.temporary, environment=None)
         return Planner(options, program, guard)
 

@@ -62,7 +62,7 @@ def log_of(count):
 class Reader:
     """The second reading in this process, in the place of the program."""
 
-    has_every = False
+    picks_options = frozenset()
 
     @staticmethod
     def plan(options):

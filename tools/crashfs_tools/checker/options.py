@@ -57,6 +57,7 @@ class Options:
     shard: Shard
     every: Optional[int]
     families: bool
+    profile: Optional[str]
     prefixes: bool
     quick: bool
     window: Optional[int]
@@ -171,6 +172,12 @@ def add_states(made: argparse.ArgumentParser) -> None:
         '--quick',
         action='store_true',
         help='the prefixes and those with one hole; --lost and --files only if given',
+    )
+    made.add_argument(
+        '--in',
+        metavar='PROFILE',
+        dest='profile',
+        help='only states that this profile allows, such as ordered',
     )
     made.add_argument('--window', metavar='N', type=positive, help=argparse.SUPPRESS)
     made.add_argument(

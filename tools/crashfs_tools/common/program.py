@@ -5,6 +5,7 @@ from __future__ import annotations
 
 import io
 import os
+import re
 import select
 import shutil
 import subprocess
@@ -12,7 +13,7 @@ import sys
 from contextlib import contextmanager
 from functools import cached_property
 from itertools import groupby
-from typing import Any, Dict, Iterator, List, Optional, Tuple
+from typing import Any, Dict, FrozenSet, Iterator, List, Optional, Tuple
 
 from .archive import ArchiveFault, Member, members
 from .command import Refused, ended
@@ -89,12 +90,13 @@ class Crashfs:
             return False
 
     @cached_property
-    def has_every(self) -> bool:
-        """Whether it has `picks --every`."""
+    def picks_options(self) -> FrozenSet[str]:
+        """The options of its `picks`; none of the second reading, which is asked in another way."""
         try:
-            return not self.unproved and '--every' in self.text(['picks', '--help'])
+            shown = '' if self.unproved else self.text(['picks', '--help'])
         except ProgramFault:
-            return False
+            shown = ''
+        return frozenset(re.findall(r'--[a-z]+', shown))
 
     def text(self, words: List[str], environment: Optional[Dict[str, str]] = None) -> str:
         """What a command prints; ProgramFault where its status isn't 0."""

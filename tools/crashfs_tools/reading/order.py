@@ -155,7 +155,8 @@ class Order:
         return self.both(first)
 
     def is_allowed(self, places: int) -> bool:
-        return all(self.needs[place] & ~places == 0 for place in bits(places))
+        lacking = (1 << places.bit_length()) - 1 & ~places
+        return not any(self.needed_by[place] & places for place in bits(lacking))
 
     def without(self, places: int, lost: int) -> int:
         """What stays of a set if some are lost, and with them all that need one of them."""

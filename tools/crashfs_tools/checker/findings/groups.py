@@ -61,7 +61,8 @@ class Group:
     rerun is the outcome of its second run, which took so many seconds, kept_part what a crash kept
     of a torn line, swap the
     result of another order of the two lines, and overwrites says whether the kept line overwrites
-    bytes in use. is_covered says whether the advice of larger groups removes all states."""
+    bytes in use. is_covered says whether the advice of larger groups removes all states. under has
+    for each profile those of tried that a crash may leave by its rules."""
 
     outcome: Outcome
     example: State
@@ -82,6 +83,7 @@ class Group:
     swap: Optional[Totals] = None
     overwrites: bool = False
     is_covered: bool = False
+    under: Dict[str, FrozenSet[Tuple[int, ...]]] = field(default_factory=dict)
 
     @property
     def cause(self) -> str:
@@ -130,6 +132,9 @@ class Group:
         """Adds the states and pairs of a group with the same key."""
         self.states.extend(other.states)
         self.tried |= other.tried
+        self.under = {
+            name: self.under.get(name, frozenset()) | states for name, states in other.under.items()
+        }
         self.places = sorted({*self.places, *other.places})
         self.is_covered = self.is_covered and other.is_covered
         mine, others = self.advice.tried, other.advice.tried
@@ -239,6 +244,7 @@ class Findings:
         loss = self.losses.get(state.number)
         pair = loss.pair if loss else self.pairs.pair_of(state)
         kept, lost = self.line_at(pair.kept), self.line_at(pair.lost)
+        tried, allowed = self.tried_for(state), self.plan.profiles_of(state)
         return Group(
             self.by_state[state.number],
             state,
@@ -246,8 +252,11 @@ class Findings:
             kept,
             lost,
             [state],
-            self.tried_for(state),
+            tried,
             [(lost.number, kept.number)] if kept and lost else [],
+            under={
+                name: tried if name in allowed else frozenset() for name in self.plan.profiles.names
+            },
         )
 
     def tried_for(self, state: State) -> FrozenSet[Tuple[int, ...]]:

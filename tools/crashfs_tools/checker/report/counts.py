@@ -30,6 +30,7 @@ class StateCounts:
     tried: int = 0
     all_failing: int = 0
     every: List[Optional[AllStates]] = field(default_factory=list)
+    profile: str = ''
     results: Counts[str] = field(default_factory=Counter)
     words: Counts[str] = field(default_factory=Counter)
 
@@ -43,6 +44,7 @@ class StateCounts:
         ]
         self.windows += 1
         self.every.append(findings.plan.all_states)
+        self.profile = findings.plan.profiles.wanted
         self.operations = findings.plan.begin + len(findings.plan.operations)
         self.states += len(results.own)
         self.different += len(results.trials)
@@ -97,12 +99,13 @@ class StateCounts:
 
     def shown_states(self, head: Head) -> str:
         """How many states there are."""
+        under = f' under {self.profile}' if self.profile else ''
         if not self.has_every:
-            return f'{self.states:,} states, {self.different:,} different'
+            return f'{self.states:,} states{under}, {self.different:,} different'
         all_of = 'all ' if self.is_whole(head) else ''
         sets = f' ({self.sets:,} set{"" if self.sets == 1 else "s"})' if self.sets else ''
         states = 'crash states' if self.different > 1 else 'crash state'
-        return f'{all_of}{self.different:,} {states}{sets}'
+        return f'{all_of}{self.different:,} {states}{under or sets}'
 
     def is_whole(self, head: Head) -> bool:
         """Whether all was tried."""

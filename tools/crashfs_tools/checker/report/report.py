@@ -24,6 +24,7 @@ from crashfs_tools.common.printable import printable
 from crashfs_tools.common.trace_lines import TraceLine
 
 from .counts import StateCounts
+from .profiles import profiles_text
 
 if TYPE_CHECKING:
     from crashfs_tools.checker.findings.sightings import Sightings
@@ -267,6 +268,8 @@ class Report:
             more = len(lost) - SHOWN_LINES
             also = f' and {number_of(more, "more line")}' if more > 0 else ''
             lines.append(f'state {group.example.number} also lacks {shown}{also}')
+        if group.under:
+            lines.append(profiles_text(group, self.counts.has_every))
         if self.sightings is not None:
             lines.append(self.sightings.sentence([state.number for state in group.states]))
         return lines
@@ -316,6 +319,7 @@ class Report:
             'cause': group.cause,
             'states': [state.number for state in group.states],
             'different': group.count,
+            'under': {name: len(states) for name, states in group.under.items()},
             'covered': group.is_covered,
             'example': group.example.number,
             'lines': group.places,

@@ -5,7 +5,7 @@ from __future__ import annotations
 
 import json
 from itertools import islice
-from typing import TYPE_CHECKING, Dict, List, Optional, Protocol
+from typing import TYPE_CHECKING, Dict, Iterable, List, Optional, Protocol
 
 from crashfs_tools.common.program import Crashfs, ProgramFault
 
@@ -16,6 +16,8 @@ if TYPE_CHECKING:
 
 # What the program says if there are too many sets.
 TOO_MANY = ('more than ', 'too many sets')
+# Without these options of `picks` the program doesn't list them.
+NEEDED = {'--every', '--different', '--most', '--count'}
 # Since this version a set that lacks an acknowledged line has nothing that follows it.
 ACKNOWLEDGED_FIRST = 3
 
@@ -23,7 +25,9 @@ ACKNOWLEDGED_FIRST = 3
 class AllSets(Protocol):
     """The sets that the rules of a trace allow. A method returns None if they are too many."""
 
-    is_read: bool
+    @property
+    def is_read(self) -> bool:
+        """Whether the second reading finds them."""
 
     def count(self) -> Optional[int]:
         """How many they are."""
@@ -35,37 +39,36 @@ class AllSets(Protocol):
         """So many sets, drawn at random, the same ones for each seed."""
 
 
-def all_sets(program: Crashfs, environment: Dict[str, str], trace: str) -> AllSets:
-    if program.has_every and version_of(trace) >= ACKNOWLEDGED_FIRST:
-        return ProgramSets(program, environment, trace)
-    return ReadSets(trace)
-
-
-def version_of(trace: str) -> int:
-    with open(trace, 'rb') as file:
-        version = json.loads(file.readline()).get('trace')
-    return version if isinstance(version, int) else 0
+def all_sets(program: Crashfs, environment: Dict[str, str], read: ReadSets) -> AllSets:
+    """By the program if it can list them; read has the same by the second reading."""
+    if NEEDED <= program.picks_options and read.reading.version >= ACKNOWLEDGED_FIRST:
+        return ProgramSets(program, environment, read)
+    return read
 
 
 class ProgramSets:
-    """By the program's `picks`."""
+    """By the program's `picks`; what it lacks is done by the second reading."""
 
     is_read = False
 
-    def __init__(self, program: Crashfs, environment: Dict[str, str], trace: str) -> None:
+    def __init__(self, program: Crashfs, environment: Dict[str, str], read: ReadSets) -> None:
         self.program = program
         self.environment = environment
-        self.trace = trace
+        self.read = read
 
     def count(self) -> Optional[int]:
         line = self.lines(['--every', '--count'])
         return int(line[0]) if line and line[0].strip().isdigit() else None
 
     def different(self, most: int, profile: str = '') -> Optional[List[int]]:
+        if profile and '--profile' not in self.program.picks_options:
+            return self.read.different(most, profile)
         words = ['--every', '--different', '--most', str(most)]
         return self.sets(words + (['--profile', profile] if profile else []))
 
     def drawn(self, count: int, seed: int) -> Optional[List[int]]:
+        if '--sample' not in self.program.picks_options:
+            return self.read.drawn(count, seed)
         return self.sets(['--sample', str(count), '--seed', str(seed)])
 
     def sets(self, words: List[str]) -> Optional[List[int]]:
@@ -74,7 +77,9 @@ class ProgramSets:
 
     def lines(self, words: List[str]) -> Optional[List[str]]:
         try:
-            text = self.program.text(['picks', '--trace', self.trace, *words], self.environment)
+            text = self.program.text(
+                ['picks', '--trace', self.read.trace, *words], self.environment
+            )
         except ProgramFault as fault:
             if any(one in fault.text for one in TOO_MANY):
                 return None
@@ -92,6 +97,7 @@ class ReadSets:
         from crashfs_tools.reading import read
         from crashfs_tools.reading.profiles import orders_in
 
+        self.trace = trace
         with open(trace, 'rb') as file:
             self.reading = read(file.read())
         self.orders = orders_in(self.reading)
@@ -100,6 +106,13 @@ class ReadSets:
                 name: one.acknowledged_first(self.reading) for name, one in self.orders.items()
             }
             self.orders = first
+
+    def profiles_of(self, sets: Iterable[int]) -> List[int]:
+        """Of each set the profiles that allow it, as bits of a number, in the order of orders."""
+        from crashfs_tools.reading.profiles import Profiles
+
+        profiles, names = Profiles(self.reading), list(self.orders)
+        return [set_of(map(names.index, profiles.names(kept))) for kept in sets]
 
     def order(self, profile: str = '') -> Order:
         return self.orders[profile or self.reading.profile]

@@ -113,6 +113,16 @@ class Needs:
         return all(self.masks[place] & ~kept == 0 for place in places_of(kept))
 
 
+class SetProfiles(NamedTuple):
+    """The names of the profiles that a trace has, and of each listed state, in the order of their
+    numbers, those under whose rules its set is allowed: bits of a number. If one is wanted, only
+    states that it allows are tried."""
+
+    names: Tuple[str, ...] = ()
+    of_sets: Tuple[int, ...] = ()
+    wanted: str = ''
+
+
 class Plan:
     """The micro-operations, the states of crashes, and what each state keeps. first is the number
     of the first state. all_states is None if only families of states were asked for."""
@@ -124,15 +134,42 @@ class Plan:
         needs: Needs,
         first: int = 0,
         all_states: Optional[AllStates] = None,
+        profiles: SetProfiles = SetProfiles(),
     ) -> None:
         self.all_states = all_states
+        self.profiles = profiles
         self.operations = operations
         self.listed = listed
         self.needs = needs
         self.first = first
         self.says = set_of(at for at, one in enumerate(operations) if one.kind == 'say')
         self.kept = {state.number: self.kept_by(state) for state in listed}
-        self.states = [state for state in listed if self.may_be(self.kept[state.number])]
+        self.under = self.profiles_of_trials()
+        self.states = [
+            state
+            for state in listed
+            if self.may_be(self.kept[state.number])
+            and profiles.wanted in ('', *self.profiles_of(state))
+        ]
+
+    def profiles_of_trials(self) -> Dict[Trial, int]:
+        """A trial is allowed under a profile if one of the sets that leave it is."""
+        found: Dict[Trial, int] = {}
+        for state, profiles in zip(self.listed, self.profiles.of_sets):
+            trial = Trial(state.same, state.says)
+            found[trial] = found.get(trial, 0) | profiles
+        return found
+
+    def profiles_of(self, state: State) -> List[str]:
+        """The profiles under whose rules a crash may leave what a state leaves."""
+        bits = self.under.get(Trial(state.same, state.says), 0)
+        return [name for place, name in enumerate(self.profiles.names) if bits >> place & 1]
+
+    def with_states(
+        self, listed: List[State], all_states: Optional[AllStates], profiles: SetProfiles
+    ) -> Plan:
+        """The same plan with these states, and what is known of them."""
+        return Plan(self.operations, listed, self.needs, self.first, all_states, profiles)
 
     @property
     def begin(self) -> int:
@@ -261,7 +298,8 @@ def read_plan(listed: str, before: Before = Before(), more: Sequence[str] = ()) 
                 read.take(json.loads(line))
             except (ValueError, KeyError, TypeError, AttributeError) as error:
                 raise PlanError(f'crashfs list printed: {line}') from error
-    return Plan(read.operations, read.states, Needs(read.masks), before.states)
+    needs = Needs(read.masks)
+    return Plan(read.operations, read.states, needs, before.states, profiles=read.profiles())
 
 
 class Listed:
@@ -272,6 +310,12 @@ class Listed:
         self.operations: List[MicroOperation] = []
         self.states: List[State] = []
         self.masks: List[int] = []
+        self.allowed: List[List[str]] = []
+
+    def profiles(self) -> SetProfiles:
+        """What it printed of profiles. The first state, of which nothing is kept, has all."""
+        names = tuple(self.allowed[0]) if self.allowed else ()
+        return SetProfiles(names, tuple(set_of(map(names.index, one)) for one in self.allowed))
 
     def begin(self) -> None:
         """Begins the next part: the program numbers its picks from the same number on."""
@@ -293,6 +337,8 @@ class Listed:
             # A prefix has the same number in each part.
             fields['same'] += self.lead if fields['same'] > len(self.operations) else 0
         self.states.append(state_of(fields, self.before))
+        if 'profiles' in fields:
+            self.allowed.append(fields['profiles'])
 
 
 def operation_of(fields: Dict[str, Any], before: Before) -> MicroOperation:

@@ -4,6 +4,8 @@ from __future__ import annotations
 
 import json
 import os
+from functools import reduce
+from operator import and_
 from typing import Iterable, List, Optional, Sequence
 
 from crashfs_tools.checker.options import Options
@@ -12,9 +14,20 @@ from crashfs_tools.common.command import Refused
 from crashfs_tools.common.guard import Guard
 from crashfs_tools.common.program import Crashfs, ProgramFault, is_too_large
 
-from .all_sets import AllSets, all_sets
+from .all_sets import AllSets, ReadSets, all_sets
 from .joining import joined
-from .plan import AllStates, Before, Needs, Part, Plan, Planned, places_of, read_plan, set_of
+from .plan import (
+    AllStates,
+    Before,
+    Needs,
+    Part,
+    Plan,
+    Planned,
+    SetProfiles,
+    places_of,
+    read_plan,
+    set_of,
+)
 
 
 class TooLarge(Refused):
@@ -32,23 +45,33 @@ class Planner:
     def plan(self, trace: str, before: Before = Before()) -> Planned:
         """The families that are asked for; and all crash states, if they are asked for and not too
         many."""
-        if not (self.options.has_lost or self.options.has_files or self.options.has_every):
+        options = self.options
+        if not (options.has_lost or options.has_files or options.has_every):
             return self.planned(trace, before, [])
         needs = self.prefixes(trace).needs
         families = self.families(trace, needs)
-        if not self.options.has_every:
+        if not options.has_every:
             return self.planned(trace, before, [families])
-        sets = all_sets(self.program, self.guard.environment, trace)
-        found = self.every_set(sets)
+        read = ReadSets(trace)
+        sets = all_sets(self.program, self.guard.environment, read)
+        found = every_set(sets, read, options.most_states)
         more = [one for one in found or [] if not self.is_listed(needs, one)]
         picks = list(dict.fromkeys([*families, *more]))
         planned = self.planned(trace, before, in_parts(picks, self.room(needs), len(needs.masks)))
-        planned.plan.all_states = AllStates(sets.count(), found is not None, sets.is_read)
+        every = AllStates(sets.count(), found is not None, sets.is_read)
+        planned.plan = self.with_profiles(planned.plan, read, every)
         return planned
 
-    def every_set(self, sets: AllSets) -> Optional[List[int]]:
-        """A set of each different state; None if they are too many."""
-        return sets.different(self.options.most_states)
+    def with_profiles(self, plan: Plan, read: ReadSets, every: AllStates) -> Plan:
+        """The plan with the profiles of its sets: by the program if it has printed them."""
+        names, of_sets = tuple(read.orders), plan.profiles.of_sets
+        if not of_sets:
+            of_sets = tuple(read.profiles_of(plan.kept[one.number] for one in plan.listed))
+        wanted = self.options.profile or ''
+        if wanted not in ('', *names):
+            known = ', '.join(names)
+            raise Refused(f'--in {wanted}: the profiles of this trace are {known}')
+        return plan.with_states(plan.listed, every, SetProfiles(names, of_sets, wanted))
 
     def room(self, needs: Needs) -> int:
         """How many picks the program takes besides the prefixes, and besides the holes if these are
@@ -66,7 +89,7 @@ class Planner:
         listed = [self.ask(['list', *way, '--json']) for way in ways]
         plan = read_plan(listed[0], before, listed[1:])
         if len(ways) > 1:
-            plan = Plan(plan.operations, joined(trace, plan), plan.needs, plan.first)
+            plan = plan.with_states(joined(trace, plan), None, plan.profiles)
         return Planned(trace, parts_of(plan, ways, [len(sets) for sets in picks]), plan, before)
 
     def plan_of_sets(self, planned: Planned, sets: Iterable[int]) -> Planned:
@@ -117,6 +140,17 @@ class Planner:
         if is_too_large(fault):
             return TooLarge(str(fault))
         return Refused(str(fault))
+
+
+def every_set(sets: AllSets, read: ReadSets, most: int) -> Optional[List[int]]:
+    """A set of each different state, and one for each profile that allows a set of it; None if they
+    are too many."""
+    found = sets.different(most)
+    if found is None:
+        return None
+    of_all = reduce(and_, read.profiles_of(found))
+    others = [name for place, name in enumerate(read.orders) if not of_all >> place & 1]
+    return found + [one for name in others for one in sets.different(most, name) or []]
 
 
 def write_sets(path: str, sets: Iterable[int]) -> None:
