@@ -7,9 +7,21 @@ import os
 from typing import List, Optional
 
 FOLDER = os.O_RDONLY | os.O_DIRECTORY | os.O_NOFOLLOW | os.O_CLOEXEC
+# Opens a directory that may not be read.
+PLACE = os.O_PATH | os.O_DIRECTORY | os.O_NOFOLLOW | os.O_CLOEXEC
 OPEN_MODE = 0o700
 # What stays of a directory is beside it, in one whose name ends so.
 LEFT = '.left'
+
+
+def set_folder_mode(name: str, mode: int, at: Optional[int] = None) -> None:
+    """Sets the mode of a directory. What a link at its place refers to keeps its mode: that is an
+    OSError."""
+    folder = os.open(name, PLACE, dir_fd=at)
+    try:
+        os.chmod(f'/proc/self/fd/{folder}', mode)
+    finally:
+        os.close(folder)
 
 
 def remove_tree(path: str, at: Optional[int] = None, aside: str = '') -> bool:
@@ -125,7 +137,7 @@ class Removal:
             try:
                 os.rename(name, moved, src_dir_fd=at, dst_dir_fd=self.aside)
             except PermissionError:
-                os.chmod(name, OPEN_MODE, dir_fd=at)
+                set_folder_mode(name, OPEN_MODE, at)
                 os.rename(name, moved, src_dir_fd=at, dst_dir_fd=self.aside)
         except OSError:
             return False
@@ -151,7 +163,7 @@ class Removal:
         try:
             directory = os.open(name, FOLDER, dir_fd=self.aside)
         except PermissionError:
-            os.chmod(name, OPEN_MODE, dir_fd=self.aside)
+            set_folder_mode(name, OPEN_MODE, self.aside)
             directory = os.open(name, FOLDER, dir_fd=self.aside)
         if os.fstat(directory).st_mode & OPEN_MODE != OPEN_MODE:
             os.fchmod(directory, OPEN_MODE)

@@ -113,6 +113,15 @@ class SparseBytes:
                 base = number * PAGE_BYTES
                 page[start - base : stop - base] = bytes(stop - start)
 
+    def data_ranges(self, begin: int, end: int) -> List[Tuple[int, int]]:
+        """The parts of a range, by their ends, whose pages aren't all zeros."""
+        found = []
+        for at, run in list(self.runs()):
+            first, last = max(begin, at), min(end, at + len(run))
+            if first < last:
+                found.append((first, last))
+        return found
+
     def resize(self, length: int) -> None:
         """Cuts the bytes, or adds zeros."""
         if length < self.length:
