@@ -61,9 +61,7 @@ def read(data: bytes):
 class Archives(unittest.TestCase):
     def test_entries_are_read_with_all_that_they_have(self):
         self.assertEqual(read(archive_of(TREE)), TREE)
-        self.assertEqual(
-            read(archive_of(SHORT, tarfile.USTAR_FORMAT)), SHORT
-        )
+        self.assertEqual(read(archive_of(SHORT, tarfile.USTAR_FORMAT)), SHORT)
 
     def test_an_archive_without_its_end_is_refused(self):
         data = archive_of(TREE[:1])

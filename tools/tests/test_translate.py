@@ -4,7 +4,7 @@ import unittest
 from unittest import mock
 
 from .support import needs_version_3, operations_of, recording_of, short
-from .translated_calls import CASES, FILE, IN_DIRECTORY, OPEN_F
+from .translated_calls import CASES, FILE, OPEN_F
 from .translated_syncs import SYNCS
 
 

@@ -6,7 +6,7 @@ from __future__ import annotations
 import os.path
 import re
 from dataclasses import dataclass
-from typing import Callable, Dict, List, Optional, Tuple
+from typing import Dict, List, Optional, Tuple
 
 from crashfs_tools.common import limits
 from crashfs_tools.common.entry import parent_of

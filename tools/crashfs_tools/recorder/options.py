@@ -155,6 +155,7 @@ def add_the_trace(made: argparse.ArgumentParser) -> None:
     )
     made.add_argument(
         '--trace-version',
+        metavar='VERSION',
         choices=[AUTO, *VERSIONS],
         default=AUTO,
         help='the version of the trace. 4 has symbolic links, renamed directories and files of up '

@@ -183,12 +183,14 @@ class KeptTree:
             file = os.open(path.rpartition('/')[2], CHANGED_FILE, dir_fd=at)
         except OSError:
             return False
-        with open(file, 'r+b', buffering=0) as stream:
+        try:
             if attributes_of(file) != laid.attributes:
                 return False
             before = laid.entry.data if self.is_as_laid(laid, status) else file_bytes(file)
             rewrite(file, before or b'', wanted.data or b'')
             self.files[path] = Laid(wanted, signature_of(os.fstat(file)), laid.attributes)
+        finally:
+            os.close(file)
         return True
 
     def put(self, at: int, path: str, one: Entry) -> None:
