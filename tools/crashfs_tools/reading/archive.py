@@ -4,7 +4,7 @@ from __future__ import annotations
 
 import tarfile
 from io import BytesIO
-from typing import Any, BinaryIO, Dict, List, Optional, Tuple
+from typing import BinaryIO, Dict, List, Optional, Tuple
 
 from .data import Data
 from .plan import StateList
@@ -21,15 +21,17 @@ class ArchiveWriter:
     def __init__(self, plan: StateList, out: BinaryIO, sparse: bool = False) -> None:
         self.plan = plan
         self.sparse = sparse
-        self.stream = Stream(out)
-        self.file = tarfile.TarFile(fileobj=self.stream, mode='w', format=tarfile.PAX_FORMAT)
+        self.file = tarfile.open(fileobj=out, mode='w|', format=tarfile.PAX_FORMAT)
 
     def __enter__(self) -> ArchiveWriter:
         return self
 
     def __exit__(self, *_: object) -> None:
-        """The end is two empty blocks, and not as many as a tape's record has."""
-        self.stream.write(bytes(2 * tarfile.BLOCKSIZE))
+        """The end is two empty blocks, and not as many as fill a record of a tape."""
+        stream = self.file.fileobj
+        assert stream is not None
+        stream.write(bytes(2 * tarfile.BLOCKSIZE))
+        stream.close()
 
     def tree(self, number: int) -> Dict[str, Item]:
         return self.plan.trees.tree(self.plan.states[number][1])
@@ -93,23 +95,6 @@ class ArchiveWriter:
         info.name = f'{above}{slash}GNUSparseFile.0/{name}'
         info.size = len(head) + sum(end - begin for begin, end in runs)
         self.file.addfile(info, Reader(data, runs, head))
-
-
-class Stream(BytesIO):
-    """Writes to a file that may be a pipe, of which an archive asks how much it has."""
-
-    def __init__(self, out: BinaryIO) -> None:
-        super().__init__()
-        self.out = out
-        self.written = 0
-
-    def write(self, data: Any, /) -> int:
-        self.out.write(data)
-        self.written += len(data)
-        return len(data)
-
-    def tell(self) -> int:
-        return self.written
 
 
 class Reader(BytesIO):
