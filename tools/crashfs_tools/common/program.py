@@ -126,8 +126,10 @@ class Crashfs:
     def archive(
         self, words: List[str], environment: Optional[Dict[str, str]] = None
     ) -> Iterator[Iterator[Member]]:
-        """The archive that `crashfs tar` writes, as a stream that is read once."""
-        child = self.start(['tar', *words], environment)
+        """The archive that `crashfs tar` writes, as a stream that is read once. Of the second
+        reading it has no long runs of zeros; the program doesn't know that option yet."""
+        sparse = ['--sparse'] if self.unproved else []
+        child = self.start(['tar', *words, *sparse], environment)
         assert child.stdout is not None and child.stderr is not None
         streams = Streams(child.stdout.fileno(), child.stderr.fileno())
         try:

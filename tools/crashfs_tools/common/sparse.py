@@ -165,6 +165,26 @@ def stripped(at: int, data: bytes) -> Iterator[Part]:
         yield at + len(data) - len(left), left.rstrip(b'\0')
 
 
+def first_difference(one: Content, other: Content) -> int:
+    """Where bytes begin to differ: at the end of the shorter ones if these are the beginning of the
+    others."""
+    length = min(len(one), len(other))
+    for begin in pages_to_compare(one, other, length):
+        pieces = [bytes(data[begin : min(begin + PAGE_BYTES, length)]) for data in (one, other)]
+        if pieces[0] != pieces[1]:
+            pairs = enumerate(zip(*pieces))
+            return begin + next(at for at, (left, right) in pairs if left != right)
+    return length
+
+
+def pages_to_compare(one: Content, other: Content, length: int) -> Iterable[int]:
+    """Where pages begin, up to a length, of which one may have other bytes than zeros."""
+    if isinstance(one, SparseBytes) and isinstance(other, SparseBytes):
+        begins = (page * PAGE_BYTES for page in sorted(one.pages.keys() | other.pages.keys()))
+        return (begin for begin in begins if begin < length)
+    return range(0, length, PAGE_BYTES)
+
+
 def has_many_zeros(data: Union[bytes, bytearray]) -> bool:
     """Whether at least half of the pages of a large file are zeros."""
     if len(data) < LARGE_BYTES:

@@ -17,7 +17,7 @@ from crashfs_tools.common.guard import Guard
 from crashfs_tools.common.removal import remove_tree
 from crashfs_tools.common.trace_read import read_trace
 from crashfs_tools.disks.disk import Crash, Disk, digest_of
-from crashfs_tools.disks.filesystems import IMAGES, FileSystem, named
+from crashfs_tools.disks.filesystems import IMAGES, bytes_written, named, with_room
 from crashfs_tools.disks.pool import DiskPool
 from crashfs_tools.reading import read
 from crashfs_tools.reading.classes import Classes
@@ -49,10 +49,15 @@ class DiskTree:
 def sightings_of(trying: Trying, by_state: Dict[int, Outcome]) -> Sightings:
     """Makes the session again on the file systems of --disks. Images are in memory if there is room
     for them: a crash is then taken in a fraction of a second."""
-    filesystems = named(trying.options.disks or [])
+    with open(trying.planned.trace, 'rb') as file:
+        text = file.read()
+    trace = read_trace(text.decode('utf-8', 'surrogateescape'))
+    size = bytes_written(trace)
+    filesystems = [with_room(one, size) for one in named(trying.options.disks or [])]
     room = IMAGES * trying.options.jobs * sum(one.size for one in filesystems)
     with Guard('crashfs-disks-', MEMORY if has_room(MEMORY, room) else None) as guard:
-        return Search(trying, by_state, filesystems).run(guard.directory, trying.progress.note)
+        search = Search(trying, by_state, text)
+        return search.run(DiskPool(filesystems, trace, guard.directory), trying.progress.note)
 
 
 def has_room(folder: str, size: int) -> bool:
@@ -65,23 +70,18 @@ def has_room(folder: str, size: int) -> bool:
 
 
 class Search:
-    """Makes the session again, and looks for each disk. by_state has the outcomes of states."""
+    """Makes the session again, and looks for each disk. by_state has the outcomes of states, trace
+    is the trace's text."""
 
-    def __init__(
-        self, trying: Trying, by_state: Dict[int, Outcome], filesystems: Sequence[FileSystem]
-    ) -> None:
+    def __init__(self, trying: Trying, by_state: Dict[int, Outcome], trace: bytes) -> None:
         self.trying = trying
         self.by_state = by_state
-        self.filesystems = filesystems
+        self.trace = trace
         self.checker = trying.checker()
-        with open(trying.planned.trace, 'rb') as file:
-            self.trace = file.read()
 
-    def run(self, folder: str, on_step: Callable[[int, int], None]) -> Sightings:
-        """Searches; folder is for the images of disks."""
-        trace = read_trace(self.trace.decode('utf-8', 'surrogateescape'))
-        disks = DiskPool(self.filesystems, trace, folder).disks(self.trying.options.jobs, on_step)
-        found = Sightings([one.name for one in self.filesystems])
+    def run(self, pool: DiskPool, on_step: Callable[[int, int], None]) -> Sightings:
+        disks = pool.disks(self.trying.options.jobs, on_step)
+        found = Sightings(list(disks))
         for name, different in disks.items():
             found.crashes[name] = sum(len(one.crashes) for one in different)
             found.trees[name] = len(different)

@@ -7,7 +7,7 @@ from dataclasses import dataclass
 from typing import Any, Dict, Iterable, Iterator, List, NamedTuple, Optional, Sequence, Tuple
 
 # The fields of a micro-operation that its text has after its kind and path, in this order.
-DETAILS = ('to', 'block', 'at', 'count', 'length', 'node', 'mode', 'owner', 'group')
+DETAILS = ('to', 'block', 'at', 'count', 'length', 'node', 'target', 'mode', 'owner', 'group')
 
 
 class PlanError(Exception):
