@@ -334,7 +334,7 @@ class Disks(InFolder):
         """An fdatasync makes the bytes of its file durable, and none of them."""
         lines = [
             *NEW_KINDS.splitlines()[:2],
-            '{"start":"file","path":"/f","owner":"root","group":"root","mode":"644","text":"hello"}',
+            ALL_KINDS.splitlines()[2].replace('/d/f', '/f'),
             '{"start":"dir","path":"/d","owner":"root","group":"root","mode":"700"}',
             '{"op":"write","path":"/f","offset":0,"text":"HELLO"}',
             '{"op":"fdatasync","path":"/f"}',

@@ -8,7 +8,7 @@ import os
 import subprocess
 import time
 from contextlib import contextmanager
-from typing import Iterator, List, Sequence
+from typing import Iterator, Sequence
 
 from crashfs_tools.common.command import Refused
 from crashfs_tools.common.file_bytes import data_ranges
