@@ -2,6 +2,7 @@
 
 from __future__ import annotations
 
+import json
 from types import SimpleNamespace
 from typing import Any, Dict, List, Set, Tuple
 from unittest import mock
@@ -15,7 +16,7 @@ from crashfs_tools.reading.every import every_set
 from crashfs_tools.reading.order import Order
 
 from .random_traces import RandomTrace
-from .support import EXAMPLES, FAKE, InFolder
+from .support import EXAMPLES, FAKE, TOOLS, InFolder
 from .test_windows import HEADER, Reader, creat, said, sync, write
 
 OPTIONS = {'prefixes': False, 'has_lost': True, 'has_files': True, 'serve': None}
@@ -182,6 +183,36 @@ class Reported(InFolder):
             ran.stdout,
             'store.trace: 11 micro-operations, all 13 crash states (21 sets): none fails\n',
         )
+
+
+# As LevelDB opens: by the manifest that CURRENT names. The old one names the old log.
+LEVELDB = """#!/bin/sh
+manifest=$(cat CURRENT)
+test -e "$manifest" || { echo "corrupt: CURRENT names no file"; exit 1; }
+test $manifest = MANIFEST-000004 || test -e 000003.log || { echo "lost: a row"; exit 1; }
+"""
+
+
+class TwoLosses(InFolder):
+    def test_a_failure_that_needs_two_losses_is_an_entry_with_both_calls(self) -> None:
+        trace = str(TOOLS / 'tests' / 'data' / 'leveldb.trace')
+        recover = self.write('recover.sh', LEVELDB, 0o755)
+        words = ['--crashfs', FAKE, '--json', self.path('r.json')]
+        ran = self.run_tool('crashfs-check', '--every', *words, trace, '--', recover)
+        lines = ran.stdout.splitlines()
+        self.assertIn('all 190 crash states (297 sets): 78 fail: 52 corrupt, 26 lost', lines[0])
+        self.assertIn('    tried: with that sync 0 of these 52 states are left', ran.stdout)
+        self.assertIn('    lost: a row  ', ran.stdout)
+        corrupt, lost = json.loads(self.read('r.json'))['groups']
+        self.assertEqual(corrupt['lines'], [[19, 20]])
+        self.assertEqual((lost['lines'], lost['lost']), ([[19, 21]], [19, 20]))
+        self.assertEqual((corrupt['explained'], lost['explained']), (52, 26))
+        self.assertTrue(lost['covered'])
+        shown = ' '.join(ran.stdout.split())
+        self.assertIn(
+            'line 19 (rename /000004.dbtmp to /CURRENT) was not durable when line 21', shown
+        )
+        self.assertIn('it fails only if this is lost too: line 20 (unlink /MANIFEST-000002)', shown)
 
 
 if __name__ == '__main__':
