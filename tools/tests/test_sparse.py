@@ -49,7 +49,15 @@ class Sparse(unittest.TestCase):
     def test_parts_have_no_long_run_of_zeros(self):
         gap = bytes(GAP_BYTES)
         sparse = SparseBytes.of(b'\0\0a\0\0b' + gap + b'c' + gap[1:] + b'd\0')
-        self.assertEqual(sparse.parts(), [(2, b'a\0\0b'), (38, b'c' + gap[1:] + b'd')])
+        self.assertEqual(sparse.parts(), [(2, b'a\0\0b'), (6 + GAP_BYTES, b'c' + gap[1:] + b'd')])
+
+    def test_long_texts_are_parts(self):
+        text = b'So long a text is a part: "it" takes half the room.\n'
+        sparse = SparseBytes.of(b'\1\2' + text + b'\3' + text[:9] + b'\xff' + text)
+        self.assertEqual(
+            sparse.parts(),
+            [(0, b'\1\2'), (2, text), (54, b'\3' + text[:9] + b'\xff'), (65, text)],
+        )
 
     def test_a_gibibyte_of_zeros_takes_no_memory(self):
         sparse = SparseBytes(1 << 30)

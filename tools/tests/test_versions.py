@@ -79,6 +79,22 @@ class Versions(InRecordings):
             '{"at":536970918,"text":"end"}]}',
         )
 
+    def test_a_file_of_the_start_is_in_parts_if_that_is_shorter(self):
+        dense = bytes(range(1, 256)) * 5
+        for name, data in (('zeros', b'\1\2' + bytes(5_000) + b'\3'), ('dense', dense)):
+            with open(self.path('d', name), 'wb') as file:
+                file.write(data)
+        self.write('d/text', 'all of it can be read\n' * 100)
+        for version, zeros in (
+            ('3', f'"bytes":"0102{"00" * 5_000}03"}}'),
+            ('4', '"length":5003,"parts":[{"at":0,"bytes":"0102"},{"at":5002,"bytes":"03"}]}'),
+        ):
+            self.assertEqual(self.record('true', '--trace-version', version).returncode, 0)
+            lines = self.read('out.trace').splitlines()
+            self.assertTrue(lines[4].endswith('"mode":"644",' + zeros), lines[4])
+            self.assertTrue(lines[1].endswith(f'"bytes":"{dense.hex()}"}}'), lines[1])
+            self.assertIn('"text":"all of it', lines[3])
+
     def test_a_trace_that_begins_late_needs_what_is_there_then(self):
         late = 'ln -s a l; mkdir s; mv s t; rm l; echo begun; echo 2 > old'
         ran = self.record_aloud(late, '--begin-after', 'begun')

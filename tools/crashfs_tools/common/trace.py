@@ -212,6 +212,8 @@ SINCE: Dict[Type[Any], int] = {
     **{Chmod: 2, Chown: 2, Link: 3, FsyncRange: 3, StartLink: 3},
     **{Fdatasync: 4, Symlink: 4, StartSymlink: 4},
 }
+# Smaller files of the start tree are written whole; a part takes room for so many bytes more.
+LEAST_BYTES_IN_PARTS, PART_OVERHEAD = 1_024, 16
 KIND_OF = {made: kind for kind, made in KINDS.items()}
 # The keys of a line that have another name in Python.
 KEYS = {'source': 'from', 'target': 'to', 'link': 'target'}
@@ -264,7 +266,7 @@ class Trace:
 
 
 def start_line(entry: StartLine, version: int) -> str:
-    values = values_of(entry, version)
+    values = values_of(in_parts(entry) if version >= 4 else entry, version)
     if isinstance(entry, StartLink):
         return as_json({'start': 'link', **values})
     if isinstance(entry, StartSymlink):
@@ -272,6 +274,17 @@ def start_line(entry: StartLine, version: int) -> str:
     if entry.data is None:
         return as_json({'start': 'dir', **{key: values[key] for key in DIRECTORY_KEYS}})
     return as_json({'start': 'file', **values})
+
+
+def in_parts(entry: StartLine) -> StartLine:
+    """A start line whose file is written in parts, if that is shorter."""
+    if not isinstance(entry, Start) or not isinstance(entry.data, bytes):
+        return entry
+    if len(entry.data) < LEAST_BYTES_IN_PARTS or readable_text(entry.data):
+        return entry
+    sparse = SparseBytes.of(entry.data)
+    size = sum(len(part) + PART_OVERHEAD for _, part in sparse.parts())
+    return dataclasses.replace(entry, data=sparse) if size < len(entry.data) else entry
 
 
 DIRECTORY_KEYS = ('path', 'owner', 'group', 'mode')

@@ -6,7 +6,7 @@ from typing import Dict, List, Optional, Tuple, Union
 
 from . import limits
 from .entry import Entries, Entry, parent_of
-from .sparse import SparseBytes
+from .sparse import LARGE_BYTES, SparseBytes
 from .trace import (
     BLOCKS,
     Chmod,
@@ -306,9 +306,10 @@ def start_lines(entries: Entries, files: Dict[str, int]) -> Tuple[Header, List[S
 
 
 def data_of(entry: Entry) -> Union[bytes, SparseBytes, None]:
-    """The bytes of a file as they are now, whatever is done to it later."""
-    if isinstance(entry.data, SparseBytes):
-        return entry.data.copy()
+    """The bytes of a file as they are now, whatever is done to it later; of a large one those that
+    aren't zeros."""
+    if isinstance(entry.data, SparseBytes) or len(entry.data or b'') >= LARGE_BYTES:
+        return SparseBytes.of(entry.data or b'')
     return None if entry.data is None else bytes(entry.data)
 
 
