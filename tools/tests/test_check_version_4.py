@@ -21,7 +21,8 @@ STORE = f"""\
 {{"start":"dir","path":"/one",{RIGHTS},"mode":"755"}}
 {{"start":"file","path":"/one/f",{RIGHTS},"mode":"644","text":"first"}}
 {{"start":"symlink","path":"/current",{RIGHTS},"target":"one"}}
-{{"start":"file","path":"/big",{RIGHTS},"mode":"644","length":300000000,"parts":[{{"at":7,"text":"x"}}]}}
+{{"start":"file","path":"/big",{RIGHTS},"mode":"644","length":300000000,\
+"parts":[{{"at":7,"text":"x"}}]}}
 {{"op":"mkdir","path":"/tmp",{RIGHTS},"mode":"755"}}
 {{"op":"creat","path":"/tmp/f",{RIGHTS},"mode":"644"}}
 {{"op":"write","path":"/tmp/f","offset":0,"text":"second"}}

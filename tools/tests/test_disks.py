@@ -62,28 +62,6 @@ ALL_KINDS = """\
 {"op":"sync"}
 """
 
-# What version 4 has besides.
-NEW_KINDS = """\
-{"trace":4,"profile":"blocks","block":4096,"owner":"root","group":"root","mode":"755"}
-{"start":"symlink","path":"/l","owner":"root","group":"root","target":"/etc"}
-{"start":"dir","path":"/d","owner":"root","group":"root","mode":"700"}
-{"start":"symlink","path":"/d/m","owner":"daemon","group":"root","target":"../d/f"}
-{"start":"file","path":"/d/f","owner":"root","group":"root","mode":"644","length":500000000,\
-"parts":[{"at":400000000,"text":"middle"}]}
-{"op":"symlink","path":"/n","owner":"root","group":"daemon","target":"d"}
-{"op":"creat","path":"/d/g","owner":"root","group":"root","mode":"600"}
-{"op":"write","path":"/d/g","offset":20000000,"text":"far"}
-{"op":"rename","from":"/d","to":"/e"}
-{"op":"fdatasync","path":"/e/g"}
-{"op":"write","path":"/e/f","offset":499999999,"text":"end"}
-{"op":"fdatasync","path":"/e/f"}
-{"op":"rename","from":"/n","to":"/l"}
-{"op":"chown","path":"/l","owner":"daemon","group":"daemon"}
-{"op":"mkdir","path":"/d","owner":"root","group":"root","mode":"700"}
-{"op":"rename","from":"/e","to":"/d"}
-{"op":"unlink","path":"/d/m"}
-"""
-
 
 def without_root(tree: Entries) -> Dict[str, Entry]:
     return {path: entry for path, entry in tree.items() if path != '/'}
@@ -124,7 +102,7 @@ class Moments(unittest.TestCase):
         self.assertEqual(list(pulls(Lever.LOG, 0)), [Pull(Lever.LOG)])
 
 
-class Replays(InFolder):
+class InReplays(InFolder):
     def replayed(self, trace: Trace) -> Entries:
         owners = Owners(trace)
         umask = os.umask(0)
@@ -138,44 +116,14 @@ class Replays(InFolder):
             os.umask(umask)
         return disk.read_tree(self.path('d'), owners)
 
+
+class Replays(InReplays):
     @unittest.skipIf(os.geteuid() != 0, 'it gives files to others')
     def test_the_tree_at_the_end_is_that_of_the_trace(self) -> None:
         tree = self.replayed(read_trace(ALL_KINDS))
         wanted = replay(ALL_KINDS.splitlines()).entries
         self.assertEqual(without_root(tree), without_root(wanted))
         self.assertEqual(set(tree), {'/', '/d', '/d/f', '/g', '/e', '/e/b', '/c'})
-
-    @unittest.skipIf(os.geteuid() != 0, 'it gives files to others')
-    def test_symbolic_links_holes_and_renamed_directories_are_made_again(self) -> None:
-        tree = self.replayed(read_trace(NEW_KINDS))
-        wanted = replay(NEW_KINDS.splitlines()).entries
-        self.assertEqual(without_root(tree), without_root(wanted))
-        self.assertEqual(set(tree), {'/', '/d', '/d/f', '/d/g', '/l'})
-        self.assertEqual(disk.digest_of(tree), disk.digest_of(wanted))
-        self.assertLess(os.stat(self.path('d/d/f')).st_blocks, 1_000)
-
-    @unittest.skipIf(os.geteuid() != 0, 'it gives files to others')
-    def test_nothing_is_made_through_a_symbolic_link(self) -> None:
-        """No program accepts such a trace."""
-        os.mkdir(self.path('outside'))
-        self.write('outside/f', 'precious', 0o400)
-        before = os.stat(self.path('outside/f'))
-        link = '{"start":"symlink","path":"/l","owner":"root","group":"root","target":"%s"}'
-        for line, target in (
-            ('{"op":"write","path":"/l","offset":0,"text":"x"}', 'outside/f'),
-            ('{"op":"truncate","path":"/l","length":0}', 'outside/f'),
-            ('{"op":"creat","path":"/l","owner":"root","group":"root","mode":"600"}', 'outside/n'),
-            ('{"op":"chown","path":"/l","owner":"daemon","group":"daemon"}', 'outside/f'),
-        ):
-            lines = [NEW_KINDS.partition('\n')[0], link % self.path(target), line]
-            with self.subTest(line):
-                try:
-                    self.replayed(read_trace('\n'.join(lines)))
-                except OSError:
-                    pass
-                self.assertEqual(os.listdir(self.path('outside')), ['f'])
-                self.assertEqual(os.stat(self.path('outside/f')), before)
-                subprocess.run(['rm', '-r', self.path('d')], check=True)
 
     @unittest.skipIf(os.geteuid() != 0, 'it gives files to others')
     def test_users_that_this_machine_lacks_have_numbers(self) -> None:
@@ -240,7 +188,6 @@ class Names(unittest.TestCase):
         ext4 = filesystems.KNOWN['ext4']
         self.assertEqual(filesystems.with_room(ext4, 8 << 20), ext4)
         self.assertEqual(filesystems.with_room(ext4, (12 << 20) + 1).size, ext4.size + (9 << 20))
-        self.assertLess(filesystems.bytes_written(read_trace(NEW_KINDS)), 100_000)
 
     def test_what_is_lacking_is_named(self) -> None:
         none = filesystems.FileSystem('none', 'mkfs.nothing', (), 0)
@@ -329,32 +276,6 @@ class Disks(InFolder):
                     if crash.moment.most == 1
                 ]
                 self.assertEqual(last[0] == b'hello'.ljust(4096, b'\0') + b'x' * 4096, bool(sync))
-
-    def test_links_and_renamed_directories_are_durable_by_a_sync_of_their_directory(self) -> None:
-        """An fdatasync makes the bytes of its file durable, and none of them."""
-        lines = [
-            *NEW_KINDS.splitlines()[:2],
-            ALL_KINDS.splitlines()[2].replace('/d/f', '/f'),
-            '{"start":"dir","path":"/d","owner":"root","group":"root","mode":"700"}',
-            '{"op":"write","path":"/f","offset":0,"text":"HELLO"}',
-            '{"op":"fdatasync","path":"/f"}',
-            '{"op":"symlink","path":"/m","owner":"root","group":"root","target":"f"}',
-            '{"op":"rename","from":"/d","to":"/e"}',
-            '{"op":"rename","from":"/m","to":"/l"}',
-        ]
-        for synced in (False, True):
-            text = lines + ['{"op":"fsync","path":"/"}'] * synced + ['{"op":"say","text":"1"}']
-            folder = tempfile.mkdtemp(dir=self.path(''))
-            kind = [filesystems.KNOWN['ext4']]
-            pool = DiskPool(kind, read_trace('\n'.join(text)), folder, [Lever.NOTHING])
-            (tree,) = [
-                one.tree
-                for one in pool.disks(1, lambda *_: None)['ext4']
-                if any(crash.moment.most == 1 for crash in one.crashes)
-            ]
-            self.assertEqual(tree['/f'].data, b'HELLO')
-            self.assertEqual(tree['/l'].link, 'f' if synced else '/etc')
-            self.assertEqual(set(tree), {'/', '/f', '/l', '/e' if synced else '/d'})
 
     def test_a_kill_leaves_nothing_mounted_and_no_process(self) -> None:
         program = (

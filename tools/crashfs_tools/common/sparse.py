@@ -10,7 +10,7 @@ ZEROS = bytes(PAGE_BYTES)
 # Zeros inside a part that are fewer stay in it: a part of its own takes more room in a trace.
 GAP_BYTES = 16
 GAP = re.compile(b'\0{%d,}' % GAP_BYTES)
-# Text that people can read, and that is long enough to be a part: it takes half the room in a trace.
+# Text that is long enough to be a part of its own: it takes half the room in a trace.
 TEXT = re.compile(rb'[ -~\n]{48,}')
 # A part has no more bytes, so that no line is made from one huge text.
 PART_BYTES = 1 << 20
