@@ -111,6 +111,30 @@ class Checks(InStore):
         ran = self.run_tool('crashfs-check', '--merge', 'r.json')
         self.assertTrue(ran.stdout.startswith('unproved: '), ran.stdout)
 
+    def test_a_trace_of_a_version_that_the_program_refuses_is_read_by_the_second_reading(self):
+        old = 'grep -q \'"trace":4\' "$3" && echo "crashfs: trace line 1: Syntax" >&2 && exit 1\n'
+        new = f'exec {sys.executable} -S {FAKE} "$@"\n'
+        text = self.read('bad.trace')
+        wanted = (
+            'unproved: a Python program computed these states, '
+            'as crashfs takes no traces of version 4 yet\n'
+        )
+        self.write('refuses', f'#!/bin/sh\n{old}{new}', 0o755)
+        self.write('takes', f'#!/bin/sh\n{new}', 0o755)
+        for version, name, first in [
+            (3, 'refuses', ''),
+            (4, 'takes', ''),
+            (4, 'refuses', wanted),
+        ]:
+            trace = self.write('new.trace', text.replace('"trace":3', f'"trace":{version}'))
+            words = ['--crashfs', f'./{name}', '--json', 'r.json', trace, '--', './recover.sh']
+            ran = self.run_tool('crashfs-check', *words)
+            self.assertEqual((ran.returncode, ran.stderr), (1, ''), ran.stdout)
+            self.assertEqual(ran.stdout.startswith('unproved: '), bool(first), name)
+            self.assertTrue(ran.stdout.startswith(first), ran.stdout)
+        ran = self.run_tool('crashfs-check', '--merge', 'r.json')
+        self.assertTrue(ran.stdout.startswith(wanted), ran.stdout)
+
     def test_a_program_on_the_path_comes_before_the_second_reading(self):
         os.mkdir(self.path('bin'))
         search = f"{self.path('bin')}:/usr/bin:/bin"

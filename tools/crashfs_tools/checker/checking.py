@@ -23,7 +23,7 @@ from crashfs_tools.checker.states.planning import Planner, TooLarge
 from crashfs_tools.common.command import TEXT, Refused, write_whole
 from crashfs_tools.common.guard import Guard, Stopped, TimeUp, time_limit
 from crashfs_tools.common.program import Crashfs
-from crashfs_tools.common.trace_text import TraceText, read_text
+from crashfs_tools.common.trace_text import TraceText, read_text, version_of
 
 from .options import Options
 
@@ -42,8 +42,7 @@ class Checking:
 
     def __init__(self, options: Options, program: Crashfs, guard: Guard) -> None:
         assert options.trace is not None
-        self.options, self.program, self.guard = options, program, guard
-        self.planner = Planner(options, program, guard)
+        self.options, self.guard = options, guard
         self.progress = Progress()
         self.path = os.path.abspath(options.trace)
         with open(self.path, **TEXT) as file:
@@ -53,6 +52,8 @@ class Checking:
         self.mode = 0o600 | status.st_mode & 0o066
         if not stat.S_ISREG(status.st_mode):
             self.path = self.copied()
+        self.program = program.for_version(version_of(self.text))
+        self.planner = Planner(options, self.program, guard)
         self.windows: Optional[Windows] = None
 
     def copied(self) -> str:
@@ -106,6 +107,7 @@ class Checking:
             self.options.command,
             self.options.shard,
             self.program.unproved,
+            refused_version=self.program.refused_version,
         )
 
     def digest(self) -> str:

@@ -10,6 +10,7 @@ import select
 import shutil
 import subprocess
 import sys
+import tempfile
 from contextlib import contextmanager
 from functools import cached_property
 from itertools import groupby
@@ -30,6 +31,11 @@ UNKNOWN_OPTION = 2
 PIECE_BYTES = 1 << 16
 # So much of an archive is read at once.
 ARCHIVE_BYTES = 1 << 18
+# The first version that a program may refuse, and what it then says of a trace without lines.
+NEW_VERSION, REFUSED = 4, 'Syntax'
+EMPTY_TRACE = (
+    '{"trace":%d,"profile":"blocks","block":4096,"owner":"root","group":"root","mode":"755"}\n'
+)
 # A shell's status for a program that can't be started.
 NOT_STARTED = 126
 # What the program says of a trace that it would take in parts.
@@ -58,11 +64,13 @@ class ProgramFault(Exception):
 
 
 class Crashfs:
-    """One program file; or, unproved, the second reading."""
+    """One program file; or, unproved, the second reading. refused_version: the version of traces
+    that the program refuses and the second reading takes in its place."""
 
-    def __init__(self, path: str, unproved: bool = False) -> None:
+    def __init__(self, path: str, unproved: bool = False, refused_version: int = 0) -> None:
         self.path = path
         self.unproved = unproved
+        self.refused_version = refused_version
 
     @staticmethod
     def find_or_read(given: Optional[str], unproved: bool) -> Crashfs:
@@ -80,6 +88,23 @@ class Crashfs:
             return Crashfs(os.path.abspath(shutil.which(given) or given))
         path = shutil.which('crashfs') or program_beside(LIBRARY)
         return None if path is None else Crashfs(path)
+
+    def for_version(self, version: int) -> Crashfs:
+        """This program, or the second reading if the program takes no traces of a version."""
+        if self.unproved or version < NEW_VERSION or self.takes(version):
+            return self
+        return Crashfs(READING, unproved=True, refused_version=version)
+
+    def takes(self, version: int) -> bool:
+        """Whether the program takes traces of a version: it is given one that has no lines."""
+        with tempfile.NamedTemporaryFile('w', suffix='.trace') as file:
+            file.write(EMPTY_TRACE % version)
+            file.flush()
+            try:
+                self.text(['list', '--trace', file.name])
+            except ProgramFault as fault:
+                return REFUSED not in str(fault)
+        return True
 
     @cached_property
     def has_changes(self) -> bool:

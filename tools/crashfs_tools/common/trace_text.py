@@ -3,6 +3,7 @@
 from __future__ import annotations
 
 import json
+from io import StringIO
 from typing import Any, Dict, Iterable, Iterator, List, NamedTuple, Tuple
 
 from .trace import TraceError
@@ -46,6 +47,16 @@ def read_text(text: str) -> TraceText:
             if fields['op'] == 'say':
                 acknowledged.append(fields['text'])
     return TraceText(operations, acknowledged)
+
+
+def version_of(text: str) -> int:
+    """The version that a trace's header gives; 0 if it has no header."""
+    try:
+        _, header = next(fields_of_lines(StringIO(text)))
+        version = header['trace']
+    except (TraceError, StopIteration, KeyError, TypeError):
+        return 0
+    return version if isinstance(version, int) else 0
 
 
 def root_owner(lines: Iterable[str]) -> str:

@@ -43,6 +43,9 @@ SURROGATE = re.compile('[\ud800-\udfff]')
 CAUSE_WIDTH = 52
 NONE_FAILS, SOME_FAIL, NOT_ALL_TRIED = 0, 1, 3
 UNPROVED = 'unproved: a Python program computed these states, not crashfs'
+VERSION_UNPROVED = (
+    'unproved: a Python program computed these states, as crashfs takes no traces of version {} yet'
+)
 SETS_UNPROVED = 'unproved: a Python program found which states there are, not crashfs'
 HOW_TO_BUILD = ' (tools/build builds crashfs)'
 # What stopped a check that could not say so itself.
@@ -175,6 +178,8 @@ class Report:
 
     def first_lines(self) -> List[str]:
         how = HOW_TO_BUILD if can_be_built() else ''
+        if self.head.refused_version:
+            return [VERSION_UNPROVED.format(self.head.refused_version), self.summary()]
         if self.head.unproved:
             return [UNPROVED + how, self.summary()]
         return [SETS_UNPROVED, self.summary()] if self.counts.are_read else [self.summary()]

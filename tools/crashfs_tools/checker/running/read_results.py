@@ -65,6 +65,7 @@ def head_of(fields: Dict[str, Any]) -> Head:
             for line, tried in (row(one, integer, integer) for one in fields['cut_off'])
         ],
         is_true(fields.get('has_rest', False)),
+        integer(fields.get('refused_version', 0)),
     )
 
 

@@ -33,6 +33,7 @@ class Head:
     stopped: str = ''
     cut_off: List[Tuple[int, int]] = field(default_factory=list)
     has_rest: bool = False
+    refused_version: int = 0
 
     def identity(self) -> Tuple[object, ...]:
         return self.digest, self.command, self.shard
@@ -44,6 +45,7 @@ class Head:
             'sha256': self.digest,
             'command': self.command,
             'unproved': self.unproved,
+            'refused_version': self.refused_version,
             'shard': [self.shard.part, self.shard.parts],
             'stopped': self.stopped,
             'has_rest': self.has_rest,
@@ -164,6 +166,7 @@ def merged(parts: List[AllResults]) -> AllResults:
         first.head,
         shard=Shard(),
         unproved=any(one.head.unproved for one in parts),
+        refused_version=max(one.head.refused_version for one in parts),
         has_rest=any(one.head.has_rest for one in parts),
         stopped=next((one.head.stopped for one in parts if one.head.stopped), ''),
     )
