@@ -230,7 +230,9 @@ REPORTED = {
     'exchange': ['a: exchanged with /exchange/b, which no trace can say'],
     'link_of_symlink': [
         'l: link is left out: /link_of_symlink/l is a symbolic link',
+        'l: linkat is left out: /link_of_symlink/l is a symbolic link',
         'c: stays another name of /link_of_symlink/l, by a link',
+        'd: stays another name of /link_of_symlink/l, by a link',
     ],
     'mknod_pipe': ['p: a device or a named pipe was made'],
     'mknodat_pipe': ['p: a device or a named pipe was made'],

@@ -5,6 +5,7 @@ import subprocess
 import unittest
 from unittest import mock
 
+from crashfs_tools.checker.running.runner import Says
 from crashfs_tools.checker.states import kept_tree
 from crashfs_tools.checker.states.kept_tree import KeptTree
 from crashfs_tools.checker.states.layout import lay_out
@@ -163,6 +164,17 @@ class Safety(InFolder):
                 if not full.startswith(self.outside) and not os.path.islink(full):
                     os.rename(full, f'{full}-{os.urandom(4).hex()}')
                     os.symlink(self.outside, full)
+
+    def test_acknowledged_lines_are_not_written_through_a_link(self):
+        says = Says(['one', 'two'], self.folder)
+        self.assertEqual(self.read(says.path(2)), 'one\ntwo\n')
+        self.assertEqual(self.read(says.path(1)), 'one\n')
+        os.unlink(says.file)
+        os.symlink(os.path.join(self.outside, 'file'), says.file)
+        for count in (0, 2):
+            with self.assertRaises(OSError):
+                says.path(count)
+        self.assert_untouched()
 
     def test_a_mode_is_only_set_of_a_directory_itself(self):
         os.symlink(self.outside, self.path('link'))

@@ -28,6 +28,8 @@ TURN_SECONDS = 0.5
 # A command that takes longer lets others know what is known so far.
 SLOW_SECONDS = 0.01
 LOOK_SECONDS = 0.002
+# COMMAND may put a symbolic link in the place of this file.
+LINES_FILE = os.O_WRONLY | os.O_NOFOLLOW | os.O_CLOEXEC
 # The signals that Python ignores, and that a command has as usual.
 IGNORED = (signal.SIGPIPE, signal.SIGXFSZ)
 
@@ -70,13 +72,12 @@ class Says:
         file = os.path.join(self.folder, f'says-{os.getpid()}')
         if self.file != file:
             self.file, self.count = file, 0
-            with open(file, 'wb'):
-                pass
-        if count < self.count:
-            os.truncate(file, self.sizes[count])
-        elif count > self.count:
-            with open(file, 'a', encoding='utf-8') as more:
-                more.write(self.text(count, self.count))
+            os.close(os.open(file, LINES_FILE | os.O_CREAT | os.O_TRUNC, 0o666))
+        if count != self.count:
+            with open(os.open(file, LINES_FILE), 'wb') as lines:
+                lines.truncate(self.sizes[min(count, self.count)])
+                lines.seek(0, os.SEEK_END)
+                lines.write(self.text(count, self.count).encode())
         self.count = count
         return file
 

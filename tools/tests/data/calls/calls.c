@@ -354,6 +354,7 @@ static void link_of_symlink(void) {
   must(CALL(SYS_symlink, "a", "l"));
   must(CALL(SYS_linkat, AT_FDCWD, "l", AT_FDCWD, "b", AT_SYMLINK_FOLLOW));
   must(CALL(SYS_link, "l", "c"));
+  must(CALL(SYS_linkat, AT_FDCWD, "l", AT_FDCWD, "d", 0));
 }
 static void chown_symlink(void) {
   new_file("a");
