@@ -47,9 +47,11 @@ def wanted_trials(text: str) -> Set[Tuple[object, int]]:
     return {(trees.digest(one), trees.count_says(one)) for one in every_set(order)}
 
 
-class AllListed(InFolder):
+class Listing(InFolder):
     def planner(self, program: Any, most: int = 20_000) -> Planner:
-        options: Any = SimpleNamespace(**OPTIONS, has_every=True, most_states=most, profile=None)
+        options: Any = SimpleNamespace(
+            **OPTIONS, has_every=True, most_states=most, profile=None, draws=50
+        )
         guard: Any = SimpleNamespace(directory=self.temporary, environment=None)
         return Planner(options, program, guard)
 
@@ -66,6 +68,8 @@ class AllListed(InFolder):
         kept = [planned.plan.kept[number] for number in firsts.values()]
         return [(trees.digest(one), trees.count_says(one)) for one in kept]
 
+
+class AllListed(Listing):
     def test_each_crash_state_is_tried_once(self) -> None:
         for name, text in trace_texts():
             with self.subTest(name):
@@ -120,9 +124,12 @@ class AllListed(InFolder):
         for most, are_listed in ((256, True), (255, False)):
             plan = self.planned(text, most).plan
             assert plan.all_states is not None
-            self.assertEqual(plan.all_states, (256, are_listed, True))
+            self.assertEqual(plan.all_states[:4], (256, are_listed, True, most))
+            self.assertEqual(len(plan.all_states.drawn), 0 if are_listed else 50)
             families = plan_of(read(text.encode()), holes=True)
-            self.assertEqual(len(plan.listed) > len(families.states) + 30, are_listed)
+            self.assertGreaterEqual(len(plan.families), len(families.states))
+            firsts = {Trial(one.same, one.says) for one in plan.states}
+            self.assertEqual(len(firsts) == 256, are_listed)
 
     def test_more_states_than_a_plan_takes_are_laid_out(self) -> None:
         """In several picks files, and by the program's own limits."""
@@ -151,7 +158,7 @@ class Reported(InFolder):
         for words, line in [
             (['--every'], 'all 13 crash states (21 sets): none fails'),
             (['--every', '13'], 'all 13 crash states (21 sets): none fails'),
-            (['--every', '12'], '20 states, 13 different: none fails'),
+            (['--every', '12'], '13 of 21 crash states tried: none of these fails'),
             (['--families'], '20 states, 13 different: none fails'),
         ]:
             self.assertEqual(self.check('--crashfs', FAKE, *words), [first + line])

@@ -15,8 +15,10 @@ from .address import Address
 NAME = 'crashfs-check'
 # Each job is a process, and one of the program.
 MOST_JOBS = 1_024
-# So many different crash states are all tried by default.
-MOST_STATES = 20_000
+# So many different crash states are all tried by default, if they take no longer.
+MOST_STATES, MOST_SECONDS = 20_000, 600.0
+# So many sets are drawn at random if the crash states are more; with --time-limit more of them.
+DRAWS, LIMITED_DRAWS = 1_000, 10_000
 
 DESCRIPTION = """\
 Runs COMMAND in the crash states of a trace, and reports in which states it fails, and why.
@@ -93,6 +95,18 @@ class Options:
     def most_states(self) -> int:
         """The most different states of which all are tried."""
         return self.every or MOST_STATES
+
+    @property
+    def draws(self) -> int:
+        """How many sets are drawn if all crash states are too many."""
+        return LIMITED_DRAWS if self.time_limit is not None else DRAWS
+
+    @property
+    def most_seconds(self) -> float:
+        """How long all crash states may take; longer if that is asked for, or if each shard has a
+        part of them."""
+        is_free = self.every is not None or self.time_limit is not None or self.shard.parts > 1
+        return float('inf') if is_free else MOST_SECONDS
 
     @property
     def has_lost(self) -> bool:

@@ -4,6 +4,7 @@ from __future__ import annotations
 
 from collections import Counter
 from dataclasses import dataclass, field
+from itertools import takewhile
 from typing import Counter as Counts
 from typing import List, Optional
 
@@ -15,12 +16,16 @@ from crashfs_tools.common.printable import printable
 
 # So many words of causes are counted in the first line.
 SHOWN_WORDS = 5
+# There are more sets than so many if they can't be counted.
+LEAST_OF_MANY = 1_000_000
 
 
 @dataclass
 class StateCounts:
     """How many states there are, over all windows. results and words count different states, which
-    are tried once; all_failing counts their repetitions too."""
+    are tried once; all_failing counts their repetitions too. is_part says that not all crash states
+    are tried, although they were asked for; seconds is how long a state takes; drawn has of each
+    set that was drawn whether it fails."""
 
     windows: int = 0
     operations: int = 0
@@ -31,6 +36,9 @@ class StateCounts:
     all_failing: int = 0
     every: List[Optional[AllStates]] = field(default_factory=list)
     profile: str = ''
+    is_part: bool = False
+    seconds: float = 0.0
+    drawn: List[bool] = field(default_factory=list)
     results: Counts[str] = field(default_factory=Counter)
     words: Counts[str] = field(default_factory=Counter)
 
@@ -48,7 +56,12 @@ class StateCounts:
         self.operations = findings.plan.begin + len(findings.plan.operations)
         self.states += len(results.own)
         self.different += len(results.trials)
-        self.wanted += sum(map(shard.has, range(len(results.trials))))
+        self.wanted += sum(map(shard.has, range(len(results.wanted))))
+        self.is_part = self.is_part or results.is_part
+        self.seconds = results.seconds or self.seconds
+        drawn = results.plan.all_states.drawn if results.plan.all_states else ()
+        tried = list(takewhile(bool, map(findings.by_state.get, drawn)))
+        self.drawn += [one is not None and one.result == BAD for one in tried]
         self.tried += len(outcomes)
         self.all_failing += sum(one.result == BAD for one in findings.own_outcomes())
         self.add_outcomes(outcomes)
@@ -100,12 +113,23 @@ class StateCounts:
     def shown_states(self, head: Head) -> str:
         """How many states there are."""
         under = f' under {self.profile}' if self.profile else ''
+        if self.is_part:
+            return f'{self.tried:,} of {self.total} crash states{under} tried{stop_text(head)}'
         if not self.has_every:
             return f'{self.states:,} states{under}, {self.different:,} different'
         all_of = 'all ' if self.is_whole(head) else ''
         sets = f' ({self.sets:,} set{"" if self.sets == 1 else "s"})' if self.sets else ''
         states = 'crash states' if self.different > 1 else 'crash state'
         return f'{all_of}{self.different:,} {states}{under or sets}'
+
+    @property
+    def total(self) -> str:
+        """How many crash states there are, or sets if the states are too many to be listed."""
+        if self.has_every:
+            return f'{self.different:,}'
+        if len(self.every) > 1:
+            return f'more than {max(one.most for one in self.every if one is not None):,}'
+        return f'{self.sets:,}' if self.sets is not None else f'more than {LEAST_OF_MANY:,}'
 
     def is_whole(self, head: Head) -> bool:
         """Whether all was tried."""
@@ -118,6 +142,8 @@ class StateCounts:
         parts = [self.failing_text(head)]
         if self.results[NO_ANSWER]:
             parts.append(f'{self.results[NO_ANSWER]:,} gave no answer')
+        if self.is_part:
+            return '; '.join(parts)
         if self.left or head.has_rest:
             parts.append(f'{self.left_text(head)} not tried{stop_text(head)}')
         return '; '.join(parts)
@@ -127,17 +153,19 @@ class StateCounts:
         of_tried = f' of the {self.tried:,} tried'
         if shard.parts > 1:
             of_tried += f' by shard {shard.part}/{shard.parts}'
-        is_whole = shard.parts == 1 and not self.left and not head.has_rest
+        if not self.failing and self.is_part:
+            return 'none of these fails'
         if not self.failing:
-            return 'none fails' if is_whole else f'none{of_tried} fails'
+            return 'none fails' if self.is_whole(head) else f'none{of_tried} fails'
         words = ', '.join(
             f'{count:,} {printable(word)}' for word, count in self.words.most_common(SHOWN_WORDS)
         )
         fail = f'fail{"s" if self.failing == 1 else ""}'
-        if not self.is_whole(head):
+        if not self.is_whole(head) and not self.is_part:
             return f'{self.failing:,}{of_tried} {fail}: {words}'
         of_all = f' ({self.all_failing:,} of all {self.states:,} states)'
-        return f'{self.failing:,} {fail}{"" if self.has_every else of_all}: {words}'
+        is_every = self.is_part or self.has_every
+        return f'{self.failing:,} {fail}{"" if is_every else of_all}: {words}'
 
     def left_text(self, head: Head) -> str:
         rest = f'all states after micro-operation {self.operations - 1:,}' if head.has_rest else ''

@@ -25,6 +25,7 @@ from crashfs_tools.common.trace_lines import TraceLine
 
 from .counts import StateCounts
 from .profiles import profiles_text
+from .rest import rest_lines
 
 if TYPE_CHECKING:
     from crashfs_tools.checker.findings.sightings import Sightings
@@ -148,6 +149,7 @@ class Report:
                 *self.cut_off_lines(),
                 *self.recovery_lines(),
                 *self.disk_lines(),
+                *rest_lines(self.counts),
             ]
         ]
 

@@ -4,7 +4,7 @@ before it is used."""
 from __future__ import annotations
 
 import json
-from typing import Any, Callable, Dict, List, Tuple, TypeVar
+from typing import Any, Callable, Dict, FrozenSet, List, Optional, Tuple, TypeVar
 
 from crashfs_tools.checker.options import Shard
 from crashfs_tools.checker.states.plan import (
@@ -76,7 +76,22 @@ def results_of(fields: Dict[str, Any]) -> Results:
         by_state(plan, fields['outcomes'], outcome),
         by_state(plan, fields['known'], integer),
         by_state(plan, fields.get('reruns', {}), outcome),
+        chosen_of(plan, fields.get('chosen')),
+        number(fields.get('seconds', 0.0)),
     )
+
+
+def chosen_of(plan: Plan, value: Any) -> Optional[FrozenSet[int]]:
+    chosen = None if value is None else frozenset(map(integer, items(value)))
+    if chosen is not None and not all(map(plan.has, chosen)):
+        raise ValueError('no state of the plan')
+    return chosen
+
+
+def number(value: Any) -> float:
+    if type(value) not in (int, float) or not 0 <= value < MOST:
+        raise ValueError('no number')
+    return float(value)
 
 
 def plan_of(fields: Dict[str, Any]) -> Plan:
@@ -95,7 +110,11 @@ def plan_of(fields: Dict[str, Any]) -> Plan:
     ):
         raise ValueError('needs are of micro-operations, and of earlier ones')
     known = fields.get('all_states')
-    all_states = None if known is None else all_states_of(known)
+    all_states = (
+        None
+        if known is None
+        else all_states_of(known, lambda one: first <= one < first + len(listed))
+    )
     profiles = profiles_of(fields.get('profiles', [[], [], '']), len(listed))
     return Plan(operations, listed, Needs(masks), first, all_states, profiles)
 
@@ -110,11 +129,20 @@ def profiles_of(value: Any, count: int) -> SetProfiles:
     return SetProfiles(names, allowed, wanted)
 
 
-def all_states_of(value: Any) -> AllStates:
-    sets, are_listed, are_read = row(value, lambda one: one, is_true, is_true)
-    if sets is not None and (type(sets) is not int or sets < 0):
+def all_states_of(value: Any, has: Callable[[int], bool]) -> AllStates:
+    sets, are_listed, are_read, most, families, drawn = row(
+        value, optional, is_true, is_true, integer, integer, items
+    )
+    if not all(map(has, map(integer, drawn))):
+        raise ValueError('no state of the plan')
+    return AllStates(sets, are_listed, are_read, most, families, tuple(drawn))
+
+
+def optional(value: Any) -> Optional[int]:
+    """A number of any size, or None."""
+    if value is not None and (type(value) is not int or value < 0):
         raise ValueError('no number')
-    return AllStates(sets, are_listed, are_read)
+    return value
 
 
 def state(value: Any, number: int, count: int) -> State:

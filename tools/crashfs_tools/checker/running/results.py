@@ -5,7 +5,8 @@ from __future__ import annotations
 import os
 import shlex
 from dataclasses import dataclass, field, replace
-from typing import Any, Dict, List, Tuple
+from functools import cached_property
+from typing import Any, Dict, FrozenSet, Iterable, List, Optional, Set, Tuple
 
 from crashfs_tools.checker.options import Shard
 from crashfs_tools.checker.states.plan import Plan, Trial
@@ -57,12 +58,15 @@ class Head:
 @dataclass
 class Results:
     """A window's plan, and the outcomes by the states tried. known are the states that the window
-    before has too, with their numbers there: they are tried there. reruns are second outcomes."""
+    before has too, with their numbers there: they are tried there. reruns are second outcomes.
+    chosen are the states to try if all would take too long, seconds how long each takes."""
 
     plan: Plan
     outcomes: Dict[int, Outcome] = field(default_factory=dict)
     known: Dict[int, int] = field(default_factory=dict)
     reruns: Dict[int, Outcome] = field(default_factory=dict)
+    chosen: Optional[FrozenSet[int]] = None
+    seconds: float = 0.0
 
     def __post_init__(self) -> None:
         first: Dict[Trial, int] = {}
@@ -84,16 +88,43 @@ class Results:
                 found[state.number] = outcome
         return found
 
+    @cached_property
+    def numbers_of_sets(self) -> Dict[int, Set[int]]:
+        """The states that are tried for a set; of a set that the window before has none."""
+        found: Dict[int, Set[int]] = {}
+        for state in self.plan.states:
+            number = self.trials.get(Trial(state.same, state.says))
+            if number is not None:
+                found.setdefault(self.plan.kept[state.number], set()).add(number)
+        return found
+
+    @property
+    def is_part(self) -> bool:
+        """Whether not all crash states are tried, although they were asked for."""
+        every = self.plan.all_states
+        return every is not None and (self.chosen is not None or not every.are_listed)
+
+    @property
+    def wanted(self) -> List[int]:
+        """The states to try."""
+        numbers = self.trials.values()
+        return [one for one in numbers if self.chosen is None or one in self.chosen]
+
+    def choose(self, turns: Iterable[Set[int]]) -> None:
+        """Lets only these states be tried, and those that were."""
+        self.chosen = frozenset(self.outcomes).union(*turns)
+
     def take(self, earlier: Results) -> None:
         """Takes the outcomes of an earlier check of the same, but for those without an answer."""
+        self.chosen, self.seconds = earlier.chosen, earlier.seconds
         self.outcomes.update(
             {state: one for state, one in earlier.outcomes.items() if one.result != NO_ANSWER}
         )
 
     @property
     def is_whole(self) -> bool:
-        """Whether each trial has an outcome."""
-        return all(number in self.outcomes for number in self.trials.values())
+        """Whether each state to try has an outcome."""
+        return all(number in self.outcomes for number in self.wanted)
 
     def identity(self) -> Tuple[object, ...]:
         return self.plan.operations, self.plan.listed, self.plan.needs.masks
@@ -103,6 +134,8 @@ class Results:
             'first': self.plan.first,
             'all_states': self.plan.all_states and list(self.plan.all_states),
             'profiles': list(self.plan.profiles),
+            'chosen': None if self.chosen is None else sorted(self.chosen),
+            'seconds': round(self.seconds, 4) if self.is_part else 0,
             'outcomes': {str(state): list(one) for state, one in sorted(self.outcomes.items())},
             'reruns': {str(state): list(one) for state, one in sorted(self.reruns.items())},
             'known': {str(state): other for state, other in self.known.items()},

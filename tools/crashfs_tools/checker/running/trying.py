@@ -13,9 +13,11 @@ from crashfs_tools.common.limits import RUNS
 from crashfs_tools.common.program import Crashfs
 from crashfs_tools.common.trace_text import has_much, root_owner
 
+from .pace import Pace, TooSlow
 from .progress import Progress
 from .results import Results
 from .runner import Checker, Outcome, Says, nothing
+from .turns import turns
 from .workers import OnOutcome, Workers
 
 if TYPE_CHECKING:
@@ -93,15 +95,21 @@ class Trying:
 
     def try_states(self, wanted: Set[int], on_outcome: OnOutcome) -> None:
         """Tries states; a stop may come meanwhile."""
+        self.try_in_turns([wanted], on_outcome)
+
+    def try_in_turns(self, turns: Sequence[Set[int]], on_outcome: OnOutcome) -> None:
+        """Tries states, turn by turn."""
         progress = self.progress
-        progress.begin(len(wanted), self.planned.part())
+        progress.begin(sum(map(len, turns)), self.planned.part())
 
         def step(number: int, outcome: Outcome) -> None:
             on_outcome(number, outcome)
             progress.step(outcome)
 
         try:
-            self.run_workers(self.layout(many=True), wanted, step)
+            layout = self.layout(many=True)
+            for turn in turns:
+                self.run_workers(layout, turn, step)
         finally:
             progress.end()
 
@@ -117,11 +125,8 @@ class Trying:
 
     def wanted(self, results: Results) -> Set[int]:
         """The states that are tried: of the shard, the first of each that are alike."""
-        firsts = {
-            state
-            for place, state in enumerate(results.trials.values())
-            if self.options.shard.has(place)
-        }
+        shard = self.options.shard
+        firsts = {state for place, state in enumerate(results.wanted) if shard.has(place)}
         if self.options.serve is not None and len(firsts) > RUNS:
             raise Refused(
                 f'{len(firsts):,} states are more than the {RUNS:,} runs of one server: '
@@ -131,15 +136,38 @@ class Trying:
 
     def run(self, results: Results, after_each: Callable[[], None] = nothing) -> bool:
         """Tries each different state of the shard that has no outcome yet; returns whether it
-        tried all."""
+        tried all. If that would take too long it tries those of the families."""
+        every = results.plan.all_states
+        if every is not None and not every.are_listed:
+            results.choose(turns(results, are_all=False))
+        pace = Pace(self.options.most_seconds if results.chosen is None else float('inf'))
 
         def keep(number: int, outcome: Outcome) -> None:
             results.outcomes[number] = outcome
             after_each()
+            pace.step()
 
-        left = self.wanted(results) - set(results.outcomes)
-        self.try_states(left, keep)
-        return left <= set(results.outcomes)
+        while True:
+            left = self.wanted(results) - set(results.outcomes)
+            pace.begin(len(left))
+            try:
+                self.try_in_turns(self.turns(results, left), keep)
+                return left <= set(results.outcomes)
+            except TooSlow:
+                results.choose(turns(results, are_all=False))
+            finally:
+                results.seconds = pace.seconds or results.seconds
+
+    def turns(self, results: Results, left: Set[int]) -> List[Set[int]]:
+        """The states that are left, in the order in which they are tried."""
+        every = results.plan.all_states
+        is_whole = every is not None and every.are_listed and results.chosen is None
+        is_limited = self.options.time_limit is not None or self.options.fail_fast
+        if every is None or is_whole and not is_limited:
+            return [left]
+        found = [turn & left for turn in turns(results, are_all=is_whole)]
+        others = left - set().union(*found)
+        return [turn for turn in [*found, others] if turn]
 
 
 def has_large_trees(trace: str) -> bool:

@@ -70,12 +70,16 @@ class Before(NamedTuple):
 
 class AllStates(NamedTuple):
     """What is known of all crash states of a trace: how many sets its rules allow, None if they are
-    too many to be counted; whether the plan has each different state; whether the second reading
-    found the sets."""
+    too many to be counted; whether the plan has each different state, if these are at most `most`;
+    whether the second reading found the sets. The first states of the plan, so many, are families.
+    drawn are the states that were drawn at random, in their order."""
 
     sets: Optional[int]
     are_listed: bool
     are_read: bool = False
+    most: int = 0
+    families: int = 0
+    drawn: Tuple[int, ...] = ()
 
 
 class Needs:
@@ -96,6 +100,11 @@ class Needs:
                 later for later in range(place + 1, len(self.masks)) if self.needs(later, place)
             )
         return self.needed_by[place]
+
+    @property
+    def full(self) -> int:
+        """The set of all micro-operations."""
+        return (1 << len(self.masks)) - 1
 
     @property
     def holes(self) -> int:
@@ -170,6 +179,11 @@ class Plan:
     ) -> Plan:
         """The same plan with these states, and what is known of them."""
         return Plan(self.operations, listed, self.needs, self.first, all_states, profiles)
+
+    @property
+    def families(self) -> List[State]:
+        """The states that are listed as members of families."""
+        return self.listed[: self.all_states.families] if self.all_states else self.listed
 
     @property
     def begin(self) -> int:
@@ -269,6 +283,14 @@ def list_of(numbers: Iterable[int]) -> str:
         else:
             ranges.append([number, number])
     return ','.join(str(first) if first == last else f'{first}-{last}' for first, last in ranges)
+
+
+def line_losses(operations: Sequence[MicroOperation], needs: Needs) -> List[int]:
+    """For each line of the trace the largest set that has nothing of it."""
+    lost: Dict[int, int] = {}
+    for place, one in enumerate(operations):
+        lost[one.line] = lost.get(one.line, 0) | needs.needing(place)
+    return [needs.full & ~one for one in lost.values()]
 
 
 def set_of(places: Iterable[int]) -> int:

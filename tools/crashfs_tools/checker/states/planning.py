@@ -24,10 +24,15 @@ from .plan import (
     Plan,
     Planned,
     SetProfiles,
+    line_losses,
     places_of,
     read_plan,
     set_of,
 )
+
+
+# Sets are drawn by the same seed each time.
+SEED = 1
 
 
 class TooLarge(Refused):
@@ -48,18 +53,39 @@ class Planner:
         options = self.options
         if not (options.has_lost or options.has_files or options.has_every):
             return self.planned(trace, before, [])
-        needs = self.prefixes(trace).needs
-        families = self.families(trace, needs)
+        prefixes = self.prefixes(trace)
+        families = self.families(trace, prefixes.needs)
         if not options.has_every:
             return self.planned(trace, before, [families])
+        losses = line_losses(prefixes.operations, prefixes.needs)
+        more = [one for one in losses if not self.is_listed(prefixes.needs, one)]
+        return self.every_planned(
+            trace, before, prefixes.needs, list(dict.fromkeys(families + more))
+        )
+
+    def every_planned(
+        self, trace: str, before: Before, needs: Needs, families: List[int]
+    ) -> Planned:
+        """The plan of some families and of all crash states; if these are too many, of some that
+        are drawn."""
         read = ReadSets(trace)
         sets = all_sets(self.program, self.guard.environment, read)
-        found = every_set(sets, read, options.most_states)
-        more = [one for one in found or [] if not self.is_listed(needs, one)]
+        found = every_set(sets, read, self.options.most_states)
+        drawn = [] if found is not None else sets.drawn(self.options.draws, SEED) or []
+        more = [one for one in (found or drawn) if not self.is_listed(needs, one)]
         picks = list(dict.fromkeys([*families, *more]))
         planned = self.planned(trace, before, in_parts(picks, self.room(needs), len(needs.masks)))
-        every = AllStates(sets.count(), found is not None, sets.is_read)
-        planned.plan = self.with_profiles(planned.plan, read, every)
+        plan = planned.plan
+        numbers = {plan.kept[one.number]: one.number for one in reversed(plan.listed)}
+        every = AllStates(
+            sets.count(),
+            found is not None,
+            sets.is_read,
+            self.options.most_states,
+            len(plan.listed) - len(picks) + len(families),
+            tuple(numbers[one] for one in drawn),
+        )
+        planned.plan = self.with_profiles(plan, read, every)
         return planned
 
     def with_profiles(self, plan: Plan, read: ReadSets, every: AllStates) -> Plan:

@@ -1,0 +1,39 @@
+"""How long states take: whether all of them can be tried."""
+
+from __future__ import annotations
+
+import time
+from typing import Callable
+
+# So many states tell how long all will take.
+MEASURED = 100
+
+
+class TooSlow(Exception):
+    """All states would take longer than they may."""
+
+
+class Pace:
+    """Measures states as they are tried; they may take so many seconds together."""
+
+    def __init__(self, most: float, clock: Callable[[], float] = time.monotonic) -> None:
+        self.most = most
+        self.clock = clock
+        self.begin(0)
+
+    def begin(self, total: int) -> None:
+        self.total = total
+        self.tried = 0
+        self.begun = self.clock()
+
+    def step(self) -> None:
+        """One more was tried; TooSlow, once, if all will take too long."""
+        self.tried += 1
+        if self.tried == MEASURED and self.seconds * self.total > self.most:
+            self.most = float('inf')
+            raise TooSlow
+
+    @property
+    def seconds(self) -> float:
+        """How long each state takes, as many as there are at once; 0 if none was tried."""
+        return (self.clock() - self.begun) / self.tried if self.tried else 0.0

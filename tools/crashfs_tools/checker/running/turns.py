@@ -1,0 +1,72 @@
+"""The order in which states are tried if not all can be: those first that find most."""
+
+from __future__ import annotations
+
+from typing import Dict, Iterable, Iterator, List, Set
+
+from crashfs_tools.checker.states.plan import Plan, line_losses
+
+from .results import Results
+
+
+def turns(results: Results, are_all: bool) -> List[Set[int]]:
+    """The states to try, turn by turn, as results names them. are_all says whether states of no
+    family come too, after those of the families and those that were drawn."""
+    plan = results.plan
+    found: List[Set[int]] = []
+    seen: Set[int] = set()
+    for sets in [*family_turns(plan), drawn_sets(plan), *([plan.kept.values()] if are_all else [])]:
+        turn = tried_for(results, sets) - seen
+        seen |= turn
+        found += [turn] if turn else []
+    return found
+
+
+def tried_for(results: Results, sets: Iterable[int]) -> Set[int]:
+    """The states that are tried for those of some sets that the plan has."""
+    numbers = results.numbers_of_sets
+    return {number for one in sets for number in numbers.get(one, ())}
+
+
+def family_turns(plan: Plan) -> Iterator[List[int]]:
+    """Sets of the families: first prefixes that end at an acknowledged line, sets of one operation
+    and what it needs, whole operations that are lost, what else is lost at acknowledged lines."""
+    says = {place + 1 for place, one in enumerate(plan.operations) if one.kind == 'say'}
+    prefixes = {
+        one.numbers[0]: plan.kept[one.number] for one in plan.listed if one.family == 'prefix'
+    }
+    yield [prefixes[end] for end in (0, *sorted(says), len(plan.operations)) if end in prefixes]
+    yield list(plan.needs.masks)
+    yield line_losses(plan.operations, plan.needs)
+    holes = [one for one in plan.listed if one.family == 'hole']
+    torn = torn_places(plan)
+    whole = [one for one in holes if one.numbers[0] not in torn]
+    yield [plan.kept[one.number] for one in whole if one.numbers[1] in says]
+    yield [plan.kept[one.number] for one in plan.families if one.family == 'pick']
+    yield list(prefixes.values())
+    yield [plan.needs.full & ~plan.needs.needing(place) for place in samples(torn)]
+    yield [plan.kept[one.number] for one in reversed(whole)]
+
+
+def torn_places(plan: Plan) -> Dict[int, List[int]]:
+    """Each block of a write of several, with all blocks of that write."""
+    lines: Dict[int, List[int]] = {}
+    for place, one in enumerate(plan.operations):
+        if one.kind == 'write_block':
+            lines.setdefault(one.line, []).append(place)
+    return {place: places for places in lines.values() if len(places) > 1 for place in places}
+
+
+def samples(torn: Dict[int, List[int]]) -> List[int]:
+    """The first, the middle and the last block of each write."""
+    writes = {places[0]: places for places in torn.values()}
+    return [
+        place
+        for places in writes.values()
+        for place in dict.fromkeys([places[0], places[len(places) // 2], places[-1]])
+    ]
+
+
+def drawn_sets(plan: Plan) -> List[int]:
+    drawn = plan.all_states.drawn if plan.all_states is not None else ()
+    return [plan.kept[number] for number in drawn]

@@ -1,0 +1,175 @@
+"""A check that can't try all crash states: their order, what is left out, what is said of it."""
+
+from __future__ import annotations
+
+import unittest
+from types import SimpleNamespace
+from typing import Any, List, Set
+
+from crashfs_tools.checker.options import Shard
+from crashfs_tools.checker.report.rest import shown_share
+from crashfs_tools.checker.running.pace import MEASURED, Pace, TooSlow
+from crashfs_tools.checker.running.progress import Progress
+from crashfs_tools.checker.running.results import Results
+from crashfs_tools.checker.running.runner import GOOD_OUTCOME
+from crashfs_tools.checker.running.trying import Trying
+from crashfs_tools.checker.running.turns import family_turns, turns
+from crashfs_tools.checker.states.plan import Planned
+
+from .support import EXAMPLES, FAKE
+from .test_all_states import Listing
+from .test_windows import HEADER, creat, said, sync, write
+
+# Nine files that are made, so 512 sets, and a write of six blocks.
+MANY = HEADER + ''.join(creat(f'/{number}') for number in range(9)) + said('1')
+TORN = HEADER + creat('/a') + sync('/') + said('1') + write('/a', 6 * 4096) + said('2')
+
+
+class TriedNowhere(Trying):
+    """Gives each state an outcome without running anything."""
+
+    def __init__(self, planned: Planned, seconds: float, **more: Any) -> None:
+        options = SimpleNamespace(
+            most_seconds=seconds,
+            shard=Shard(),
+            serve=None,
+            time_limit=None,
+            fail_fast=False,
+            **more,
+        )
+        found: Any = options
+        nothing: Any = None
+        super().__init__(found, planned, nothing, nothing, nothing, Progress())
+        self.order: List[Set[int]] = []
+
+    def layout(self, many: bool = False) -> Any:
+        return None
+
+    def run_workers(self, layout: Any, wanted: Set[int], on_outcome: Any) -> None:
+        self.order.append(wanted)
+        for number in sorted(wanted):
+            on_outcome(number, GOOD_OUTCOME)
+
+
+class Order(Listing):
+    def test_turns_have_each_state_once_and_the_families_first(self) -> None:
+        for text in (MANY, TORN, (EXAMPLES / 'store.trace').read_text('utf-8')):
+            planned = self.planned(text)
+            results = Results(planned.plan)
+            found = turns(results, are_all=True)
+            self.assertEqual(sum(map(len, found)), len(results.trials))
+            self.assertEqual(set().union(*found), set(results.trials.values()))
+            families = set().union(*turns(results, are_all=False))
+            self.assertEqual(set().union(*found[:-1]), families - found[-1])
+
+    def test_the_first_states_end_at_acknowledged_lines(self) -> None:
+        plan = self.planned(TORN).plan
+        first = turns(Results(plan), are_all=True)[0]
+        kept = {plan.kept[number] for number in first}
+        says = [place for place, one in enumerate(plan.operations) if one.kind == 'say']
+        ends = {0, *((1 << place + 1) - 1 for place in says)}
+        self.assertEqual(kept, ends)
+
+    def test_of_a_torn_write_the_first_the_middle_and_the_last_block_are_lost(self) -> None:
+        plan = self.planned(TORN, most=5).plan
+        found = {one for turn in family_turns(plan) for one in turn}
+        blocks = [place for place, one in enumerate(plan.operations) if one.kind == 'write_block']
+        self.assertEqual(len(blocks), 6)
+        for place in blocks:
+            lost = plan.needs.full & ~plan.needs.needing(place)
+            self.assertEqual(lost in found, place in (blocks[0], blocks[3], blocks[5]), place)
+
+    def test_states_that_would_take_too_long_are_left_out(self) -> None:
+        planned = self.planned(MANY)
+        for seconds, is_part in ((1e9, False), (0.0, True)):
+            results = Results(planned.plan)
+            self.assertTrue(TriedNowhere(planned, seconds).run(results))
+            self.assertEqual(results.is_part, is_part)
+            self.assertTrue(results.is_whole)
+            families = set().union(*turns(results, are_all=False))
+            self.assertLessEqual(families, set(results.outcomes))
+            wanted = len(results.trials) if not is_part else len(results.chosen or ())
+            self.assertEqual(len(results.outcomes), wanted)
+            self.assertEqual(len(results.outcomes) < len(results.trials), is_part)
+
+    def test_with_a_limit_families_come_first(self) -> None:
+        planned = self.planned(MANY)
+        trying = TriedNowhere(planned, 1e9)
+        trying.options.time_limit = 5.0
+        results = Results(planned.plan)
+        trying.run(results)
+        self.assertEqual(trying.order, turns(results, are_all=True))
+        self.assertGreater(len(trying.order), 2)
+
+
+class Paces(unittest.TestCase):
+    def test_a_pace_is_too_slow_once(self) -> None:
+        now = [0.0]
+        pace = Pace(600.0, lambda: now[0])
+        for each, is_slow in ((0.59, False), (0.61, True)):
+            pace.begin(1_000)
+            found = []
+            for number in range(2 * MEASURED):
+                now[0] += each
+                try:
+                    pace.step()
+                except TooSlow:
+                    found.append(number)
+            self.assertEqual(found, [MEASURED - 1] if is_slow else [])
+        self.assertAlmostEqual(pace.seconds, 0.61)
+
+    def test_shares_are_rounded_up(self) -> None:
+        for share, text in [
+            (1 - 0.05 ** (1 / 10_000), '0.030%'),
+            (1 - 0.05 ** (1 / 1_000), '0.30%'),
+            (0.0301, '3.1%'),
+            (0.31, '31%'),
+        ]:
+            self.assertEqual(shown_share(share), text)
+
+
+class Rest(Listing):
+    def check(self, *words: str, command: str = 'true') -> List[str]:
+        trace = self.write('many.trace', MANY)
+        words = ('--crashfs', FAKE, *words, trace)
+        ran = self.run_tool('crashfs-check', *words, '--', 'sh', '-c', command)
+        self.assertEqual(ran.stderr, '')
+        return ran.stdout.splitlines()
+
+    def test_the_report_says_how_much_was_tried_and_what_draws_tell(self) -> None:
+        head, drawn, rest = self.check('--every', '100')
+        self.assertRegex(
+            head,
+            '^many.trace: 10 micro-operations, [0-9]+ of 1,024 crash states tried: '
+            'none of these fails$',
+        )
+        self.assertEqual(
+            drawn,
+            '  1,000 drawn at random, none fails: with 95 % confidence fewer than 0.30 % of the '
+            '1,024 sets do',
+        )
+        self.assertRegex(
+            rest, '^  all are more than 100, and would take more than about .* seconds?: --every N$'
+        )
+
+    def test_draws_that_fail_are_counted(self) -> None:
+        command = 'test -e 0 || test ! -e 1 || { echo bad: 1; exit 1; }'
+        lines = self.check('--every', '100', command=command)
+        self.assertRegex(lines[0], r' of 1,024 crash states tried: \d+ fail: \d+ bad$')
+        drawn = int(lines[-2].split()[0])
+        self.assertEqual(lines[-2], f'  {drawn} of 1,000 drawn at random fail')
+        # A quarter of the sets, within five standard deviations.
+        self.assertLess(abs(drawn - 250), 5 * (1_000 * 3 / 16) ** 0.5)
+
+    def test_shards_have_the_same_states_and_are_merged(self) -> None:
+        paths = [self.path(f'{part}.json') for part in (1, 2)]
+        for part, path in enumerate(paths, 1):
+            self.check('--every', '100', '--shard', f'{part}/2', '--json', path)
+        merged = self.run_tool('crashfs-check', '--merge', *paths).stdout.splitlines()
+        whole = self.check('--every', '100')
+        self.assertEqual(merged[:2], whole[:2])
+        self.assertRegex(merged[2], '^  all are more than 100, and would take .*: --every N$')
+
+
+if __name__ == '__main__':
+    unittest.main()
