@@ -4,6 +4,8 @@ What isn't built is named, and nothing is built here. `serve_bench` and the rows
 `crashfs-check`'s states need `crashfs` too, which serves the first two; servers and clients have
 half of the processors each. For figures that count, nothing else may be at work on the machine.
 Status 0: no row is past its bound, and no program failed.
+
+`measure disks` is a command of its own: it compares crashes of real file systems with crash states.
 """
 
 from __future__ import annotations
@@ -13,8 +15,8 @@ import sys
 from pathlib import Path
 from typing import Callable, Dict, List, Optional
 
+from . import disks
 from .memory import memory_rows
-
 from .programs import Programs, Tally
 from .serving import serving_rows
 from .states import states_rows
@@ -56,6 +58,9 @@ def measure(programs: Programs, name: str, tally: Tally) -> None:
 
 
 def main(given: Optional[List[str]] = None) -> int:
+    given = sys.argv[1:] if given is None else given
+    if given[:1] == ['disks']:
+        return disks.main(given[1:])
     words = words_of(given)
     programs = Programs(words.top)
     known = [*programs.benchmarks(), 'memory', 'states']

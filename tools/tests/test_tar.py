@@ -45,6 +45,23 @@ WIDE += f'''\
 '''
 
 
+# Files with bytes in several places, one of zeros, and one that is too small for pieces.
+SPARSE = '{"trace":4,"profile":"blocks","block":512,"owner":"c","group":"s","mode":"775"}\n'
+for name, length, parts in [
+    ('a', 400_000, [(0, 'first'), (200_000, 'middle'), (399_999, '!')]),
+    ('b', 300_001, []),
+    ('c', 65_535, []),
+    ('d', 600_000, [(8_192 * 3, 'x' * 9000)]),
+]:
+    parts = ','.join(f'{{"at":{at},"text":"{text}"}}' for at, text in parts)
+    SPARSE += f'{{"start":"file","path":"/{name}",{RIGHTS},"length":{length},"parts":[{parts}]}}\n'
+SPARSE += """\
+{"op":"write","path":"/b","offset":4095,"text":"ab"}
+{"op":"truncate","path":"/d","length":600001}
+{"op":"write","path":"/c","offset":65535,"text":"!"}
+"""
+
+
 def built_program():
     """The program that is built here or on PATH, where it has the command `tar`."""
     program = Crashfs.find(None)
@@ -77,6 +94,11 @@ class Wanted:
             )
             for path, item in tree.items()
         }
+
+
+def read_bytes(folder, name):
+    with open(os.path.join(folder, name), 'rb') as file:
+        return file.read()
 
 
 @needs_tar
@@ -116,6 +138,25 @@ class Archives(InFolder):
             at += int(size)
         self.assertEqual((len(found), at), (len(lines), len(data)))
         return found
+
+    def test_large_files_of_zeros_are_written_in_pieces(self):
+        """As tar unpacks them: the bytes are those of the archive without pieces."""
+        trace = self.write('sparse.trace', SPARSE)
+        sizes = []
+        for state in ('0', '1', '2', '3'):
+            both = []
+            for words in ([], ['--sparse']):
+                with open(self.path('archive'), 'wb') as out:
+                    words = ['tar', '--trace', trace, '--state', state, *words]
+                    subprocess.run([FAKE, *words], stdout=out, check=True)
+                sizes.append(os.path.getsize(self.path('archive')))
+                place = self.path(f'{state}{len(both)}')
+                os.mkdir(place)
+                self.tar('-x', '-C', place, '-f', self.path('archive'))
+                both.append({name: read_bytes(place, name) for name in ('a', 'b', 'c', 'd')})
+            self.assertEqual(both[0], both[1], state)
+        self.assertLess(sizes[1], 120_000)
+        self.assertGreater(sizes[0], 1_000_000)
 
     def assert_states(self, trace, text, step=1):
         """Each state, or each so many, is as the second reading has it, alone and in a range."""

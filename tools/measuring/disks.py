@@ -1,0 +1,145 @@
+"""Random sessions on disk images of real file systems, compared with the crash states.
+
+Each session is made again up to each of its operations, with what the kernel has written then and
+with more. The device is copied there, and the copy mounted: a crash. The tree on it must be that of
+an allowed set by the profile of its file system. It needs root, loop devices and mkfs. Results are
+kept in DIR, a line for each session; sessions that DIR has are not made again. Status 0: no disk is
+outside the profile of its file system.
+"""
+
+from __future__ import annotations
+
+import argparse
+import json
+import multiprocessing
+import os
+import platform
+import signal
+import sys
+import tempfile
+from pathlib import Path
+from typing import Dict, Iterator, List, Optional, Set, Tuple
+
+from crashfs_tools.common.command import Refused
+from crashfs_tools.disks import images
+from crashfs_tools.disks.filesystems import lacking, named
+
+from .disk_sessions import PROFILE_OF, SessionMaker, SessionResult, table, text_of
+from .random_sessions import session
+
+MEMORY = '/dev/shm'
+RESULTS = 'results.jsonl'
+
+Task = Tuple[str, int]
+
+
+def words_of(given: List[str]) -> argparse.Namespace:
+    words = argparse.ArgumentParser(
+        prog='measure disks',
+        description=__doc__,
+        formatter_class=argparse.RawDescriptionHelpFormatter,
+    )
+    words.add_argument('--on', default=','.join(PROFILE_OF), metavar='LIST', help='file systems')
+    words.add_argument('--first', type=int, default=1, metavar='SEED', help='the first seed (1)')
+    words.add_argument('--sessions', type=int, default=300, metavar='N', help='how many (300)')
+    words.add_argument('--operations', type=int, default=7, metavar='N', help='of each (7)')
+    words.add_argument('--jobs', type=int, default=os.cpu_count() or 1, metavar='N', help='at once')
+    words.add_argument('dir', type=Path, metavar='DIR', help='where results are kept')
+    return words.parse_args(given)
+
+
+class Run:
+    """The sessions that are asked for, and the results so far."""
+
+    def __init__(self, words: argparse.Namespace) -> None:
+        self.words = words
+        self.names = words.on.split(',')
+        self.path = words.dir / RESULTS
+        words.dir.mkdir(parents=True, exist_ok=True)
+
+    def results(self) -> List[SessionResult]:
+        """Those of this run's sessions that are there."""
+        wanted = set(self.tasks())
+        lines = self.path.read_text('utf-8').splitlines() if self.path.exists() else []
+        found = [SessionResult(**json.loads(line)) for line in lines]
+        return [one for one in found if (one.filesystem, one.seed) in wanted]
+
+    def tasks(self) -> Iterator[Task]:
+        first, count = self.words.first, self.words.sessions
+        return ((name, seed) for seed in range(first, first + count) for name in self.names)
+
+    def missing(self) -> List[Task]:
+        done: Set[Task] = {(one.filesystem, one.seed) for one in self.results()}
+        return [task for task in self.tasks() if task not in done]
+
+    def make(self, folder: str) -> None:
+        """Makes the sessions that aren't there yet."""
+        tasks = self.missing()
+        context = multiprocessing.get_context('fork')
+        start = (folder, self.names, self.words.operations)
+        with context.Pool(min(self.words.jobs, len(tasks)), begin_worker, start) as pool:
+            for count, result in enumerate(pool.imap_unordered(result_of, tasks), 1):
+                self.keep(result)
+                print(f'\r{count} of {len(tasks)} sessions', end='', file=sys.stderr, flush=True)
+        print(file=sys.stderr)
+
+    def keep(self, result: SessionResult) -> None:
+        """Writes a result, and the trace if a disk of it is outside."""
+        with self.path.open('a', encoding='utf-8') as file:
+            file.write(json.dumps(result.fields()) + '\n')
+        if result.outside:
+            trace = session(result.seed, self.words.operations)
+            name = f'{result.filesystem}-{result.seed}.trace'
+            (self.words.dir / name).write_text(text_of(trace), 'utf-8')
+
+
+# The makers of this worker, by file system, and how many operations a session has.
+OF_WORKER: Dict[str, SessionMaker] = {}
+OPERATIONS: List[int] = []
+
+
+def begin_worker(folder: str, names: List[str], operations: int) -> None:
+    signal.signal(signal.SIGINT, signal.SIG_IGN)
+    os.umask(0)
+    images.leave_mounts()
+    OPERATIONS.append(operations)
+    for one in named(names):
+        OF_WORKER[one.name] = SessionMaker(one, folder)
+
+
+def result_of(task: Task) -> SessionResult:
+    name, seed = task
+    return OF_WORKER[name].result(seed, session(seed, OPERATIONS[0]))
+
+
+def refuse(names: List[str]) -> Optional[str]:
+    """Why file systems can't be measured here."""
+    unknown = [name for name in names if name not in PROFILE_OF]
+    if unknown:
+        return f'{unknown[0]} is none of {", ".join(PROFILE_OF)}'
+    return lacking(named(names))
+
+
+def main(given: List[str]) -> int:
+    run = Run(words_of(given))
+    fault = refuse(run.names)
+    if fault is not None:
+        print(f'measure disks: {fault}', file=sys.stderr)
+        return 2
+    if run.missing():
+        with tempfile.TemporaryDirectory(
+            prefix='measure-disks-', dir=MEMORY if os.path.isdir(MEMORY) else None
+        ) as folder:
+            try:
+                run.make(folder)
+            except Refused as refused:
+                print(f'measure disks: {refused}', file=sys.stderr)
+                return 2
+    results = run.results()
+    print(f'Kernel {platform.release()}, {run.words.operations} operations a session\n')
+    print('\n'.join(table(results)))
+    outside = [(one, text) for one in results for text in one.outside]
+    for one, text in outside:
+        profile = PROFILE_OF[one.filesystem]
+        print(f'\noutside {profile}: {one.filesystem}, session {one.seed}, {text}')
+    return 1 if outside else 0

@@ -1,0 +1,120 @@
+"""measure disks: random sessions, and whether disks are crash states of them."""
+
+from __future__ import annotations
+
+import contextlib
+import io
+import unittest
+from pathlib import Path
+from typing import List
+
+from crashfs_tools.checker.findings.read_trees import entries_of
+from crashfs_tools.common.entry import Entries
+from crashfs_tools.common.trace import KINDS, Chmod, Chown, Trace
+from crashfs_tools.disks.disk import Crash, Disk, digest_of
+from crashfs_tools.disks.filesystems import lacking, named
+from crashfs_tools.disks.levers import Lever
+from crashfs_tools.disks.moments import Moment
+from crashfs_tools.reading import read
+from crashfs_tools.reading.every import every_set
+from crashfs_tools.reading.order import Order
+from crashfs_tools.reading.profiles import Profiles
+from crashfs_tools.reading.states import States
+from measuring.command import main
+from measuring.disk_sessions import SessionResult, judged, table, text_of
+from measuring.random_sessions import session
+
+from .support import InFolder, needed
+
+OPERATIONS = 7
+
+
+def disk_of(tree: Entries, says: int) -> Disk:
+    """A disk that one crash left, after so many acknowledged lines."""
+    return Disk(tree, digest_of(tree), [Crash(Moment(1, says, says, 5), Lever.NOTHING)])
+
+
+def disks_of(trace: Trace, profile: str) -> List[Disk]:
+    """A disk for each of the first sets that a profile may leave."""
+    reading = read(text_of(trace).encode())
+    states, profiles = States(reading), Profiles(reading)
+    return [
+        disk_of(entries_of(states.tree(one)), states.count_says(one))
+        for one in every_set(Order(reading))
+        if profile in profiles.names(one)
+    ][:100]
+
+
+class Sessions(unittest.TestCase):
+    def test_a_seed_gives_one_session_and_all_kinds_are_drawn(self) -> None:
+        found = set()
+        for seed in range(150):
+            trace = session(seed, OPERATIONS)
+            self.assertEqual(text_of(trace), text_of(session(seed, OPERATIONS)))
+            self.assertGreater(len(read(text_of(trace).encode()).operations), 1)
+            found.update(map(type, trace.operations))
+        self.assertEqual(set(KINDS.values()) - found, {Chmod, Chown})
+
+
+class Judgements(unittest.TestCase):
+    def test_states_are_inside_and_other_trees_are_not(self) -> None:
+        for seed in range(20):
+            trace = session(seed, OPERATIONS)
+            for name, profile in (('ext4', 'journal'), ('btrfs', 'blocks')):
+                disks = disks_of(trace, profile)
+                result = judged(name, seed, trace, disks)
+                self.assertEqual((result.outside, result.different), ([], len(disks)))
+                self.assertEqual(result.allowed[profile], len(disks))
+
+    def test_a_tree_that_no_set_leaves_is_outside(self) -> None:
+        trace = session(3, OPERATIONS)
+        for disk in disks_of(trace, 'blocks')[:10]:
+            odd = {**disk.tree, '/odd': disk.tree['/']}
+            late = disk_of(disk.tree, 9)
+            result = judged('btrfs', 3, trace, [disk_of(odd, disk.says[0]), late])
+            self.assertEqual((len(result.outside), result.allowed['blocks']), (2, 0))
+            self.assertIn('/odd directory', result.outside[0])
+
+    def test_what_only_a_weaker_profile_may_leave_is_outside_of_the_file_systems(self) -> None:
+        outside = 0
+        for seed in range(20):
+            trace = session(seed, OPERATIONS)
+            disks = disks_of(trace, 'blocks')
+            result = judged('ext4', seed, trace, disks)
+            self.assertEqual(result.allowed['blocks'], len(disks))
+            self.assertEqual(len(result.outside), len(disks) - result.allowed['journal'])
+            outside += len(result.outside)
+        self.assertGreater(outside, 100)
+
+    def test_the_table_has_a_row_for_each_file_system(self) -> None:
+        one = SessionResult('ext4', 1, 1000, 20, 99, {'blocks': 20, 'ordered': 19, 'journal': 18})
+        rows = list(table([one, one, SessionResult('xfs', 1, 1, 1, 1, dict(one.allowed))]))
+        self.assertEqual(rows[2], '| ext4 | 2 | 2,000 | 40 | 40 | 38 | 36 |')
+        self.assertEqual([row.split(' ')[1] for row in rows[2:]], ['ext4', 'xfs'])
+
+
+class OnImages(InFolder):
+    def run_measure(self, *words: str) -> str:
+        with contextlib.redirect_stdout(io.StringIO()) as out:
+            with contextlib.redirect_stderr(io.StringIO()):
+                self.assertEqual(main(['disks', *words, self.path('found')]), 0)
+        return out.getvalue()
+
+    @needed(lacking(named(['ext4'])) is None, 'no root, loop devices or mkfs.ext4')
+    def test_a_session_is_made_once(self) -> None:
+        words = ['--on', 'ext4', '--sessions', '1', '--operations', '3', '--jobs', '1']
+        printed = self.run_measure(*words)
+        self.assertIn('\n| ext4 | 1 | ', printed)
+        results = Path(self.path('found')) / 'results.jsonl'
+        before = results.read_text('utf-8')
+        self.assertEqual(self.run_measure(*words), printed)
+        self.assertEqual(results.read_text('utf-8'), before)
+
+    def test_file_systems_that_have_no_profile_are_refused(self) -> None:
+        with contextlib.redirect_stderr(io.StringIO()) as err:
+            self.assertEqual(main(['disks', '--on', 'ext4,zfs', self.path('found')]), 2)
+        self.assertEqual(err.getvalue(), 'measure disks: zfs is none of ext4, xfs, btrfs\n')
+
+
+if __name__ == '__main__':
+    unittest.main()
