@@ -176,6 +176,11 @@ OPERATIONS = {
         'write a 18000000 x',
         'truncate a 30000000',
         'write a 17997824 ' + '\0' * 2177,
+    ],
+    'large_file_zero': [
+        'creat a 644',
+        'write a 18000000 x',
+        'write a 17997824 ' + '\0' * 2177,
         'truncate a 40000000',
     ],
     'mknod_': ['creat a 640', 'creat b 600'],

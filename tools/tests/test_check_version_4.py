@@ -11,7 +11,7 @@ from crashfs_tools.common.sparse import SparseBytes, first_difference
 from crashfs_tools.reading import read
 from crashfs_tools.reading.order import Order
 
-from .support import InFolder, needs_strace
+from .support import FAKE, InFolder, needs_strace
 
 RIGHTS = '"owner":"root","group":"root"'
 HEADER = f'{{"trace":4,"profile":"blocks","block":4096,{RIGHTS},"mode":"755"}}'
@@ -35,6 +35,11 @@ STORE = f"""\
 {{"op":"say","text":"switched"}}
 {{"op":"fsync","path":"/"}}
 {{"op":"say","text":"safe"}}
+"""
+OLD_STORE = f"""\
+{HEADER.replace('4', '3', 1)}
+{{"start":"file","path":"/f",{RIGHTS},"mode":"644","text":"first"}}
+{{"op":"write","path":"/f","offset":0,"text":"FIRST"}}
 """
 # What COMMAND asks for: a version that is whole.
 LOOK = 'cat current/f > seen 2>&1 || { echo "gone: no current version"; exit 1; }'
@@ -100,6 +105,38 @@ class Checks(InFolder):
         )
         self.assertIn('2 recoveries: ', ran.stdout)
         self.assertNotIn('not tried', ran.stdout)
+
+    @needs_strace
+    def test_a_recovery_may_need_version_4_where_the_session_does_not(self):
+        """The program reads no version 4."""
+        trace = self.write('store.trace', OLD_STORE)
+        program = self.write(
+            'program',
+            '#!/bin/sh\nfor word; do case "$word" in *.trace) file=$word;; esac; done\n'
+            'if grep -q \'"trace":4\' "$file" /dev/null\n'
+            'then printf "crashfs: trace line 1: Syntax\\ncrashfs: no such version\\n" >&2; exit 1\n'
+            f'fi\nexec {FAKE} "$@"\n',
+            0o755,
+        )
+        ran = self.run_tool(
+            *('crashfs-check', '--crashfs', program, '--nested', '2', trace, '--'),
+            *('sh', '-c', 'test ! -L l && ln -s f l && mv l m; rm -f m; true'),
+        )
+        self.assertEqual((ran.returncode, ran.stderr), (0, ''), ran.stdout)
+        self.assertNotIn('not tried', ran.stdout)
+        self.assertIn(
+            '  2 recoveries: 6 different states of a second crash, none fails\n'
+            '  unproved: a Python program computed the states of 2 of these\n',
+            ran.stdout,
+        )
+        self.assertEqual(ran.stdout.count('unproved'), 1)
+        ran = self.run_tool('crashfs-check', '--crashfs', program, 'store.trace', '--', 'true')
+        self.assertNotIn('unproved', ran.stdout)
+        self.write('store.trace', STORE)
+        ran = self.run_tool(
+            *('crashfs-check', '--crashfs', program, '--prefixes', 'store.trace', '--', 'true')
+        )
+        self.assertIn('unproved: a Python program computed these states, as crashfs ', ran.stdout)
 
 
 class Differences(unittest.TestCase):

@@ -120,7 +120,7 @@ class Chosen(unittest.TestCase):
         results = Results(plan, outcomes)
         findings = SimpleNamespace(plan=plan, results=results, by_state=results.of_states({}))
         for count in (1, 2, 5, 6, 9, 20):
-            nested = Nested(None, count)
+            nested = Nested(count)
             chosen = [state.number for state in nested.choose(findings)]
             self.assertEqual(len(chosen), len(set(chosen)))
             self.assertEqual(len(chosen), min(count, 9))

@@ -6,6 +6,9 @@ import sys
 import unittest
 from typing import Optional
 
+from crashfs_tools.common.entry import Entry
+from crashfs_tools.recorder.comparison import entry_differences
+
 from .support import TOOLS, needs_strace, recording_of
 from .test_record_command import InRecordings
 from .translated_calls import FILE, IN_DIRECTORY, OPEN_F
@@ -71,13 +74,14 @@ class Versions(InRecordings):
             file.truncate(1 << 30)
             file.seek(1 << 29)
             file.write(b'middle' + bytes(100_000) + b'end')
-        ran = self.record('printf new | dd of=big bs=1 seek=1000000000 conv=notrunc 2> /dev/null')
+        ran = self.record('printf new | dd of=big bs=1 conv=notrunc 2> /dev/null')
         self.assertEqual(ran.returncode, 0, ran.stderr)
         self.assertEqual(
             self.read('out.trace').splitlines()[1].partition('"length"')[2],
             ':1073741824,"parts":[{"at":536870912,"text":"middle"},'
             '{"at":536970918,"text":"end"}]}',
         )
+        self.assertIn('(/big has more than 16,777,216 bytes)', ran.stderr)
 
     def test_a_file_of_the_start_is_in_parts_if_that_is_shorter(self):
         dense = bytes(range(1, 256)) * 5
@@ -151,6 +155,18 @@ class Versions(InRecordings):
                 )
                 self.assertEqual(ran.returncode, 0, ran.stderr)
                 self.assertTrue(self.header().startswith('{"trace":4,'))
+
+
+class Ends(unittest.TestCase):
+    def test_kinds_and_targets_that_differ_at_the_end_are_told(self):
+        link, other = (Entry('u', 'u', 0o777, None, target) for target in 'ab')
+        folder = Entry('u', 'u', 0o777, None)
+        for real, traced, told in (
+            (link, link, []),
+            (link, other, ['it is a symbolic link to a at the end, and one to b in the trace']),
+            (link, folder, ['it is a symbolic link at the end, and a directory in the trace']),
+        ):
+            self.assertEqual(entry_differences(real, traced), told)
 
 
 class Needs(unittest.TestCase):

@@ -284,7 +284,7 @@ class Run:
     def nested(self) -> Nested:
         from crashfs_tools.checker.findings.nested import Nested
 
-        return Nested(self.checking.planner, self.options.nested)
+        return Nested(self.options.nested)
 
 
 ANOTHER = '--resume: that is a report of another check'

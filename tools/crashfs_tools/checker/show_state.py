@@ -25,8 +25,7 @@ def show_state(checking: Checking, number: int, second: Optional[int]) -> int:
     trying = checking.trying_of(number)
     if second is None:
         return show(trying, number)
-    recovery = Recorder(trying, checking.planner).plan(trying.plan.state(number))
-    return show(trying.with_plan(recovery), second)
+    return show(Recorder(trying).recovery(trying.plan.state(number)), second)
 
 
 def show(trying: Trying, number: int) -> int:

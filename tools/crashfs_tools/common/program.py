@@ -103,7 +103,7 @@ class Crashfs:
             try:
                 self.text(['list', '--trace', file.name])
             except ProgramFault as fault:
-                return REFUSED not in str(fault)
+                return REFUSED not in fault.text
         return True
 
     @cached_property

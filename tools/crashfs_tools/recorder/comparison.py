@@ -83,7 +83,7 @@ def scanned_entry(one: ScannedEntry) -> Entry:
 
 def kind_of(entry: Entry) -> str:
     if entry.link is not None:
-        return f'a symbolic link to {entry.link}'
+        return 'a symbolic link'
     return 'a directory' if entry.is_directory else 'a file'
 
 
@@ -95,6 +95,9 @@ def is_below(path: str, known: Set[str]) -> bool:
 def entry_differences(real: Entry, traced: Entry) -> List[str]:
     if kind_of(real) != kind_of(traced):
         return [f'it is {kind_of(real)} at the end, and {kind_of(traced)} in the trace']
+    if real.link != traced.link:
+        here = f'it is a symbolic link to {real.link} at the end'
+        return [f'{here}, and one to {traced.link} in the trace']
     found = []
     if real.data != traced.data:
         found.append('its bytes at the end are not those that the trace gives it')

@@ -11,13 +11,13 @@ from typing import Iterator, List, Optional, Set, Tuple
 from crashfs_tools.checker.running.results import Head, Results
 from crashfs_tools.checker.running.runner import GOOD, Outcome
 from crashfs_tools.checker.running.trying import Trying
-from crashfs_tools.checker.states.plan import Before, Planned, State
+from crashfs_tools.checker.states.plan import Before, State
 from crashfs_tools.checker.states.planning import Planner, TooLarge
 from crashfs_tools.common.command import TEXT, Refused
 from crashfs_tools.common.program import LIBRARY
 from crashfs_tools.common.removal import remove_tree
 from crashfs_tools.common.trace_lines import without_numbers
-from crashfs_tools.common.trace_text import read_text, without_says
+from crashfs_tools.common.trace_text import read_text, version_of, without_says
 
 from .groups import Findings, Group
 from .reruns import rerun_examples
@@ -36,13 +36,13 @@ SLOWER = 10
 class Recorder:
     """Records COMMAND in a state, in a trace without its own lines: they acknowledge nothing."""
 
-    def __init__(self, trying: Trying, planner: Planner) -> None:
+    def __init__(self, trying: Trying) -> None:
         self.trying = trying
-        self.planner = planner
         self.guard = trying.guard
 
-    def plan(self, state: State) -> Planned:
-        """The plan of the recovery; Refused if it can't be recorded, or is too long."""
+    def recovery(self, state: State) -> Trying:
+        """Where states of the recovery are tried; Refused if it can't be recorded, or is too long.
+        It may need a trace of another version than the session."""
         folder = os.path.join(self.guard.directory, f'recovery-{state.number}')
         os.mkdir(folder)
         ((_, directory),) = self.trying.archive(folder).states({state.number})
@@ -53,7 +53,9 @@ class Recorder:
             text = without_says(file.read())
         with open(trace, 'w', **TEXT) as file:
             file.write(text)
-        return self.planner.plan(trace, Before(says=state.says))
+        program = self.trying.program.for_version(version_of(text))
+        planner = Planner(self.trying.options, program, self.guard)
+        return self.trying.with_plan(planner.plan(trace, Before(says=state.says)), program)
 
     def record(self, state: State, directory: str, trace: str) -> None:
         checker = self.trying.checker()
@@ -95,8 +97,7 @@ class Nested:
     """Tries the recoveries of up to so many states, over all windows. seen has the causes and the
     kinds of last operations of the states that were chosen."""
 
-    def __init__(self, planner: Planner, count: int) -> None:
-        self.planner = planner
+    def __init__(self, count: int) -> None:
         self.left = count
         self.seen: Set[Tuple[str, str]] = set()
 
@@ -104,13 +105,11 @@ class Nested:
         for state in self.choose(findings):
             self.left -= 1
             try:
-                planned = Recorder(trying, self.planner).plan(state)
+                recovery = Recorder(trying).recovery(state)
             except (Refused, TooLarge) as fault:
                 yield Recovery(state.number, fault=str(fault))
                 continue
-            yield self.recovery_of(
-                trying.with_plan(planned), state, findings.by_state[state.number]
-            )
+            yield self.recovery_of(recovery, state, findings.by_state[state.number])
 
     def recovery_of(self, trying: Trying, state: State, first: Outcome) -> Recovery:
         """The recovery of a state. If the state already fails, only other causes count."""
@@ -127,6 +126,7 @@ class Nested:
             failing,
             found.groups,
             {group.example.number: crash_place(found, group) for group in found.groups},
+            unproved=trying.program.unproved,
         )
 
     def choose(self, findings: Findings) -> Iterator[State]:

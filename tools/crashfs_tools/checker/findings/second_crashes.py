@@ -12,7 +12,7 @@ from .groups import Group
 class Recovery:
     """The recovery of one state: how many different states a second crash may leave, how many fail,
     and their groups; places says for each example where the second crash was. fault says why the
-    recovery wasn't tried, or is empty."""
+    recovery wasn't tried, or is empty; unproved whether the second reading computed its states."""
 
     state: int
     states: int = 0
@@ -20,6 +20,7 @@ class Recovery:
     groups: List[Group] = field(default_factory=list)
     places: Dict[int, str] = field(default_factory=dict)
     fault: str = ''
+    unproved: bool = False
 
 
 class SecondCrash(NamedTuple):

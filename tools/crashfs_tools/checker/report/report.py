@@ -213,6 +213,9 @@ class Report:
                 'recoverys', 'recoveries'
             )
         ]
+        unproved = sum(one.unproved for one in tried)
+        if unproved and not self.head.unproved:
+            lines.append(f'  unproved: a Python program computed the states of {unproved} of these')
         for group, where in second_crash_entries(tried):
             lines += self.group_lines(group, where)
         lines += [

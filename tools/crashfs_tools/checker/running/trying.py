@@ -2,7 +2,7 @@
 
 from __future__ import annotations
 
-from typing import TYPE_CHECKING, Callable, Dict, List, Sequence, Set
+from typing import TYPE_CHECKING, Callable, Dict, List, Optional, Sequence, Set
 
 from crashfs_tools.checker.options import Options
 from crashfs_tools.checker.states.layout import Archive, Layout
@@ -48,8 +48,10 @@ class Trying:
         self.says = says
         self.progress = progress
 
-    def with_plan(self, planned: Planned) -> Trying:
-        return Trying(self.options, planned, self.program, self.guard, self.says, self.progress)
+    def with_plan(self, planned: Planned, program: Optional[Crashfs] = None) -> Trying:
+        """The same with another plan, also of another program."""
+        program = program or self.program
+        return Trying(self.options, planned, program, self.guard, self.says, self.progress)
 
     def checker(self) -> Checker:
         return Checker(

@@ -402,6 +402,10 @@ static void large_file(void) {
   must(CALL(SYS_pwrite64, f, "x", 1, 18000000));
   must(CALL(SYS_fallocate, f, 0, 0, 30000000));
   must(CALL(SYS_fallocate, f, FALLOC_FL_PUNCH_HOLE | FALLOC_FL_KEEP_SIZE, 0, 18000001));
+}
+static void large_file_zero(void) {
+  int f = new_file("a");
+  must(CALL(SYS_pwrite64, f, "x", 1, 18000000));
   must(CALL(SYS_fallocate, f, FALLOC_FL_ZERO_RANGE, 0, 40000000));
 }
 static void mknod_(void) {
@@ -587,7 +591,8 @@ static const struct {
     CASE(lock_by_symlink), CASE(switch_symlink), CASE(names_through_symlink),
     CASE(file_through_symlink), CASE(chdir_through_symlink), CASE(link_of_symlink),
     CASE(chown_symlink), CASE(rename_directory), CASE(rename_over_directory),
-    CASE(rename_working_directory), CASE(large_file), CASE(mknod_), CASE(mknod_pipe),
+    CASE(rename_working_directory), CASE(large_file),
+    CASE(large_file_zero), CASE(mknod_), CASE(mknod_pipe),
     CASE(mknodat_pipe), CASE(bind_), CASE(fsync_), CASE(fdatasync_), CASE(sync_), CASE(syncfs_),
     CASE(syncfs_elsewhere), CASE(sync_file_range_), CASE(mmap_), CASE(mprotect_), CASE(msync_),
     CASE(munmap_), CASE(mremap_), CASE(chmod_), CASE(chown_), CASE(setxattr_), CASE(lsetxattr_),
