@@ -114,7 +114,7 @@ class Checks(InFolder):
             'program',
             '#!/bin/sh\nfor word; do case "$word" in *.trace) file=$word;; esac; done\n'
             'if grep -q \'"trace":4\' "$file" /dev/null\n'
-            'then printf "crashfs: trace line 1: Syntax\\ncrashfs: no such version\\n" >&2; exit 1\n'
+            'then printf "crashfs: trace line 1: Syntax\\ncrashfs: no version 4\\n" >&2; exit 1\n'
             f'fi\nexec {FAKE} "$@"\n',
             0o755,
         )
