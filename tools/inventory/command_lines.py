@@ -1,4 +1,4 @@
-"""The options of the three commands, as their parsers and the program's source have them."""
+"""The options of the four commands, as their parsers and the program's source have them."""
 
 from __future__ import annotations
 
@@ -7,13 +7,18 @@ import re
 from dataclasses import dataclass
 from typing import Dict, List, Optional, Tuple
 
+from crashfs_tools.campaign import options as campaign_options
 from crashfs_tools.checker import options as check_options
 from crashfs_tools.recorder import options as record_options
 
 from .sources import TOP
 
 SOURCE = TOP / 'crates' / 'crashfs' / 'src' / 'commands.rt'
-TOOLS = {'crashfs-check': check_options.parser, 'crashfs-record': record_options.parser}
+TOOLS = {
+    'crashfs-campaign': campaign_options.parser,
+    'crashfs-check': check_options.parser,
+    'crashfs-record': record_options.parser,
+}
 
 
 @dataclass(frozen=True)

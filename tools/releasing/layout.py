@@ -11,7 +11,7 @@ from typing import Dict, List
 TOP = Path(__file__).resolve().parent.parent.parent
 LIBRARY = 'lib/crashfs'
 DOCUMENTS = 'share/doc/crashfs'
-COMMANDS = ('crashfs-check', 'crashfs-record')
+COMMANDS = ('crashfs-campaign', 'crashfs-check', 'crashfs-record')
 TOP_PAGES = ('README.md', 'CHANGELOG.md', 'SECURITY.md')
 
 

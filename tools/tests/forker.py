@@ -1,4 +1,4 @@
-"""Runs the two commands again and again in forks of one process, which has imported them already.
+"""Runs the commands again and again in forks of one process, which has imported them already.
 
 A line on standard input is one run, as JSON: the command, its words, its directory, and what it has
 in its environment. A line on standard output is what came of it: its status, and what it printed.
@@ -13,10 +13,15 @@ import sys
 import traceback
 from typing import Any, Callable, Dict, Optional
 
+from crashfs_tools.campaign import main as campaign
 from crashfs_tools.checker import main as check
 from crashfs_tools.recorder import main as record
 
-MAINS: Dict[str, Callable[..., int]] = {'crashfs-check': check.main, 'crashfs-record': record.main}
+MAINS: Dict[str, Callable[..., int]] = {
+    'crashfs-campaign': campaign.main,
+    'crashfs-check': check.main,
+    'crashfs-record': record.main,
+}
 
 
 def run(asked: Dict[str, Any]) -> Dict[str, Any]:

@@ -190,6 +190,7 @@ class Layout(unittest.TestCase):
     def test_each_file_of_the_tools_is_there_with_its_mode(self) -> None:
         modes = {
             **tracked_modes('crashfs_tools'),
+            **tracked_modes('crashfs-campaign'),
             **tracked_modes('crashfs-check'),
             **tracked_modes('crashfs-record'),
             'crashfs_tools/built.py': 0o644,
@@ -217,7 +218,8 @@ class Layout(unittest.TestCase):
             for path, item in self.items.items()
             if item.target
         }
-        self.assertEqual(set(links), {'bin/crashfs-check', 'bin/crashfs-record'})
+        commands = ('campaign', 'check', 'record')
+        self.assertEqual(set(links), {f'bin/crashfs-{name}' for name in commands})
         for target in links.values():
             self.assertEqual(self.items[target].mode, 0o755)
 

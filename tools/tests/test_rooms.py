@@ -16,6 +16,7 @@ PACKAGE = 'crashfs_tools'
 ROOMS: Dict[str, Set[str]] = {
     'reading': set(),
     'common': set(),
+    'campaign': {'common'},
     'recorder.calls': {'common', 'recorder'},
     'recorder': {'common', 'reading', 'recorder.calls'},
     'checker.states': {'common', 'reading', 'checker.options'},

@@ -1,0 +1,111 @@
+"""Records one session and checks it, by the two commands."""
+
+from __future__ import annotations
+
+import json
+import os
+import shutil
+import subprocess
+import sys
+from dataclasses import dataclass, field
+from pathlib import Path
+from typing import Dict, List, Optional, Sequence, Tuple
+
+from .options import CampaignOptions
+
+TOOLS = Path(__file__).resolve().parents[2]
+SEED = 'CRASHFS_SEED'
+RECORDED = (0, 4)
+NONE_FAILS, SOME_FAIL = 0, 1
+# The version of the check's JSON that is read.
+REPORTS = (3, 4)
+
+
+@dataclass
+class Failure:
+    """An entry of a check's report."""
+
+    cause: str
+    text: List[str]
+    example: int
+    states: int
+
+
+@dataclass
+class Checked:
+    """What came of a session: its failures, and why it has no whole verdict, if it has none."""
+
+    failures: List[Failure] = field(default_factory=list)
+    fault: str = ''
+
+
+class Sessions:
+    """Makes traces in a folder, and checks them."""
+
+    def __init__(self, options: CampaignOptions, folder: Path) -> None:
+        self.options = options
+        self.folder = folder
+        self.trace = folder / 'session.trace'
+        self.child: Optional[subprocess.Popen[str]] = None
+
+    def record(self, seed: int) -> str:
+        """Records the session with a seed; returns why not, or nothing."""
+        store = self.folder / 'store'
+        shutil.rmtree(store, ignore_errors=True)
+        if self.options.start is None:
+            store.mkdir()
+        else:
+            shutil.copytree(self.options.start, store, symlinks=True)
+        words = [*self.options.record, str(store), str(self.trace), '--', *self.options.session]
+        status, said = self.run('crashfs-record', words, {SEED: str(seed)})
+        return '' if status in RECORDED else f'crashfs-record: status {status}: {last_line(said)}'
+
+    def check(self, trace: Path, page: Optional[Path] = None) -> Checked:
+        """Runs the recovery in the states of a trace. The report is written as a page if one is
+        named."""
+        report = self.folder / 'report.json'
+        if report.exists():
+            report.unlink()
+        pages = [] if page is None else ['--html', str(page)]
+        words = ['--json', str(report), *pages, *self.options.check, str(trace), '--']
+        status, said = self.run('crashfs-check', [*words, *self.options.recovery], {})
+        found = failures_in(report) if report.exists() else []
+        if status in (NONE_FAILS, SOME_FAIL):
+            return Checked(found)
+        return Checked(found, f'crashfs-check: status {status}: {last_line(said)}')
+
+    def run(self, tool: str, words: Sequence[str], variables: Dict[str, str]) -> Tuple[int, str]:
+        """Runs one of the two commands; returns its status and what it printed on standard error.
+        If this process is stopped, so is the command."""
+        self.child = subprocess.Popen(
+            [sys.executable, str(TOOLS / tool), *words],
+            env={**os.environ, **variables},
+            stdin=subprocess.DEVNULL,
+            stdout=subprocess.DEVNULL,
+            stderr=subprocess.PIPE,
+            text=True,
+            errors='backslashreplace',
+        )
+        try:
+            _, said = self.child.communicate()
+        except BaseException:
+            self.child.terminate()
+            self.child.communicate()
+            raise
+        return self.child.returncode, said
+
+
+def failures_in(report: Path) -> List[Failure]:
+    """The entries of a report; none of a report of another version."""
+    fields = json.loads(report.read_text('utf-8', 'surrogateescape'))
+    if fields.get('crashfs-check') not in REPORTS:
+        raise OSError(f'{report} is a report of another version')
+    return [
+        Failure(entry['cause'], entry['text'], entry['example'], entry['different'])
+        for entry in fields['groups']
+    ]
+
+
+def last_line(said: str) -> str:
+    lines = said.strip().splitlines()
+    return lines[-1] if lines else 'it printed nothing'

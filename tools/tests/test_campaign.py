@@ -1,0 +1,135 @@
+"""Sessions with one seed after another, of a store that is rarely wrong."""
+
+import json
+import os
+import shutil
+import signal
+import unittest
+from pathlib import Path
+
+from crashfs_tools.campaign.book import key_of
+from crashfs_tools.campaign.sessions import Failure
+from crashfs_tools.campaign.shrinking import says_in
+
+from .support import PATIENCE, InFolder
+
+# Saves a file whole, four times. With the seeds 3 and 5 the third save doesn't sync the directory,
+# and with the seed 4 the file itself.
+SESSION = """\
+#!/bin/sh
+for version in 1 2 3 4; do
+    echo "version $version" > config.new
+    test $CRASHFS_SEED$version = 43 || sync config.new
+    mv config.new config
+    case $CRASHFS_SEED$version in 33|53) ;; *) sync . ;; esac
+    echo "version $version"
+done
+"""
+RECOVER = """\
+#!/bin/sh
+content=$(cat config 2>/dev/null)
+case $content in ''|version\\ [1-4]) ;; *) echo corrupt: "$content"; exit 1 ;; esac
+test "$CRASHFS_SAYS" = 0 || test "${content#version }" -ge "$CRASHFS_SAYS" || {
+    echo lost: a version; exit 1; }
+"""
+LOST = 'lost: a version'
+
+
+class Keys(unittest.TestCase):
+    def test_a_failure_is_the_same_whatever_its_lines_and_texts_are(self):
+        one = Failure('lost: a=1', ['line 7 (rename /a1 to /b) was not .. line 9 "a=1"'], 3, 1)
+        other = Failure('lost: a=2', ['line 17 (rename /a2 to /b) was not .. line 19 "q"'], 8, 2)
+        self.assertEqual(key_of(one), key_of(other))
+        for text in ('line 7 (unlink /a1) was not .. line 9 "a=1"', one.text[0] + ' at all'):
+            self.assertNotEqual(key_of(one), key_of(Failure('lost: a=1', [text], 3, 1)))
+        self.assertNotEqual(key_of(one), key_of(Failure('corrupt: a=1', one.text, 3, 1)))
+
+    def test_only_acknowledged_lines_are_counted(self):
+        lines = ['{"op":"say","text":"x"}', '{"op":"note","text":"\\"say\\""}', '{"op":"sync"}']
+        self.assertEqual(says_in([*lines, lines[0]]), [0, 3])
+
+
+@unittest.skipIf(shutil.which('strace') is None, 'strace not installed')
+class Campaigns(InFolder):
+    def setUp(self):
+        super().setUp()
+        self.session = self.write('session.sh', SESSION, 0o755)
+        self.recover = self.write('recover.sh', RECOVER, 0o755)
+
+    def campaign(self, *words, session=None):
+        given = [*words, self.path('found'), '--', session or self.session, '--', self.recover]
+        return self.run_tool('crashfs-campaign', '--check=--jobs 2 --quick --unproved', *given)
+
+    def book(self):
+        return json.loads(Path(self.path('found', 'campaign.json')).read_text('utf-8'))
+
+    def test_the_first_session_of_each_failure_is_kept_and_shortened(self):
+        ran = self.campaign('--seeds', '2-3', '--html', self.path('index.html'))
+        self.assertEqual(ran.returncode, 1, ran.stderr)
+        self.assertIn(f'crashfs-campaign: seed 3: new: {LOST}\n', ran.stderr)
+        first, cause, where, *_ = ran.stdout.splitlines()
+        self.assertEqual((first, cause), ('2 sessions: 1 failure', f'  {LOST}'))
+        self.assertEqual(
+            where, '    in 1 session, first with seed 3; kept: 3 acknowledged lines of 4'
+        )
+        self.assertIn('fsync the directory / between them', ran.stdout)
+        trace = self.read('found/entry-1.trace')
+        self.assertEqual(trace.count('"op":"say"'), 3)
+        self.assertTrue(trace.endswith('"text":"version 3"}\n'), trace[-80:])
+        self.assertIn('<a href="found/entry-1.html">', self.read('index.html'))
+        self.assertIn('not durable', self.read('found/entry-1.html'))
+        self.assertFalse(os.path.exists(self.path('found', 'work')))
+
+    def test_the_same_command_continues_and_counts_what_is_known(self):
+        self.campaign('--seeds', '3-3')
+        ran = self.campaign('--seeds', '3-5')
+        self.assertEqual(ran.returncode, 1)
+        lines = ran.stdout.splitlines()
+        self.assertEqual(lines[0], f'3 sessions: {len(self.book()["entries"])} different failures')
+        self.assertIn('    in 2 sessions, first with seed 3; ', ran.stdout)
+        self.assertNotIn('seed 5: new', ran.stderr)
+        self.assertIn('seed 4: new: ', ran.stderr)
+        self.assertEqual(self.book()['next_seed'], 6)
+        again = self.campaign('--seeds', '3-5')
+        self.assertEqual((again.stdout, again.stderr), (ran.stdout, ''))
+
+    def test_a_store_that_is_right_has_the_status_of_none(self):
+        ran = self.campaign('--seeds', '1-2')
+        self.assertEqual((ran.returncode, ran.stderr), (0, ''))
+        self.assertEqual(ran.stdout, '2 sessions: none fails\n')
+
+    def test_a_campaign_of_other_commands_is_not_continued(self):
+        self.campaign('--seeds', '1-1')
+        ran = self.campaign('--seeds', '1-2', session=self.recover)
+        self.assertEqual((ran.returncode, ran.stdout), (2, ''))
+        self.assertIn('campaign.json is of other commands: name another directory', ran.stderr)
+
+    def test_a_session_without_a_verdict_is_reported_with_its_seed(self):
+        session = self.write('broken.sh', '#!/bin/sh\nrmdir "$PWD"\n', 0o755)
+        ran = self.campaign('--seeds', '1-1', session=session)
+        self.assertEqual(ran.returncode, 3)
+        self.assertRegex(ran.stdout, '^1 session: none fails; 1 session without a verdict\n')
+        self.assertRegex(ran.stdout, r'\n    seed 1: crashfs-record: status 3: .')
+
+    def test_a_stop_keeps_what_was_found(self):
+        child = self.start(
+            'crashfs-campaign',
+            '--check=--jobs 2 --quick --unproved',
+            *('--seeds', '3-1000000', self.path('found'), '--', self.session, '--', self.recover),
+        )
+        self.wait_until(lambda: os.path.exists(self.path('found', 'campaign.json')), 'a session')
+        child.send_signal(signal.SIGTERM)
+        out, err = child.communicate(timeout=PATIENCE)
+        self.assertEqual(child.returncode, 143)
+        self.assertIn('crashfs-campaign: stopped by SIGTERM\n', err)
+        self.assertIn(f'\n  {LOST}\n', out)
+        self.assertFalse(os.path.exists(self.path('found', 'work')))
+
+    def test_two_commands_are_needed(self):
+        ran = self.run_tool('crashfs-campaign', self.path('found'), '--', self.session)
+        self.assertEqual(ran.returncode, 2)
+        self.assertIn('two commands are needed', ran.stderr)
+
+
+if __name__ == '__main__':
+    unittest.main()
