@@ -3,6 +3,7 @@
 from __future__ import annotations
 
 import os
+import re
 from dataclasses import asdict, dataclass, field
 from typing import Dict, Iterator, List, Set, Tuple
 
@@ -20,6 +21,8 @@ from crashfs_tools.reading.states import States
 
 # The profile that each file system is compared with.
 PROFILE_OF = {'ext4': 'journal', 'xfs': 'journal', 'btrfs': 'blocks'}
+# Equal bytes that follow each other.
+RUN = re.compile(rb'(.)\1*', re.DOTALL)
 # A tree by its digest, and how many lines are acknowledged with it.
 TreeAndCount = Tuple[str, int]
 
@@ -80,7 +83,10 @@ def shown(disk: Disk, path: str) -> str:
     entry = disk.tree[path]
     if entry.link is not None:
         return f'-> {entry.link}'
-    return 'directory' if entry.data is None else f'{len(entry.data)} {bytes(entry.data[:8])!r}'
+    if entry.data is None:
+        return 'directory'
+    runs = ' '.join(f'{len(run[0])}*{run[1]!r}' for run in RUN.finditer(bytes(entry.data)))
+    return f'{len(entry.data)}: {runs}'
 
 
 class SessionMaker:

@@ -14,15 +14,14 @@ import json
 import multiprocessing
 import os
 import platform
-import signal
 import sys
-import tempfile
 from pathlib import Path
 from typing import Dict, Iterator, List, Optional, Set, Tuple
 
 from crashfs_tools.common.command import Refused
-from crashfs_tools.disks import images
+from crashfs_tools.common.guard import Guard
 from crashfs_tools.disks.filesystems import lacking, named
+from crashfs_tools.disks.pool import become_worker
 
 from .disk_sessions import PROFILE_OF, SessionMaker, SessionResult, table, text_of
 from .random_sessions import session
@@ -76,7 +75,7 @@ class Run:
         """Makes the sessions that aren't there yet."""
         tasks = self.missing()
         context = multiprocessing.get_context('fork')
-        start = (folder, self.names, self.words.operations)
+        start = (folder, self.names, self.words.operations, os.getpid())
         with context.Pool(min(self.words.jobs, len(tasks)), begin_worker, start) as pool:
             for count, result in enumerate(pool.imap_unordered(result_of, tasks), 1):
                 self.keep(result)
@@ -98,10 +97,8 @@ OF_WORKER: Dict[str, SessionMaker] = {}
 OPERATIONS: List[int] = []
 
 
-def begin_worker(folder: str, names: List[str], operations: int) -> None:
-    signal.signal(signal.SIGINT, signal.SIG_IGN)
-    os.umask(0)
-    images.leave_mounts()
+def begin_worker(folder: str, names: List[str], operations: int, parent: int) -> None:
+    become_worker(parent)
     OPERATIONS.append(operations)
     for one in named(names):
         OF_WORKER[one.name] = SessionMaker(one, folder)
@@ -127,11 +124,9 @@ def main(given: List[str]) -> int:
         print(f'measure disks: {fault}', file=sys.stderr)
         return 2
     if run.missing():
-        with tempfile.TemporaryDirectory(
-            prefix='measure-disks-', dir=MEMORY if os.path.isdir(MEMORY) else None
-        ) as folder:
+        with Guard('measure-disks-', MEMORY if os.path.isdir(MEMORY) else None) as guard:
             try:
-                run.make(folder)
+                run.make(guard.directory)
             except Refused as refused:
                 print(f'measure disks: {refused}', file=sys.stderr)
                 return 2

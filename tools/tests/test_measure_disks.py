@@ -74,6 +74,7 @@ class Judgements(unittest.TestCase):
             result = judged('btrfs', 3, trace, [disk_of(odd, disk.says[0]), late])
             self.assertEqual((len(result.outside), result.allowed['blocks']), (2, 0))
             self.assertIn('/odd directory', result.outside[0])
+            self.assertTrue(result.outside[0].startswith('line 5, nothing more written: '))
 
     def test_what_only_a_weaker_profile_may_leave_is_outside_of_the_file_systems(self) -> None:
         outside = 0

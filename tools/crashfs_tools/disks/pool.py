@@ -77,9 +77,13 @@ def crashes_of(task: Task) -> Tuple[str, Found]:
 
 
 def begin_worker(pool: DiskPool, parent: int) -> None:
-    """A worker ends with its parent, hears no Ctrl-C, has its mounts for itself, and may open as
-    many files as the system lets it."""
     OF_WORKER[:] = [pool]
+    become_worker(parent)
+
+
+def become_worker(parent: int) -> None:
+    """This process ends with its parent, hears no Ctrl-C, has its mounts for itself, and may open
+    as many files as the system lets it."""
     _, most = resource.getrlimit(resource.RLIMIT_NOFILE)
     resource.setrlimit(resource.RLIMIT_NOFILE, (most, most))
     for number in (signal.SIGINT, signal.SIGHUP):
