@@ -1,0 +1,6 @@
+mod Words
+mod Scanning
+mod Reading
+mod Tables
+mod Needing
+mod Adding

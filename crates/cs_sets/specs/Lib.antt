@@ -1,0 +1,12 @@
+pub mod Sets
+pub mod Every
+pub mod Bits
+pub mod Following
+pub mod Nexts
+pub mod Places
+pub mod Rows
+pub mod Reach
+pub mod Counting
+pub mod Different
+pub mod Classing
+pub mod Laws

@@ -1,0 +1,131 @@
+//! How many allowed sets there are, without going through them: by the futures of the sets of the
+//! places below each place.
+ghost use Rattle.std.specs.Prelude.{◌≡◌, ◌+◌, ◌-◌, ◌<◌, ◌≤◌, ℕ, Bool, length, min, IfOk, OnOk};
+ghost use Rattle.cs_sets.specs.Counting.{Capped, weigh, weight};
+ghost use Rattle.cs_sets.specs.Every.{every};
+ghost use Rattle.cs_sets.specs.Rows.{needed_in};
+
+use crate::row::Row;
+use cs_names::limits::MICRO_OPERATIONS;
+use std::alloc::{AllocError, Global};
+
+/// A future, with how many sets of the places below have it.
+#[derive(Clone, Copy, Debug)]
+pub struct Future {
+    /// The places from here on that need no place below that is missing.
+    left: Row,
+    sets: u128,
+}
+
+/// Appends what becomes of the sets with this future: those without `place`, and, if they may have
+/// it, those with it.
+fn push_halves(
+    next: &mut Vec<Future>,
+    needed: &[Row],
+    place: usize,
+    future: &Future,
+) -> Result<(), AllocError>
+    requires few { length needed.now ≤ MICRO_OPERATIONS }
+    requires inside { place < length needed.now }
+    ensures { OnOk result (let n = length needed.now in let needs = needed_in needed.now in
+        weigh needs (n - (place + 1)) (place + 1) next.new.items
+        ≡ weigh needs (n - (place + 1)) (place + 1) next.old.items
+        + weight needs (n - place) place future.now) }
+{
+    let sets = future.sets;
+    let mut without = future.left;
+    without.remove(&needed[place]);
+    without.clear(place);
+    next.push(Future {
+        left: without,
+        sets,
+    })?;
+    if !future.left.has_place(place) {
+        return Ok(());
+    }
+    let mut kept = future.left;
+    kept.clear(place);
+    next.push(Future { left: kept, sets })?;
+    Ok(())
+}
+
+/// The futures at the place after `place`; equal ones stand apart.
+fn split(
+    alloc: Global,
+    needed: &[Row],
+    place: usize,
+    level: &[Future],
+) -> Result<Vec<Future>, AllocError>
+    requires few { length needed.now ≤ MICRO_OPERATIONS }
+    requires inside { place < length needed.now }
+    ensures { IfOk result (λ next. let n = length needed.now in let needs = needed_in needed.now in
+        weigh needs (n - (place + 1)) (place + 1) next.items
+        ≡ weigh needs (n - place) place level.now) }
+{
+    let mut next = Vec::new(alloc);
+    for future in level {
+        push_halves(&mut next, needed, place, future)?;
+    }
+    Ok(next)
+}
+
+/// Adds a future to the last one, if that is equal, and else after it.
+fn add(futures: &mut Vec<Future>, future: &Future, most: u128) -> Result<(), AllocError>
+    ensures { OnOk result ((needs : ℕ → ℕ → Bool) (m k : ℕ)
+        → Capped most (weigh needs m k futures.new.items)
+        (weigh needs m k futures.old.items + weight needs m k future.now)) }
+{
+    let len = futures.len();
+    if len > 0 && futures[len - 1].left == future.left {
+        let last = futures[len - 1];
+        let sets = last.sets.saturating_add(future.sets).min(most);
+        futures[len - 1] = Future {
+            left: last.left,
+            sets,
+        };
+        return Ok(());
+    }
+    futures.push(*future)?;
+    Ok(())
+}
+
+/// The futures with equal neighbours made one. Counts above `most` become `most`.
+fn merge(alloc: Global, futures: &[Future], most: u128) -> Result<Vec<Future>, AllocError>
+    ensures { IfOk result (λ merged. (needs : ℕ → ℕ → Bool) (m k : ℕ)
+        → Capped most (weigh needs m k merged.items) (weigh needs m k futures.now)) }
+{
+    let mut merged = Vec::new(alloc);
+    for future in futures {
+        add(&mut merged, future, most)?;
+    }
+    Ok(merged)
+}
+
+/// The number of all sets with one of these futures, or `most` if it is more.
+fn total(futures: &[Future], most: u128) -> u128
+    ensures { (needs : ℕ → ℕ → Bool) (k : ℕ) → result ≡ min (weigh needs 0 k futures.now) most }
+{
+    let mut sum = 0u128;
+    for future in futures {
+        sum = sum.saturating_add(future.sets).min(most);
+    }
+    sum
+}
+
+/// How many allowed sets there are, or `most` if there are more. `needed` has, for each place, the
+/// places that need it by any chain.
+pub fn count_sets(alloc: Global, needed: &[Row], most: u128) -> Result<u128, AllocError>
+    requires few { length needed.now ≤ MICRO_OPERATIONS }
+    ensures { IfOk result
+        (λ count. count ≡ min (length (every (needed_in needed.now) (length needed.now))) most) }
+{
+    let mut level = Vec::new(alloc);
+    let left = Row::below(needed.len());
+    level.push(Future { left, sets: 1 })?;
+    for place in 0..needed.len() {
+        let mut next = split(alloc, needed, place, level.as_slice())?;
+        next.sort_by_key(|future| future.left)?;
+        level = merge(alloc, next.as_slice(), most)?;
+    }
+    Ok(total(level.as_slice(), most))
+}
