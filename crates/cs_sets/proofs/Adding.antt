@@ -1,15 +1,15 @@
 -- The last place that can be added, looked for from the end.
 use Rattle.std.proofs.Common.{◌≡◌, ℕ, ◌+◌, ◌-◌, ◌<◌, ◌≤◌, ◌==◌, ◌&&◌, ◌||◌, not, nat_lt, Bool, true, false, cond, List, [], ◌∷◌, ◌++◌, length, get_or}
 use Rattle.std.proofs.Common.{refl, sym, ap, ◌∙◌, ⊎_elim, arith, subst}
-use Rattle.std.proofs.lemmas.Bool.{cases_eq, eq-eqb, ne_eqb, lt-ltb, le-ltb, and_parts, or_left, false≢true}
+use Rattle.std.proofs.lemmas.Bool.{cases_eq, eq-eqb, ne_eqb, lt-ltb, le-ltb, and_parts, and_from, or_cases, or_right, eqb-true, ltb-true, false≢true}
 use Rattle.cs_sets.specs.declared.row.Row.{Row}
 use Rattle.cs_sets.specs.Bits.{has_place}
 use Rattle.cs_sets.specs.Following.{chosen, every_from, IsClosed, IsFree, HasNoneFree, IsLastFree, cut_with}
 use Rattle.cs_sets.specs.Nexts.{IsAdded}
-use Rattle.cs_sets.specs.Places.{places_in}
+use Rattle.cs_sets.specs.Places.{IsSet, places_of}
 use Rattle.cs_sets.specs.Rows.{bit_in}
-use Rattle.cs_sets.specs.Sets.{IsBackward}
-use Rattle.cs_sets.specs.Laws.Chosen.{cut_chosen}
+use Rattle.cs_sets.specs.Chains.{IsBackward}
+use Rattle.cs_sets.specs.Laws.Chosen.{cut_chosen, none_read, places_read}
 use Rattle.cs_sets.specs.Laws.Following.{chosen_same, none_follows, one_follows}
 use Rattle.cs_sets.proofs.Needing.{bit_read, below_next}
 
@@ -102,13 +102,56 @@ module _ (rows : List Row) (old now : ℕ → Bool) (place : ℕ) (low : 0 < pla
 
 -- ---- what comes after a set
 
-pub step_follows : (needs : ℕ → ℕ → Bool) → IsBackward needs → (n : ℕ) (old new : Row) → IsClosed needs n (has_place old) → (more : Bool)
+pub step_follows : (needs : ℕ → ℕ → Bool) → IsBackward needs → (n : ℕ) → n ≤ 1024 → (old new : Row) → IsSet needs n old → (more : Bool)
     → IsAdded needs n (has_place old) (has_place new) more
-    → every_from needs n (places_in old n) ≡ places_in old n ∷ cond more (every_from needs n (places_in new n)) []
-unfolding places_in
-step_follows needs back n old new closed true w =
+    → every_from needs n (places_of old) ≡ places_of old ∷ cond more (every_from needs n (places_of new)) []
+step_follows needs back n few old new is true w =
     let k = w.0 in
-    let same : chosen (has_place new) n ≡ chosen (has_place old) k ++ k ∷ [] =
-    chosen_same (has_place new) (cut_with (has_place old) k) n (λ i low. w.1.1 i) ∙ cut_chosen (has_place old) n k w.1.0.below in
-    one_follows needs back n (has_place old) closed k w.1.0 ∙ ap (λ v. chosen (has_place old) n ∷ every_from needs n v) (sym same)
-step_follows needs back n old new closed false w = none_follows needs back n (has_place old) closed w.0
+    let low = w.1.0.below in
+    let same : places_of new ≡ chosen (has_place old) k ++ k ∷ [] =
+    places_read new n few (λ i high. w.1.1 i ∙ past i (omega (arith, low, high)))
+    ∙ chosen_same (has_place new) (cut_with (has_place old) k) n (λ i under. w.1.1 i) ∙ cut_chosen (has_place old) n k low in
+    let here = places_read old n few is.within in
+    ap (every_from needs n) here ∙ one_follows needs back n (has_place old) is.closed k w.1.0
+    ∙ ap (λ v. v ∷ every_from needs n (chosen (has_place old) k ++ k ∷ [])) (sym here)
+    ∙ ap (λ v. places_of old ∷ every_from needs n v) (sym same)
+  where
+    past : (i : ℕ) → w.0 < i → cut_with (has_place old) w.0 i ≡ false
+    past i high = ap (λ b. b || (nat_lt i w.0 && has_place old i)) (ne_eqb i w.0 (λ e. omega (arith, high, e)))
+        ∙ ap (λ b. b && has_place old i) (le-ltb i w.0 (omega (arith, high)))
+step_follows needs back n few old new is false w =
+    let here = places_read old n few is.within in
+    ap (every_from needs n) here ∙ none_follows needs back n (has_place old) is.closed w.0 ∙ ap (λ v. v ∷ []) (sym here)
+
+pub step_set : (needs : ℕ → ℕ → Bool) → IsBackward needs → (n : ℕ) (old new : Row) → IsSet needs n old → (more : Bool)
+    → IsAdded needs n (has_place old) (has_place new) more → IsSet needs n new
+step_set needs back n old new is true w =
+    let k = w.0 in
+    let low = w.1.0.below in
+    record {
+      within = λ i high. w.1.1 i ∙ ap (λ b. b || (nat_lt i k && has_place old i)) (ne_eqb i k (λ e. omega (arith, low, high, e)))
+          ∙ ap (λ b. b && has_place old i) (le-ltb i k (omega (arith, low, high)));
+      closed = λ i j under t s.
+          let before = back i j s in
+          w.1.1 i ∙ ⊎_elim
+          (λ (e : (j == k) ≡ true).
+          let same = eqb-true j k e in
+          or_right (i == k) (nat_lt i k && has_place old i)
+          (and_from (nat_lt i k) (has_place old i) (lt-ltb i k (omega (arith, before, same)))
+          (w.1.0.free.closed i (ap (needs i) (sym same) ∙ s))))
+          (λ (h : (nat_lt j k && has_place old j) ≡ true).
+          let parts = and_parts (nat_lt j k) (has_place old j) h in
+          let less = ltb-true j k parts.0 in
+          or_right (i == k) (nat_lt i k && has_place old i)
+          (and_from (nat_lt i k) (has_place old i) (lt-ltb i k (omega (arith, before, less))) (is.closed i j under parts.1 s)))
+          (or_cases (j == k) (nat_lt j k && has_place old j) (sym (w.1.1 j) ∙ t));
+    }
+step_set needs back n old new is false w = record {
+  within = λ i high. w.1 i;
+  closed = λ i j under t s. absurd (false≢true (sym (w.1 j) ∙ t));
+}
+
+pub last_empty : (needs : ℕ → ℕ → Bool) (n : ℕ) (old : ℕ → Bool) (new : Row) (more : Bool) → IsAdded needs n old (has_place new) more → more ≡ false
+    → places_of new ≡ []
+last_empty needs n old new true w e = absurd (false≢true (sym e))
+last_empty needs n old new false w e = none_read new w.1

@@ -4,3 +4,8 @@ mod Reading
 mod Tables
 mod Needing
 mod Adding
+mod Reaching
+mod Entries
+mod Ordering
+mod Carrying
+mod Admitting

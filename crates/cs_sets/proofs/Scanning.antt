@@ -6,7 +6,7 @@ use Rattle.std.proofs.lemmas.Nat.{shr-shr}
 use Rattle.std.proofs.lemmas.Nat.Bits.{bit_at-zero, bit_at_above, bit_at-trailing_zeros}
 use Rattle.std.specs.Int.{bit_at, trailing_zeros, w64}
 use Rattle.cs_sets.specs.Bits.{has_bit, has_place}
-use Rattle.cs_sets.specs.Rows.{HasNone, IsNext}
+use Rattle.cs_sets.specs.Finding.{HasNone, IsNext}
 use Rattle.cs_sets.specs.declared.row.Row.{Row}
 
 shifted : (n s i : ℕ) → bit_at (n / 2 ^ s) i ≡ bit_at n (s + i)

@@ -137,6 +137,54 @@ clear_bits now before other k long alike all = ⊎_elim
     n ∙ sym (ap (λ x. x && not (has_bit other k)) p))
     (cases_lt (k / 64) 16)
 
+bits_or : (a b : ℕ) → a < 2 → b < 2 → (max a b == 1) ≡ (a == 1 || b == 1)
+bits_or a b x y = ⊎_elim
+    (λ (e : a ≡ 1). ⊎_elim
+    (λ (f : b ≡ 1). rw (e, f) refl)
+    (λ (f : b ≡ 1 → ⊥). let g : b ≡ 0 = omega (arith, y, f) in rw (e, g) refl) (cases_eq b 1))
+    (λ (e : a ≡ 1 → ⊥). let h : a ≡ 0 = omega (arith, x, e) in ⊎_elim
+    (λ (f : b ≡ 1). rw (h, f) refl)
+    (λ (f : b ≡ 1 → ⊥). let g : b ≡ 0 = omega (arith, y, f) in rw (h, g) refl) (cases_eq b 1))
+    (cases_eq a 1)
+
+-- the words of a join, as far as it has come
+pub record IsJoined (now before other : List ℕ) (w : ℕ) : Type 0 where
+  pub done : (m : ℕ) → m < w → get_or now m 0 ≡ bit_or (get_or before m 0) (get_or other m 0)
+  pub left : (m : ℕ) → w ≤ m → get_or now m 0 ≡ get_or before m 0
+
+pub join_none : (before other : List ℕ) → IsJoined before before other 0
+join_none before other = record { done = λ m h. absurd (omega (arith, h)); left = λ m h. refl }
+
+pub join_more : (now before other : List ℕ) (w : ℕ) → length now ≡ 16 → w < 16 → IsJoined now before other w
+    → IsJoined (set now w (bit_or (get_or now w 0) (get_or other w 0))) before other (w + 1)
+join_more now before other w long low so_far = record {
+  done = λ m h. ⊎_elim
+      (λ (e : m ≡ w). let inside : w < length now = omega arith in
+      ap (λ i. get_or (set now w (bit_or (get_or now w 0) (get_or other w 0))) i 0) e ∙ get_or-set_same now w _ 0 inside
+      ∙ ap (λ x. bit_or x (get_or other w 0)) (so_far.left w (omega arith)) ∙ ap (λ i. bit_or (get_or before i 0) (get_or other i 0))
+      (sym e))
+      (λ (e : m ≡ w → ⊥). get_or-set_other now w m _ 0 e ∙ so_far.done m (omega (arith, h, e)))
+      (cases_eq m w);
+  left = λ m h. let e : m ≢ w = omega (arith, h) in get_or-set_other now w m _ 0 e ∙ so_far.left m (omega (arith, h));
+}
+
+pub join_bits : (now before other : List ℕ) (k : ℕ) → length before ≡ 16 → length other ≡ 16 → IsJoined now before other 16
+    → has_bit now k ≡ (has_bit before k || has_bit other k)
+join_bits now before other k long alike joined = ⊎_elim
+    (λ (l : k / 64 < 16).
+    ap (λ x. bit_at x (k % 64) == 1) (joined.done (k / 64) l)
+    ∙ ap (λ x. x == 1) (bit_at_or (get_or before (k / 64) 0) (get_or other (k / 64) 0) (k % 64))
+    ∙ bits_or _ _ (bit_at-lt (get_or before (k / 64) 0) (k % 64)) (bit_at-lt (get_or other (k / 64) 0) (k % 64)))
+    (λ (h : 16 ≤ k / 64).
+    let a : get_or before (k / 64) 0 ≡ 0 = get_or_past before (k / 64) 0 (omega (arith, long, h)) in
+    let b : get_or other (k / 64) 0 ≡ 0 = get_or_past other (k / 64) 0 (omega (arith, alike, h)) in
+    let c : bit_at 0 (k % 64) ≡ 0 = bit_at-zero (k % 64) in
+    let n : has_bit now k ≡ false = ap (λ x. bit_at x (k % 64) == 1) (joined.left (k / 64) h ∙ a) ∙ ap (λ x. x == 1) c in
+    let p : has_bit before k ≡ false = ap (λ x. bit_at x (k % 64) == 1) a ∙ ap (λ x. x == 1) c in
+    let q : has_bit other k ≡ false = ap (λ x. bit_at x (k % 64) == 1) b ∙ ap (λ x. x == 1) c in
+    n ∙ sym (ap (λ x. x || has_bit other k) p ∙ q))
+    (cases_lt (k / 64) 16)
+
 -- words that add nothing, as far as was looked
 abbrev pub AddsNone : List ℕ → List ℕ → ℕ → Type 0
 AddsNone a b w = (m : ℕ) → m < w → bit_or (get_or a m 0) (get_or b m 0) ≡ get_or b m 0

@@ -1,5 +1,6 @@
 pub mod Lists
 pub mod Members
+pub mod Chains
 pub mod Complete
 pub mod Ascending
 pub mod Following

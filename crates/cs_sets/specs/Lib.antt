@@ -1,9 +1,12 @@
 pub mod Sets
+pub mod Chains
+pub mod Orders
 pub mod Every
 pub mod Bits
 pub mod Following
-pub mod Nexts
 pub mod Places
+pub mod Nexts
+pub mod Finding
 pub mod Rows
 pub mod Reach
 pub mod Counting

@@ -2,11 +2,12 @@
 //! the law.
 ghost use Rattle.std.specs.Prelude.{false, suc, ◌+◌, ◌-◌, ◌≤◌, ◌++◌, ◌∷◌, ◌≡◌, ◌≢◌, ℕ, ◌<◌, Bool, List, length, slice_index_or, true, []};
 ghost use Rattle.std.specs.List.{All, AllPairs, Contains};
-ghost use Rattle.cs_sets.specs.Sets.{IsAllowed, IsBackward};
+ghost use Rattle.cs_sets.specs.Chains.{IsBackward};
+ghost use Rattle.cs_sets.specs.Sets.{IsAllowed};
 ghost use Rattle.cs_sets.specs.Different.{IsLike, classes, different, firsts, leave_alike};
 ghost use Rattle.cs_sets.specs.Every.{IsBefore, count, every, extending, lacking};
 ghost use Rattle.cs_sets.specs.Reach.{IsReach};
-ghost use Rattle.cs_sets.specs.Rows.{IsTransitive};
+ghost use Rattle.cs_sets.specs.Reach.{IsTransitive};
 ghost use Rattle.cs_sets.specs.Laws.Firsts.{Some_of};
 ghost use Rattle.cs_sets.specs.Laws.Walking.{IsAt};
 

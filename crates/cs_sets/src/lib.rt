@@ -7,8 +7,13 @@
 pub mod classes;
 pub mod count;
 pub mod laws;
-pub mod needed;
-pub mod next;
+mod needed;
+mod reach;
+mod next;
+pub mod order;
 pub mod row;
+pub mod sets;
 
+pub use order::Order;
 pub use row::Row;
+pub use sets::Sets;

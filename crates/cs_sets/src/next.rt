@@ -1,11 +1,11 @@
 //! The allowed set after an allowed set, found from that set only.
-ghost use Rattle.std.specs.Prelude.{◌≡◌, ◌∷◌, [], ◌≤◌, ◌<◌, ℕ, false, true, length, if◌then◌else◌};
+ghost use Rattle.std.specs.Prelude.{◌≡◌, ◌∷◌, [], ◌≤◌, ℕ, false, length, if◌then◌else◌};
 ghost use Rattle.cs_sets.specs.Bits.{has_place};
-ghost use Rattle.cs_sets.specs.Following.{HasNoneFree, IsClosed, IsLastFree, cut_with, every_from};
+ghost use Rattle.cs_sets.specs.Chains.{IsBackward};
+ghost use Rattle.cs_sets.specs.Following.{every_from};
 ghost use Rattle.cs_sets.specs.Nexts.{IsAdded};
-ghost use Rattle.cs_sets.specs.Places.{places_in};
+ghost use Rattle.cs_sets.specs.Places.{IsSet, IsWithin, places_of};
 ghost use Rattle.cs_sets.specs.Rows.{bit_in};
-ghost use Rattle.cs_sets.specs.Sets.{IsBackward};
 
 use crate::row::Row;
 use cs_names::limits::MICRO_OPERATIONS;
@@ -16,7 +16,7 @@ use cs_names::limits::MICRO_OPERATIONS;
 fn add_last(rows: &[Row], members: &mut Row) -> bool
     requires few { length rows.now ≤ MICRO_OPERATIONS }
     requires backward { IsBackward (bit_in rows.now) }
-    requires within { (k : ℕ) → length rows.now ≤ k → has_place members.old k ≡ false }
+    requires within { IsWithin (length rows.now) members.old }
     ensures { IsAdded (bit_in rows.now) (length rows.now) (has_place members.old)
         (has_place members.new) result }
 {
@@ -33,22 +33,18 @@ fn add_last(rows: &[Row], members: &mut Row) -> bool
     false
 }
 
-/// Makes the set the one after it in the list of all allowed sets. False if it was the last, which
-/// has all places; then it is empty afterwards, as the first. Row `j` of `rows` has what place `j`
-/// needs. Allocates nothing.
+/// Makes the set the one after it in the list of all allowed sets. False if it was the last; then
+/// it is empty afterwards, as the first. Row `j` of `rows` has what place `j` needs. Allocates
+/// nothing.
 pub fn next_set(rows: &[Row], members: &mut Row) -> bool
     requires few { length rows.now ≤ MICRO_OPERATIONS }
     requires backward { IsBackward (bit_in rows.now) }
-    requires within { (k : ℕ) → length rows.now ≤ k → has_place members.old k ≡ false }
-    requires closed { IsClosed (bit_in rows.now) (length rows.now) (has_place members.old) }
-    ensures within { (k : ℕ) → length rows.now ≤ k → has_place members.new k ≡ false }
-    ensures closed { IsClosed (bit_in rows.now) (length rows.now) (has_place members.new) }
-    ensures follows { every_from (bit_in rows.now) (length rows.now)
-        (places_in members.old (length rows.now))
-        ≡ places_in members.old (length rows.now)
-        ∷ (if result then every_from (bit_in rows.now) (length rows.now)
-        (places_in members.new (length rows.now)) else []) }
-    ensures last { result ≡ false → (k : ℕ) → has_place members.new k ≡ false }
+    requires set { IsSet (bit_in rows.now) (length rows.now) members.old }
+    ensures set { IsSet (bit_in rows.now) (length rows.now) members.new }
+    ensures follows { every_from (bit_in rows.now) (length rows.now) (places_of members.old)
+        ≡ places_of members.old ∷ (if result
+        then every_from (bit_in rows.now) (length rows.now) (places_of members.new) else []) }
+    ensures last { result ≡ false → places_of members.new ≡ [] }
 {
     add_last(rows, members)
 }

@@ -2,7 +2,7 @@
 ghost use Rattle.std.specs.Prelude.{◌≡◌, ◌==◌, ◌||◌, ◌&&◌, ◌↔◌, not, ℕ, ◌<◌, ◌≤◌, false, true, nat_lt};
 ghost use Rattle.std.specs.Prelude.{IsTrue, MatchOption};
 ghost use Rattle.cs_sets.specs.Bits.{has_place};
-ghost use Rattle.cs_sets.specs.Rows.{HasNone, IsNext};
+ghost use Rattle.cs_sets.specs.Finding.{HasNone, IsNext};
 
 use cs_names::limits::MICRO_OPERATIONS;
 
@@ -59,6 +59,15 @@ impl Row {
         ensures { (k : ℕ) → has_place self.new k ≡ (has_place self.old k && not (k == place)) }
     {
         self.words[place / 64] &= !(1u64 << (place % 64));
+    }
+
+    /// Adds every place of the other row.
+    pub fn join(&mut self, other: &Row)
+        ensures { (k : ℕ) → has_place self.new k ≡ (has_place self.old k || has_place other.now k) }
+    {
+        for w in 0..WORDS {
+            self.words[w] |= other.words[w];
+        }
     }
 
     /// Removes every place of the other row.

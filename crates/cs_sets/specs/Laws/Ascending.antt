@@ -4,7 +4,8 @@ use Rattle.std.proofs.Common.{List, [], ◌∷◌, ◌++◌, sym, ap, ◌∙◌,
 use Rattle.std.proofs.lemmas.Bool.{cases_Bool, false≢true}
 use Rattle.std.proofs.lemmas.List.Elements.{All-nil, All-cons, All-weaker}
 use Rattle.std.specs.List.{All, AllPairs}
-use Rattle.cs_sets.specs.Sets.{IsAllowed, IsBackward, is_member}
+use Rattle.cs_sets.specs.Chains.{IsBackward}
+use Rattle.cs_sets.specs.Sets.{IsAllowed, is_member}
 use Rattle.cs_sets.specs.Every.{IsBefore, may, choices, every}
 use Rattle.cs_sets.specs.Laws.Lists.{Ordered, ordered_flat, ordered_with, all_pairs}
 use Rattle.cs_sets.specs.Laws.Members.{IsBelow, allowed_below, member_last, member_other, not_member}

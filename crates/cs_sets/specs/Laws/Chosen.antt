@@ -4,7 +4,7 @@ use Rattle.std.proofs.lemmas.Bool.{eq-eqb, ne_eqb, or_left, lt-ltb, le-ltb, case
 use Rattle.cs_sets.specs.declared.row.Row.{Row}
 use Rattle.cs_sets.specs.Bits.{has_place}
 use Rattle.cs_sets.specs.Following.{chosen, cut_with}
-use Rattle.cs_sets.specs.Places.{places_in}
+use Rattle.cs_sets.specs.Places.{IsWithin, places_of}
 use Rattle.cs_sets.specs.Laws.Following.{chosen_on, chosen_same, chosen_with}
 
 -- what passes below k, and k, as a list
@@ -23,3 +23,12 @@ cut_chosen has n k low =
   where
     refl_k : k ≡ k
     refl_k = omega arith
+
+pub places_read : (row : Row) (n : ℕ) → n ≤ 1024 → IsWithin n row → places_of row ≡ chosen (has_place row) n
+unfolding places_of
+places_read row n few within =
+    let e : 1024 ≡ n + (1024 - n) = omega (arith, few) in
+    ap (chosen (has_place row)) e ∙ chosen_on (has_place row) n (1024 - n) (λ i low high. within i low)
+
+pub none_read : (row : Row) → ((k : ℕ) → has_place row k ≡ false) → places_of row ≡ []
+none_read row none = places_read row 0 (omega arith) (λ k low. none k)

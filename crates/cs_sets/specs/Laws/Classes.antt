@@ -5,7 +5,8 @@ use Rattle.std.proofs.lemmas.Bool.{cases_Bool, false≢true, and_parts, and_from
 use Rattle.std.proofs.lemmas.List.Elements.{All-weaker}
 use Rattle.std.proofs.lemmas.List.Sums.{fold_push}
 use Rattle.std.specs.List.{Contains, flat_map, list_any}
-use Rattle.cs_sets.specs.Sets.{IsAllowed, IsBackward}
+use Rattle.cs_sets.specs.Chains.{IsBackward}
+use Rattle.cs_sets.specs.Sets.{IsAllowed}
 use Rattle.cs_sets.specs.Every.{may, choices, every}
 use Rattle.cs_sets.specs.Different.{IsLike, firsts, state_of, same_answer, same_future, one_class, classes}
 use Rattle.cs_sets.specs.Laws.Lists.{all_of_range, at_of_range, flat_single}

@@ -5,7 +5,8 @@ use Rattle.std.proofs.lemmas.Bool.{cases_eq, cases_Bool}
 use Rattle.std.proofs.lemmas.List.{get_or_push, get_or_append_left}
 use Rattle.std.proofs.lemmas.List.Elements.{All-nil, All-cons, All-weaker, Contains-append_left, Contains-push_cases}
 use Rattle.std.specs.List.{All, Contains}
-use Rattle.cs_sets.specs.Sets.{IsAllowed, IsBackward}
+use Rattle.cs_sets.specs.Chains.{IsBackward}
+use Rattle.cs_sets.specs.Sets.{IsAllowed}
 use Rattle.cs_sets.specs.Every.{may, choices, every}
 use Rattle.cs_sets.specs.Laws.Lists.{all_flat, contains_flat, last_view}
 use Rattle.cs_sets.specs.Laws.Members.{contains_has, has_contains, may_from, may_says}

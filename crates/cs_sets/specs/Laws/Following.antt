@@ -8,7 +8,8 @@ use Rattle.std.proofs.lemmas.List.Concat.{flat_map-append}
 use Rattle.std.proofs.lemmas.List.Elements.{All-contains, Contains-append_right, filter-append}
 use Rattle.std.specs.Cmp.Lexicographic.{pointwise, same_text}
 use Rattle.std.specs.List.{All, Contains, filter, flat_map, range_with_len}
-use Rattle.cs_sets.specs.Sets.{IsBackward, is_member}
+use Rattle.cs_sets.specs.Chains.{IsBackward}
+use Rattle.cs_sets.specs.Sets.{is_member}
 use Rattle.cs_sets.specs.Every.{IsBefore, may, choices, every}
 use Rattle.cs_sets.specs.Following.{chosen, from_on, every_from, IsClosed, IsFree, HasNoneFree, IsLastFree, cut_with}
 use Rattle.cs_sets.specs.Laws.Ascending.{every_ordered, not_before_itself}

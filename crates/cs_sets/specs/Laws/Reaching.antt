@@ -7,7 +7,7 @@ use Rattle.std.specs.List.{flat_map}
 use Rattle.cs_sets.specs.Sets.{IsAllowed, is_member}
 use Rattle.cs_sets.specs.Every.{may, choices, every}
 use Rattle.cs_sets.specs.Reach.{IsReach}
-use Rattle.cs_sets.specs.Rows.{IsTransitive}
+use Rattle.cs_sets.specs.Reach.{IsTransitive}
 use Rattle.cs_sets.specs.Laws.Lists.{flat_agree, all_same}
 use Rattle.cs_sets.specs.Laws.Members.{contains_has, found_has, may_from, may_says}
 use Rattle.cs_sets.specs.Laws.Complete.{each_allowed}

@@ -3,7 +3,8 @@ use Rattle.std.proofs.Common.{◌≡◌, ℕ, zero, suc, ◌+◌, ◌-◌, ◌<�
 use Rattle.std.proofs.Common.{List, [], ◌∷◌, ◌++◌, refl, sym, ap, ◌∙◌, arith, ⊎_elim, subst}
 use Rattle.std.proofs.lemmas.Bool.{cases_Bool, false≢true}
 use Rattle.cs_sets.specs.Every.{may, extending, lacking, IsFuture}
-use Rattle.cs_sets.specs.Rows.{HasNone, IsNext, IsTransitive}
+use Rattle.cs_sets.specs.Finding.{HasNone, IsNext}
+use Rattle.cs_sets.specs.Reach.{IsTransitive}
 use Rattle.cs_sets.specs.Laws.Members.{IsBelow, may_without, may_from, may_says}
 use Rattle.cs_sets.specs.Laws.Counts.{extending_with, extending_without, future_without, future_with, below_more, below_push}
 

@@ -1,6 +1,6 @@
 use Rattle.std.proofs.Common.{◌-◌, ◌≤◌}
 use Rattle.cs_sets.specs.Bits.{has_place}
-use Rattle.cs_sets.specs.Rows.{HasNone}
+use Rattle.cs_sets.specs.Finding.{HasNone}
 use Rattle.cs_sets.proofs.row.Row.next_from.Given as goal
 
 abbrev pub invariant-loop-at : goal.invariant-loop-at
