@@ -5,9 +5,13 @@ ghost use Rattle.cs_sets.specs.Counting.{Capped, weigh, weight};
 ghost use Rattle.cs_sets.specs.Every.{every};
 ghost use Rattle.cs_sets.specs.Rows.{needed_in};
 
+use crate::fault::CountFault;
 use crate::row::Row;
 use cs_names::limits::MICRO_OPERATIONS;
 use std::alloc::{AllocError, Global};
+
+/// How many different futures a count follows at one place.
+pub const FUTURES: usize = 1_048_576;
 
 /// A future, with how many sets of the places below have it.
 #[derive(Clone, Copy, Debug)]
@@ -112,20 +116,52 @@ fn total(futures: &[Future], most: u128) -> u128
     sum
 }
 
-/// How many allowed sets there are, or `most` if there are more. `needed` has, for each place, the
-/// places that need it by any chain.
-pub fn count_sets(alloc: Global, needed: &[Row], most: u128) -> Result<u128, AllocError>
-    requires few { length needed.now ≤ MICRO_OPERATIONS }
-    ensures { IfOk result
-        (λ count. count ≡ min (length (every (needed_in needed.now) (length needed.now))) most) }
+/// The only future of the empty set of no places: all places.
+fn first_level(alloc: Global, needed: &[Row], most: u128) -> Result<Vec<Future>, AllocError>
+    requires { length needed.now ≤ MICRO_OPERATIONS }
+    ensures { IfOk result (λ level. let n = length needed.now in let needs = needed_in needed.now in
+        Capped most (weigh needs (n - 0) 0 level.items) (length (every needs n))) }
 {
     let mut level = Vec::new(alloc);
     let left = Row::below(needed.len());
     level.push(Future { left, sets: 1 })?;
+    Ok(level)
+}
+
+/// The different futures at the place after `place`, with how many sets have each. Counts above
+/// `most` become `most`.
+fn next_level(
+    alloc: Global,
+    needed: &[Row],
+    place: usize,
+    level: &[Future],
+    most: u128,
+) -> Result<Vec<Future>, AllocError>
+    requires few { length needed.now ≤ MICRO_OPERATIONS }
+    requires inside { place < length needed.now }
+    ensures { IfOk result (λ next. let n = length needed.now in let needs = needed_in needed.now in
+        Capped most (weigh needs (n - (place + 1)) (place + 1) next.items)
+        (weigh needs (n - place) place level.now)) }
+{
+    let mut next = split(alloc, needed, place, level)?;
+    next.sort_by_key(|future| future.left)?;
+    merge(alloc, next.as_slice(), most)
+}
+
+/// How many allowed sets there are, or `most` if there are more. `needed` has, for each place, the
+/// places that need it by any chain. TooMany if the sets of the places below some place have more
+/// than FUTURES different futures.
+pub fn count_sets(alloc: Global, needed: &[Row], most: u128) -> Result<u128, CountFault>
+    requires { length needed.now ≤ MICRO_OPERATIONS }
+    ensures { IfOk result
+        (λ count. count ≡ min (length (every (needed_in needed.now) (length needed.now))) most) }
+{
+    let mut level = first_level(alloc, needed, most)?;
     for place in 0..needed.len() {
-        let mut next = split(alloc, needed, place, level.as_slice())?;
-        next.sort_by_key(|future| future.left)?;
-        level = merge(alloc, next.as_slice(), most)?;
+        level = next_level(alloc, needed, place, level.as_slice(), most)?;
+        if level.len() > FUTURES {
+            return Err(CountFault::TooMany);
+        }
     }
     Ok(total(level.as_slice(), most))
 }

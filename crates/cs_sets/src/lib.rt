@@ -5,7 +5,8 @@
 #![tactic(auto)]
 
 pub mod classes;
-pub mod count;
+mod count;
+mod fault;
 pub mod laws;
 mod needed;
 mod reach;
@@ -14,6 +15,7 @@ pub mod order;
 pub mod row;
 pub mod sets;
 
+pub use fault::CountFault;
 pub use order::Order;
 pub use row::Row;
 pub use sets::Sets;

@@ -1,14 +1,17 @@
 //! An order of places, and the sets of them that it allows.
 ghost use Rattle.std.specs.Prelude.{◌≡◌, ◌↔◌, ◌∷◌, [], ℕ, ◌<◌, ◌≤◌, length, IfOk, IsTrue, true, false};
-ghost use Rattle.std.specs.Prelude.{if◌then◌else◌};
+ghost use Rattle.std.specs.Prelude.{if◌then◌else◌, min};
 ghost use Rattle.cs_sets.specs.Bits.{has_place};
 ghost use Rattle.cs_sets.specs.Chains.{IsBackward, by_chain};
+ghost use Rattle.cs_sets.specs.Every.{every};
 ghost use Rattle.cs_sets.specs.Following.{every_from};
 ghost use Rattle.cs_sets.specs.Orders.{needs_in, table};
 ghost use Rattle.cs_sets.specs.Places.{IsSet, places_of};
 ghost use Rattle.cs_sets.specs.Rows.{bit_in};
 ghost use Rattle.cs_sets.specs.Sets.{IsAllowed};
 
+use crate::count::count_sets;
+use crate::fault::CountFault;
 use crate::needed::needed_of;
 use crate::next::next_set;
 use crate::reach::reach_of;
@@ -131,5 +134,15 @@ impl Order {
         ensures last { result ≡ false → places_of members.new ≡ [] }
     {
         next_set(&self.rows, members)
+    }
+
+    /// How many allowed sets there are, or `most` if there are more. TooMany if for some place the
+    /// sets of the places below it have more than 1048576 different futures: the sets of places
+    /// from there on that may still be added.
+    pub fn count(&self, alloc: Global, most: u128) -> Result<u128, CountFault>
+        ensures { IfOk result
+            (λ count. count ≡ min (length (every (needs_in self.now) (length self.now))) most) }
+    {
+        count_sets(alloc, &self.needed, most)
     }
 }

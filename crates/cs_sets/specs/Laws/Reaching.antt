@@ -1,11 +1,13 @@
 -- The members by what is needed directly are those by what is needed by any chain.
-use Rattle.std.proofs.Common.{◌≡◌, ℕ, zero, suc, ◌+◌, ◌<◌, ◌||◌, not, Bool, true, false, cond}
+use Rattle.std.proofs.Common.{◌≡◌, ℕ, zero, suc, ◌+◌, ◌<◌, ◌==◌, ◌&&◌, ◌||◌, not, Bool, true, false, cond, inl, inr}
 use Rattle.std.proofs.Common.{List, [], ◌∷◌, ◌++◌, refl, sym, ap, ◌∙◌, arith, ⊎_elim, get_or}
-use Rattle.std.proofs.lemmas.Bool.{cases_Bool, false≢true}
+use Rattle.std.proofs.lemmas.Bool.{cases_Bool, false≢true, eqb-true, and_from, and_parts, or_cases, or_right}
 use Rattle.std.proofs.lemmas.List.Elements.{All-weaker}
 use Rattle.std.specs.List.{flat_map}
 use Rattle.cs_sets.specs.Sets.{IsAllowed, is_member}
 use Rattle.cs_sets.specs.Every.{may, choices, every}
+use Rattle.cs_sets.specs.Chains.{IsBackward, by_chain}
+use Rattle.cs_sets.specs.Laws.Chains.{any_at, any_in, chain_found, chain_step}
 use Rattle.cs_sets.specs.Reach.{IsReach}
 use Rattle.cs_sets.specs.Reach.{IsTransitive}
 use Rattle.cs_sets.specs.Laws.Lists.{flat_agree, all_same}
@@ -81,3 +83,40 @@ every_same p q (suc k) same =
     may_same places =
         all_same (λ i. not (p i k) || is_member places i) (λ i. not (q i k) || is_member places i) 0 k
         (λ i l u. ap (λ b. not b || is_member places i) (same i k (omega arith)))
+
+-- needs by any chain are such a test
+pub chains_reach : (needs : ℕ → ℕ → Bool) → IsBackward needs → IsReach needs (by_chain needs)
+chains_reach needs back = record {
+  backward = back;
+  direct = λ i k is. chain_found needs back 0 i k is;
+  longer = λ i m k r is. chain_step needs i k
+      ∙ any_at (λ v. needs v k && (i == v || by_chain needs i v)) m k (back m k is)
+      (and_from (needs m k) (i == m || by_chain needs i m) is (or_right (i == m) (by_chain needs i m) r));
+  last_step = λ i k r.
+      let w = any_in (λ v. needs v k && (i == v || by_chain needs i v)) 0 k (sym (chain_step needs i k) ∙ r) in
+      let parts = and_parts (needs w.0 k) (i == w.0 || by_chain needs i w.0) w.1 in (
+        w.0,
+        (
+          parts.0,
+          ⊎_elim
+              (λ (e : (i == w.0) ≡ true). inl (eqb-true i w.0 e))
+              (λ (s : by_chain needs i w.0 ≡ true). inr s)
+              (or_cases (i == w.0) (by_chain needs i w.0) parts.1),
+        ),
+      );
+}
+
+-- nothing that comes later is needed
+pub chains_backward : (needs : ℕ → ℕ → Bool) → IsBackward needs → IsBackward (by_chain needs)
+chains_backward needs back i k r = downward (k + 1) k (omega arith) r
+  where
+    downward : (f m : ℕ) → m < f → by_chain needs i m ≡ true → i < m
+    downward zero m fuel r = absurd (omega (arith, fuel))
+    downward (suc f) m fuel r =
+        let step = (chains_reach needs back).last_step i m r in
+        let low = back step.0 m step.1.0 in
+        ⊎_elim
+        (λ (e : i ≡ step.0). omega (arith, e, low))
+        (λ (s : by_chain needs i step.0 ≡ true).
+        (let less = downward f step.0 (omega (arith, fuel, low)) s in omega (arith, less, low)))
+        step.1.1

@@ -1,0 +1,18 @@
+//! Why allowed sets can't be counted.
+use std::alloc::AllocError;
+
+/// Why allowed sets can't be counted or drawn.
+#[derive(Clone, Copy, Debug, PartialEq, Eq)]
+pub enum CountFault {
+    /// The sets of the places below some place have more different futures than a count follows.
+    TooMany,
+    /// Memory ran out.
+    Memory,
+}
+
+impl From<AllocError> for CountFault {
+    /// An allocation that fails is Memory.
+    fn from(_refused: AllocError) -> CountFault {
+        CountFault::Memory
+    }
+}
