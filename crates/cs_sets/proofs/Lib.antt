@@ -4,6 +4,7 @@ mod Reading
 mod Tables
 mod Needing
 mod Adding
+mod Drawing
 mod Reaching
 mod Entries
 mod Ordering

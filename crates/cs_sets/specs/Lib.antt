@@ -9,6 +9,7 @@ pub mod Nexts
 pub mod Finding
 pub mod Rows
 pub mod Reach
+pub mod Drawing
 pub mod Counting
 pub mod Different
 pub mod Classing

@@ -6,6 +6,7 @@
 
 pub mod classes;
 mod count;
+mod draw;
 mod fault;
 pub mod laws;
 mod needed;

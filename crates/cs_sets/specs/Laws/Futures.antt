@@ -28,7 +28,7 @@ pub count_one : (needs : ℕ → ℕ → Bool) (m k : ℕ) (p : ℕ → Bool) �
 count_one needs zero k p = omega arith
 count_one needs (suc m) k p = (let h = count_one needs m (k + 1) (lacking needs k p) in omega (arith, h))
 
-other_place : (p : Bool) (j k : ℕ) → k + 1 ≤ j → (p && not (j == k)) ≡ p
+pub other_place : (p : Bool) (j k : ℕ) → k + 1 ≤ j → (p && not (j == k)) ≡ p
 other_place p j k l = ap (λ b. p && not b) (ne_eqb j k (λ e. omega (arith, l, e))) ∙ and_true p
   where
     and_true : (b : Bool) → (b && true) ≡ b
