@@ -11,7 +11,7 @@ use Rattle.cs_sets.specs.Laws.Reaching.{chains_backward, chains_reach, every_rea
 use Rattle.cs_sets.specs.declared.row.Row.{Row}
 use Rattle.cs_sets.specs.Orders.{needs_in, table}
 use Rattle.cs_sets.specs.Rows.{AreColumns, IsKept, IsOrder, bit_in, needed_in}
-use Rattle.cs_sets.proofs.Ordering.{backward, bits_are, long}
+use Rattle.cs_sets.proofs.Ordering.{backward, bits_are, long, past_table}
 
 module _ (rows reach : List Row) (is : IsOrder rows reach) (order : List (List Bool)) (view : table (bit_in rows) (length rows) ≡ order)
     (lent : List Row) (same : lent ≡ rows) (P : (ℕ → ℕ → Bool) → ℕ → Type 0) where
@@ -88,3 +88,24 @@ module _ (rows reach needed : List Row) (is : IsKept rows reach needed) (order :
       column i k low ∙ reach_transitive needs (by_chain needs) (chains_reach needs back) i j k q r)
       (λ (high : length order ≤ k). absurd (false≢true (sym (column_past j k high) ∙ t)))
       (cases_lt k (length order))
+
+  -- as one function
+  pub chains_are : needed_in needed ≡ by_chain needs
+  chains_are = λ w i j. chain_same i j w
+    where
+      none_past : (i j : ℕ) → length order ≤ j → by_chain needs i j ≡ false
+      none_past i j high = ⊎_elim
+          (λ (t : by_chain needs i j ≡ true).
+          (let step = (chains_reach needs back).last_step i j t in
+          let none : needs step.0 j ≡ false =
+          ap (λ o. needs_in o step.0 j) (sym view)
+          ∙ past_table (bit_in rows) (length rows) step.0 j (subst (λ n. n ≤ j) (sym (long rows reach is.order order view)) high) in
+          absurd (false≢true (sym none ∙ step.1.0))))
+          (λ (f : by_chain needs i j ≡ false). f)
+          (cases_Bool (by_chain needs i j))
+
+      chain_same : (i j : ℕ) → needed_in needed i j ≡ by_chain needs i j
+      chain_same i j = ⊎_elim
+          (λ (low : j < length order). column i j low)
+          (λ (high : length order ≤ j). column_past i j high ∙ sym (none_past i j high))
+          (cases_lt j (length order))

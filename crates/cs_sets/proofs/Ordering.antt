@@ -9,7 +9,7 @@ use Rattle.cs_sets.specs.Rows.{IsOrder, bit_in}
 use Rattle.cs_sets.specs.Bits.{has_place}
 use Rattle.cs_sets.proofs.Entries.{bit_read, bits_past, entry, length_table}
 
-past_table : (need : ℕ → ℕ → Bool) (n i j : ℕ) → n ≤ j → needs_in (table need n) i j ≡ false
+pub past_table : (need : ℕ → ℕ → Bool) (n i j : ℕ) → n ≤ j → needs_in (table need n) i j ≡ false
 unfolding needs_in
 past_table need n i j high = ap (λ row. get_or row i false) (get_or_past (table need n) j [] (omega (arith, high, length_table need n)))
 

@@ -1,11 +1,12 @@
 -- The member with a number.
-use Rattle.std.specs.Prelude.{◌≡◌, ℕ, ◌+◌, ◌-◌, ◌<◌, ◌≤◌, min, Bool, List, [], length, Option, IfSome, slice_index_or}
+use Rattle.std.specs.Prelude.{◌≡◌, ℕ, ◌+◌, ◌-◌, ◌<◌, ◌≤◌, ◌^◌, min, Bool, List, [], length, Option, IfSome, slice_index_or}
 use Rattle.std.specs.Cmp.Lexicographic.{slice_cmp}
 use Rattle.std.specs.Ordering.{nat_cmp}
 use Rattle.std.specs.declared.cmp.Ordering.{Ordering}
 use Rattle.cs_sets.specs.declared.draw.Draw.{Draw}
 use Rattle.cs_sets.specs.declared.row.Row.{Row}
 use Rattle.cs_sets.specs.Bits.{has_place}
+use Rattle.cs_sets.specs.Chains.{by_chain}
 use Rattle.cs_sets.specs.Every.{every, extending}
 use Rattle.cs_sets.specs.Finding.{HasNone}
 use Rattle.cs_sets.specs.Following.{chosen}
@@ -35,3 +36,8 @@ pub record IsDraw (needs : ℕ → ℕ → Bool) (n most number : ℕ) (draw : D
   pub low : draw.rest < length (extending needs (n - draw.first) draw.first (chosen (has_place draw.members) draw.first))
   pub is : slice_index_or (every needs n) number []
       ≡ slice_index_or (extending needs (n - draw.first) draw.first (chosen (has_place draw.members) draw.first)) draw.rest []
+
+-- all is counted, and a table has counts by futures
+pub record IsTable (needs : ℕ → ℕ → Bool) (n count : ℕ) (known : Row → Option ℕ) : Type 0 where
+  pub counted : count ≡ length (every needs n)
+  pub kept : AreCounts (by_chain needs) n (2 ^ 64) known

@@ -44,8 +44,8 @@ fn count_from(
     requires none { HasNone (has_place left) 0 first }
     requires known { AreCounts (needed_in needed.now) (length needed.now) most
         (get row_cmp known.old) }
-    ensures known { OnOk result (AreCounts (needed_in needed.now) (length needed.now) most
-        (get row_cmp known.new)) }
+    ensures known { AreCounts (needed_in needed.now) (length needed.now) most
+        (get row_cmp known.new) }
     ensures count { IfOk result (IsCount (needed_in needed.now) (length needed.now) most left) }
 {
     let Some(place) = left.next_from(first, needed.len()) else {
@@ -81,8 +81,8 @@ fn decide(
     requires some { 0 < most }
     requires known { AreCounts (needed_in needed.now) (length needed.now) most
         (get row_cmp known.old) }
-    ensures known { OnOk result (AreCounts (needed_in needed.now) (length needed.now) most
-        (get row_cmp known.new)) }
+    ensures known { AreCounts (needed_in needed.now) (length needed.now) most
+        (get row_cmp known.new) }
     ensures first { OnOk result (draw.new.first ≡ place + 1) }
     ensures draw { OnOk result ((number : ℕ)
         → IsDraw (needed_in needed.now) (length needed.now) most number draw.old
@@ -118,8 +118,8 @@ pub fn set_numbered(
     requires there { number < length (every (needed_in needed.now) (length needed.now)) }
     requires known { AreCounts (needed_in needed.now) (length needed.now) most
         (get row_cmp known.old) }
-    ensures known { OnOk result (AreCounts (needed_in needed.now) (length needed.now) most
-        (get row_cmp known.new)) }
+    ensures known { AreCounts (needed_in needed.now) (length needed.now) most
+        (get row_cmp known.new) }
     ensures set { IfOk result (λ set. places_of set
         ≡ slice_index_or (every (needed_in needed.now) (length needed.now)) number []) }
 {

@@ -10,6 +10,7 @@ mod draw;
 mod fault;
 pub mod laws;
 mod needed;
+mod numbers;
 mod reach;
 mod next;
 pub mod order;
@@ -17,6 +18,7 @@ pub mod row;
 pub mod sets;
 
 pub use fault::CountFault;
+pub use numbers::Numbers;
 pub use order::Order;
 pub use row::Row;
 pub use sets::Sets;

@@ -7,7 +7,8 @@ ghost use Rattle.cs_sets.specs.Every.{every};
 ghost use Rattle.cs_sets.specs.Following.{every_from};
 ghost use Rattle.cs_sets.specs.Orders.{needs_in, table};
 ghost use Rattle.cs_sets.specs.Places.{IsSet, places_of};
-ghost use Rattle.cs_sets.specs.Rows.{bit_in};
+ghost use Rattle.cs_sets.specs.Reach.{IsTransitive};
+ghost use Rattle.cs_sets.specs.Rows.{bit_in, needed_in};
 ghost use Rattle.cs_sets.specs.Sets.{IsAllowed};
 
 use crate::count::count_sets;
@@ -144,5 +145,17 @@ impl Order {
             (λ count. count ≡ min (length (every (needs_in self.now) (length self.now))) most) }
     {
         count_sets(alloc, &self.needed, most)
+    }
+
+    /// For each place, a row of the places that need it by any chain.
+    pub(crate) fn needed(&self) -> &[Row]
+        ensures long { length result.now ≡ length self.now }
+        ensures few { length result.now ≤ MICRO_OPERATIONS }
+        ensures chains { needed_in result.now ≡ by_chain (needs_in self.now) }
+        ensures passed_on { IsTransitive (by_chain (needs_in self.now)) }
+        ensures sets { every (by_chain (needs_in self.now)) (length self.now)
+            ≡ every (needs_in self.now) (length self.now) }
+    {
+        &self.needed
     }
 }
