@@ -12,5 +12,5 @@ pub mod Firsts
 pub mod Classes
 pub mod Leading
 pub mod Reaching
-pub mod Drawing
 pub mod Chosen
+pub mod Holes

@@ -7,6 +7,7 @@ pub mod Following
 pub mod Places
 pub mod Nexts
 pub mod Finding
+pub mod Holes
 pub mod Rows
 pub mod Reach
 pub mod Drawing

@@ -1,15 +1,15 @@
 //! Laws of the list of all allowed sets. A call of a function here does nothing: its contract is
 //! the law.
-ghost use Rattle.std.specs.Prelude.{false, suc, ◌+◌, ◌-◌, ◌≤◌, ◌++◌, ◌∷◌, ◌≡◌, ◌≢◌, ℕ, ◌<◌, Bool, List, length, slice_index_or, true, []};
+ghost use Rattle.std.specs.Prelude.{◌≡◌, ◌≢◌, ◌+◌, ◌<◌, ℕ, Bool, false, true, List, [], length};
+ghost use Rattle.std.specs.Prelude.{slice_index_or};
 ghost use Rattle.std.specs.List.{All, AllPairs, Contains};
 ghost use Rattle.cs_sets.specs.Chains.{IsBackward};
 ghost use Rattle.cs_sets.specs.Sets.{IsAllowed};
 ghost use Rattle.cs_sets.specs.Different.{IsLike, classes, different, firsts, leave_alike};
-ghost use Rattle.cs_sets.specs.Every.{IsBefore, count, every, extending, lacking};
-ghost use Rattle.cs_sets.specs.Reach.{IsReach};
-ghost use Rattle.cs_sets.specs.Reach.{IsTransitive};
+ghost use Rattle.cs_sets.specs.Every.{IsBefore, count, every};
+ghost use Rattle.cs_sets.specs.Holes.{LacksOne, Loses, hole, is_kept};
+ghost use Rattle.cs_sets.specs.Reach.{IsReach, IsTransitive};
 ghost use Rattle.cs_sets.specs.Laws.Firsts.{Some_of};
-ghost use Rattle.cs_sets.specs.Laws.Walking.{IsAt};
 
 /// Every member is allowed, every allowed set is a member, and the members ascend, so that each is
 /// there once. Their number is the count of those that extend the empty set.
@@ -58,22 +58,16 @@ pub fn chains_have_the_same_members()
     ensures passes_on { (needs reach : ℕ → ℕ → Bool) → IsReach needs reach → IsTransitive reach }
 {}
 
-/// Of the members that extend a set, those without the next place come first, and their number is
-/// a count by a future. So the member with a number is found place by place.
-pub fn members_are_drawn_by_counts()
-    ensures passed { (needs : ℕ → ℕ → Bool) (m k r : ℕ) (places : List ℕ) (has : ℕ → Bool)
-        → IsAt needs (k + suc m) k places has → has k ≡ false
-        → slice_index_or (extending needs (suc m) k places) r []
-        ≡ slice_index_or (extending needs m (k + 1) places) r [] }
-    ensures without { (needs : ℕ → ℕ → Bool) (m k r : ℕ) (places : List ℕ) (has : ℕ → Bool)
-        → IsAt needs (k + suc m) k places has → has k ≡ true
-        → r < count needs m (k + 1) (lacking needs k has)
-        → slice_index_or (extending needs (suc m) k places) r []
-        ≡ slice_index_or (extending needs m (k + 1) places) r [] }
-    ensures taken { (needs : ℕ → ℕ → Bool) (m k r : ℕ) (places : List ℕ) (has : ℕ → Bool)
-        → IsAt needs (k + suc m) k places has → has k ≡ true
-        → count needs m (k + 1) (lacking needs k has) ≤ r
-        → slice_index_or (extending needs (suc m) k places) r []
-        ≡ slice_index_or (extending needs m (k + 1) (places ++ k ∷ []))
-        (r - count needs m (k + 1) (lacking needs k has)) [] }
+/// What a plan with holes covers: if some allowed set has place `k` and lacks place `i`, then the
+/// hole of `i` that ends with `k` is one of the plan's, and it has `k` and lacks `i` too. And an
+/// allowed set that lacks only `i` and what needs it, of the places up to its last place `k`, is
+/// that hole.
+pub fn holes_cover_pairs()
+    ensures kept { (needs : ℕ → ℕ → Bool) (n i k : ℕ) (places : List ℕ) → IsBackward needs
+        → IsAllowed needs n places → Loses i k places → is_kept needs i k ≡ true }
+    ensures loses { (needs : ℕ → ℕ → Bool) (i k : ℕ) → IsBackward needs → i < k
+        → is_kept needs i k ≡ true → Loses i k (hole needs i (k + 1)) }
+    ensures single { (needs : ℕ → ℕ → Bool) (n i k : ℕ) (places : List ℕ) → IsBackward needs
+        → k < n → IsAllowed needs n places → LacksOne needs i k places
+        → places ≡ hole needs i (k + 1) }
 {}

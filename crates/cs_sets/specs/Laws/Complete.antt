@@ -79,7 +79,7 @@ module _ (needs : ℕ → ℕ → Bool) (back : IsBackward needs) where
   -- ---- each allowed set is a member
 
   -- an allowed set whose last place isn't k
-  lower : (k x : ℕ) (places : List ℕ) → IsAllowed needs (suc k) (places ++ x ∷ []) → (x ≡ k → ⊥) → IsAllowed needs k (places ++ x ∷ [])
+  pub lower : (k x : ℕ) (places : List ℕ) → IsAllowed needs (suc k) (places ++ x ∷ []) → (x ≡ k → ⊥) → IsAllowed needs k (places ++ x ∷ [])
   lower k x places allowed ne =
       let long = length-append places (x ∷ []) in
       let last : get_or (places ++ x ∷ []) (length places) 0 ≡ x = get_or_push places x 0 (length places) refl in
@@ -96,7 +96,7 @@ module _ (needs : ℕ → ℕ → Bool) (back : IsBackward needs) where
       }
 
   -- the rest of one whose last place is k
-  rest : (k : ℕ) (places : List ℕ) → IsAllowed needs (suc k) (places ++ k ∷ []) → IsAllowed needs k places
+  pub rest : (k : ℕ) (places : List ℕ) → IsAllowed needs (suc k) (places ++ k ∷ []) → IsAllowed needs k places
   rest k places allowed =
       let long = length-append places (k ∷ []) in
       let last : get_or (places ++ k ∷ []) (length places) 0 ≡ k = get_or_push places k 0 (length places) refl in
@@ -135,7 +135,7 @@ module _ (needs : ℕ → ℕ → Bool) (back : IsBackward needs) where
       let P : Bool → Type 0 = λ b. Contains (places ∷ cond b ((places ++ k ∷ []) ∷ []) []) (places ++ k ∷ []) in
       subst P (sym t) (1, omega arith, refl)
 
-  none_below : (places : List ℕ) → IsAllowed needs 0 places → [] ≡ places
+  pub none_below : (places : List ℕ) → IsAllowed needs 0 places → [] ≡ places
   none_below [] allowed = refl
   none_below (x ∷ xs) allowed = (let l = allowed.in_range 0 (omega arith) in absurd (omega (arith, l)))
 

@@ -16,7 +16,7 @@ use Rattle.cs_sets.specs.Laws.Complete.{each_allowed}
 
 module _ (needs reach : ℕ → ℕ → Bool) (is : IsReach needs reach) where
   -- a set with what its places need directly has what they need by any chain
-  closed : (f m : ℕ) → m < f → (k : ℕ) (places : List ℕ) → IsAllowed needs k places → is_member places m ≡ true → (i : ℕ) → reach i m ≡ true
+  pub closed : (f m : ℕ) → m < f → (k : ℕ) (places : List ℕ) → IsAllowed needs k places → is_member places m ≡ true → (i : ℕ) → reach i m ≡ true
       → is_member places i ≡ true
   closed zero m fuel k places allowed here i r = absurd (omega (arith, fuel))
   closed (suc f) m fuel k places allowed here i r =
