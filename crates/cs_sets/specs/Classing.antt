@@ -21,19 +21,21 @@ abbrev pub extensions : (ℕ → ℕ → Bool) → ℕ → ℕ → Class → Lis
 extensions needs n k class = extending needs (n - k) k (members_at k class)
 
 -- what is kept of a set of places below k is right
-pub record IsClass (act : ℕ → ℕ → ℕ) (start : ℕ) (needs : ℕ → ℕ → Bool) (n k : ℕ) (class : Class) : Type 0 where
-  pub state : class.state ≡ state_of act start (members_at k class)
+pub record IsClass (act : (ℕ → Bool) → ℕ → ℕ → Bool) (start : ℕ → Bool) (needs : ℕ → ℕ → Bool) (n k : ℕ) (class : Class)
+    : Type 0 where
+  pub seen : (i : ℕ) → has_place class.seen i ≡ state_of act start (members_at k class) i
   pub at : IsAt needs n k (members_at k class) (has_place class.left)
   pub none_later : (j : ℕ) → k ≤ j → has_place class.members j ≡ false
 
--- keys by state, and then by the words of the future
+-- keys by the words of what is seen, and then of the future
 abbrev pub key_cmp : Key → Key → Ordering
-key_cmp a b = ordering_then (nat_cmp a.state b.state) (slice_cmp nat_cmp a.left.words b.left.words)
+key_cmp a b =
+    ordering_then (slice_cmp nat_cmp a.seen.words b.seen.words) (slice_cmp nat_cmp a.left.words b.left.words)
 
 abbrev pub key_of : Class → Key
-key_of class = record { state = class.state; left = class.left }
+key_of class = record { seen = class.seen; left = class.left }
 
--- equal states and equal futures, as a table of keys tells it
+-- the same is seen, and futures are equal, as a table of keys tells it
 abbrev pub one_key : Class → Class → Bool
 one_key a b = is_at (key_cmp (key_of a)) (key_of b)
 
@@ -42,7 +44,8 @@ abbrev pub AreMet : (Key → Bool) → List Class → Type 0
 AreMet has kept = (q : Key) → has q ≡ list_any (λ y. is_at (key_cmp (key_of y)) q) kept
 
 -- the members that extend these sets leave, as firsts, what all members leave
-abbrev pub Leads : (ℕ → ℕ → Bool) → (ℕ → ℕ → ℕ) → ℕ → (ℕ → ℕ → Bool) → ℕ → ℕ → List Class → Type 0
+abbrev pub Leads : ((ℕ → Bool) → (ℕ → Bool) → Bool) → ((ℕ → Bool) → ℕ → ℕ → Bool) → (ℕ → Bool) → (ℕ → ℕ → Bool) → ℕ → ℕ
+    → List Class → Type 0
 Leads like act start needs n k level =
     firsts (leave_alike like act start) (flat_map (extensions needs n k) level)
     ≡ different like act start needs n

@@ -10,6 +10,7 @@ pub mod Capped
 pub mod Futures
 pub mod Firsts
 pub mod Classes
+pub mod Seen
 pub mod Leading
 pub mod Reaching
 pub mod Chosen

@@ -13,5 +13,6 @@ pub mod Reach
 pub mod Drawing
 pub mod Counting
 pub mod Different
+pub mod Seen
 pub mod Classing
 pub mod Laws

@@ -1,67 +1,76 @@
-//! The members that leave what no earlier one leaves, found by classes.
-ghost use Rattle.std.specs.Prelude.{◌≡◌, ◌++◌, ◌+◌, ◌-◌, ◌<◌, ◌≤◌, ℕ, Bool, length, map, IfOk, OnOk};
+//! The sets that leave what no earlier set leaves, found by classes. Of each place is known which
+//! earlier places it hides, and whether it is itself seen, so that what a set leaves is told by
+//! those of its places that are seen.
+ghost use Rattle.std.specs.Prelude.{◌≡◌, ◌++◌, ◌+◌, ◌<◌, ◌≤◌, ℕ, Bool, true, length, map, IfOk, OnOk};
 ghost use Rattle.std.specs.BTreeSet.{contains};
 ghost use Rattle.std.specs.List.{All, flat_map};
+ghost use Rattle.cs_sets.specs.Bits.{has_place};
 ghost use Rattle.cs_sets.specs.Classing.{AreMet, IsClass, extensions, key_cmp, members_at, one_key};
 ghost use Rattle.cs_sets.specs.Different.{IsLike, add_first, different, firsts, leave_alike};
 ghost use Rattle.cs_sets.specs.Rows.{needed_in};
+ghost use Rattle.cs_sets.specs.Seen.{none_seen, same_seen, see};
 
 use crate::row::Row;
 use cs_names::limits::MICRO_OPERATIONS;
 use std::alloc::{AllocError, Global};
 use std::collections::BTreeSet;
 
-/// What places do to a state, which has a number.
-pub trait Machine {
-    ghost start: { Self → ℕ };
-
-    ghost after: { Self → ℕ → ℕ → ℕ };
-
-    /// The state without places.
-    fn start(&self) -> u64
-        ensures { result ≡ start self.now };
-
-    /// The state after a place.
-    fn after(&self, state: u64, place: usize) -> u64
-        ensures { result ≡ after self.now state place };
-}
-
-/// What a class has in common: its state, and the places that may follow.
+/// What a class has in common: the places that are seen, and those that may still be added.
 #[derive(Clone, Copy, Debug, PartialEq, Eq, PartialOrd, Ord)]
 pub struct Key {
-    state: u64,
+    seen: Row,
     left: Row,
 }
 
-/// The first set of a class: its places below, the places that may follow, and its state.
+/// The first set of a class: its places, the places that may still be added, and those that are
+/// seen.
 #[derive(Clone, Copy, Debug)]
 pub struct Class {
     members: Row,
     left: Row,
-    state: u64,
+    seen: Row,
+}
+
+/// What is seen after `place`, if this was seen before it. Row `place` of `hidden` has what the
+/// place hides, and `shown` has it if it is itself seen.
+fn seen_after(hidden: &[Row], shown: &Row, seen: &Row, place: usize) -> Row
+    requires few { length hidden.now ≤ MICRO_OPERATIONS }
+    requires inside { place < length hidden.now }
+    ensures { (i : ℕ) → has_place result i
+        ≡ see (needed_in hidden.now) (has_place shown.now) (has_place seen.now) place i }
+{
+    let mut after = *seen;
+    after.remove(&hidden[place]);
+    if !shown.has_place(place) {
+        return after;
+    }
+    after.set(place);
+    after
 }
 
 /// Appends what becomes of a set: it without `place`, and, if it may have it, with it.
-fn push_choices<M: Machine>(
+fn push_choices(
     next: &mut Vec<Class>,
-    machine: &M,
+    hidden: &[Row],
+    shown: &Row,
     needed: &[Row],
     place: usize,
     class: &Class,
 ) -> Result<(), AllocError>
     requires few { length needed.now ≤ MICRO_OPERATIONS }
     requires inside { place < length needed.now }
-    requires is { IsClass (M.after machine.now) (M.start machine.now) (needed_in needed.now)
-        (length needed.now) place class.now }
+    requires hidden { length hidden.now ≡ length needed.now }
+    requires is { IsClass (see (needed_in hidden.now) (has_place shown.now)) none_seen
+        (needed_in needed.now) (length needed.now) place class.now }
     ensures extends { OnOk result
         (flat_map (extensions (needed_in needed.now) (length needed.now) (place + 1)) next.new.items
         ≡ flat_map (extensions (needed_in needed.now) (length needed.now) (place + 1)) next.old.items
         ++ extensions (needed_in needed.now) (length needed.now) place class.now) }
     ensures classes { OnOk result
-        (All (IsClass (M.after machine.now) (M.start machine.now) (needed_in needed.now)
-        (length needed.now) (place + 1)) next.old.items
-        → All (IsClass (M.after machine.now) (M.start machine.now) (needed_in needed.now)
-        (length needed.now) (place + 1)) next.new.items) }
+        (All (IsClass (see (needed_in hidden.now) (has_place shown.now)) none_seen
+        (needed_in needed.now) (length needed.now) (place + 1)) next.old.items
+        → All (IsClass (see (needed_in hidden.now) (has_place shown.now)) none_seen
+        (needed_in needed.now) (length needed.now) (place + 1)) next.new.items) }
 {
     let mut without = class.left;
     without.remove(&needed[place]);
@@ -69,7 +78,7 @@ fn push_choices<M: Machine>(
     next.push(Class {
         members: class.members,
         left: without,
-        state: class.state,
+        seen: class.seen,
     })?;
     if !class.left.has_place(place) {
         return Ok(());
@@ -78,37 +87,39 @@ fn push_choices<M: Machine>(
     members.set(place);
     let mut kept = class.left;
     kept.clear(place);
-    let state = machine.after(class.state, place);
+    let seen = seen_after(hidden, shown, &class.seen, place);
     next.push(Class {
         members,
         left: kept,
-        state,
+        seen,
     })?;
     Ok(())
 }
 
 /// What becomes of each set of a level.
-fn grow<M: Machine>(
+fn grow(
     alloc: Global,
-    machine: &M,
+    hidden: &[Row],
+    shown: &Row,
     needed: &[Row],
     place: usize,
     level: &[Class],
 ) -> Result<Vec<Class>, AllocError>
     requires few { length needed.now ≤ MICRO_OPERATIONS }
     requires inside { place < length needed.now }
-    requires are { All (IsClass (M.after machine.now) (M.start machine.now) (needed_in needed.now)
-        (length needed.now) place) level.now }
+    requires hidden { length hidden.now ≡ length needed.now }
+    requires are { All (IsClass (see (needed_in hidden.now) (has_place shown.now)) none_seen
+        (needed_in needed.now) (length needed.now) place) level.now }
     ensures extends { IfOk result (λ next.
         flat_map (extensions (needed_in needed.now) (length needed.now) (place + 1)) next.items
         ≡ flat_map (extensions (needed_in needed.now) (length needed.now) place) level.now) }
     ensures classes { IfOk result (λ next.
-        All (IsClass (M.after machine.now) (M.start machine.now) (needed_in needed.now)
-        (length needed.now) (place + 1)) next.items) }
+        All (IsClass (see (needed_in hidden.now) (has_place shown.now)) none_seen
+        (needed_in needed.now) (length needed.now) (place + 1)) next.items) }
 {
     let mut next = Vec::new(alloc);
     for class in level {
-        push_choices(&mut next, machine, needed, place, class)?;
+        push_choices(&mut next, hidden, shown, needed, place, class)?;
     }
     Ok(next)
 }
@@ -120,7 +131,7 @@ fn keep(kept: &mut Vec<Class>, met: &mut BTreeSet<Key>, class: &Class) -> Result
     ensures met { OnOk result (AreMet (contains key_cmp met.new) kept.new.items) }
 {
     let key = Key {
-        state: class.state,
+        seen: class.seen,
         left: class.left,
     };
     if !met.insert(key)? {
@@ -144,30 +155,35 @@ fn first_of_each(alloc: Global, level: &[Class]) -> Result<Vec<Class>, AllocErro
 }
 
 /// The first set of each class of all places. Of these, those that leave what no earlier one
-/// leaves are the different members, however alikeness is told.
-pub fn class_sets<M: Machine>(
+/// leaves are the different ones of all allowed sets, however alikeness is told, if only sets are
+/// told apart of which not the same is seen. `needed` has, for each place, the places that need it
+/// by any chain, `hidden` those that it hides, and `shown` has the places that are seen.
+pub fn class_sets(
     alloc: Global,
-    machine: &M,
+    hidden: &[Row],
+    shown: &Row,
     needed: &[Row],
 ) -> Result<Vec<Class>, AllocError>
     requires few { length needed.now ≤ MICRO_OPERATIONS }
-    ensures { IfOk result (λ found. (like : ℕ → ℕ → Bool) → IsLike like
-        → firsts (leave_alike like (M.after machine.now) (M.start machine.now))
+    requires hidden { length hidden.now ≡ length needed.now }
+    ensures { IfOk result (λ found. (like : (ℕ → Bool) → (ℕ → Bool) → Bool) → IsLike like
+        → ((a b : ℕ → Bool) → same_seen (length needed.now) a b ≡ true → like a b ≡ true)
+        → firsts (leave_alike like (see (needed_in hidden.now) (has_place shown.now)) none_seen)
         (map (members_at (length needed.now)) found.items)
-        ≡ different like (M.after machine.now) (M.start machine.now) (needed_in needed.now)
-        (length needed.now)) }
+        ≡ different like (see (needed_in hidden.now) (has_place shown.now)) none_seen
+        (needed_in needed.now) (length needed.now)) }
 {
     let mut level: Vec<Class> = Vec::new(alloc);
     let left = Row::below(needed.len());
     let members = Row::empty();
-    let state = machine.start();
+    let seen = Row::empty();
     level.push(Class {
         members,
         left,
-        state,
+        seen,
     })?;
     for place in 0..needed.len() {
-        let next = grow(alloc, machine, needed, place, level.as_slice())?;
+        let next = grow(alloc, hidden, shown, needed, place, level.as_slice())?;
         level = first_of_each(alloc, next.as_slice())?;
     }
     Ok(level)

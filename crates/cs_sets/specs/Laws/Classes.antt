@@ -18,12 +18,12 @@ answer_itself : (a : Bool) → same_answer a a ≡ true
 answer_itself true = refl
 answer_itself false = refl
 
-answer_is : (a b : Bool) → same_answer a b ≡ true → a ≡ b
+pub answer_is : (a b : Bool) → same_answer a b ≡ true → a ≡ b
 answer_is true b t = sym t
 answer_is false true t = absurd (false≢true t)
 answer_is false false t = refl
 
-answer_from : (a b : Bool) → a ≡ b → same_answer a b ≡ true
+pub answer_from : (a b : Bool) → a ≡ b → same_answer a b ≡ true
 answer_from a b e = ap (same_answer a) (sym e) ∙ answer_itself a
 
 pub future_from : (needs : ℕ → ℕ → Bool) (n k : ℕ) (a b : List ℕ) → ((j : ℕ) → k ≤ j → j < n → may needs k a j ≡ may needs k b j)

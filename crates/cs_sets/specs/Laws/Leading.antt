@@ -1,13 +1,13 @@
 -- Levels of classes lead to the different members.
-use Rattle.std.proofs.Common.{◌≡◌, ℕ, zero, suc, ◌+◌, ◌-◌, ◌<◌, ◌≤◌, ◌==◌, ◌&&◌, ◌||◌, not, Bool, true, false, cond, eqb}
+use Rattle.std.proofs.Common.{◌≡◌, ℕ, zero, suc, ◌+◌, ◌-◌, ◌<◌, ◌≤◌, ◌==◌, ◌&&◌, ◌||◌, not, Bool, true, false, cond}
 use Rattle.std.proofs.Common.{List, [], ◌∷◌, ◌++◌, refl, sym, ap, ◌∙◌, arith, ⊎_elim, length, get_or, subst, fold, map, take, append_assoc}
-use Rattle.std.proofs.lemmas.Bool.{cases_Bool, and_parts, and_from, or_left, or_right, eqb-true, eq-eqb, ne_eqb}
+use Rattle.std.proofs.lemmas.Bool.{cases_Bool, and_parts, and_from, or_left, or_right, eq-eqb, ne_eqb}
 use Rattle.std.proofs.lemmas.List.{append-nil, take_more}
 use Rattle.std.proofs.lemmas.List.Concat.{flat_map-append, flat_map_single}
 use Rattle.std.proofs.lemmas.List.Elements.{All-head, All-tail, All-push, Contains-append_cases, filter-append}
 use Rattle.std.proofs.lemmas.List.Folds.{list_any-append}
 use Rattle.std.proofs.lemmas.List.Sums.{fold_push}
-use Rattle.std.proofs.lemmas.Map.Lookups.{CmpEqualImpliesEq, exact_pairs, exact_unsigned, exact_bytes}
+use Rattle.std.proofs.lemmas.Map.Lookups.{CmpEqualImpliesEq, exact_pairs, exact_bytes}
 use Rattle.std.proofs.lemmas.Map.Views.{tells_apart}
 use Rattle.std.specs.BTreeMap.{is_at}
 use Rattle.std.specs.Ordering.{nat_cmp}
@@ -24,7 +24,9 @@ use Rattle.cs_sets.specs.Laws.Counts.{below_more, below_push, every_is, extendin
 use Rattle.cs_sets.specs.Laws.Members.{IsBelow}
 use Rattle.cs_sets.specs.Laws.Classes.{choice_cases, follows, future_from}
 use Rattle.cs_sets.specs.Laws.Firsts.{found_any, pruned}
+use Rattle.cs_sets.specs.Laws.Seen.{same_is_like, seen_from}
 use Rattle.cs_sets.specs.Laws.Walking.{IsAt}
+use Rattle.cs_sets.specs.Seen.{same_seen}
 
 flat_found : {X Y : Type 0} (f : X → List Y) (xs : List X) (y : Y) → Contains (flat_map f xs) y → (x : X) × (Contains xs x × Contains (f x) y)
 flat_found f [] y (k, low, e) = absurd (omega (arith, low))
@@ -78,8 +80,8 @@ module _ {S : Type 0} (same : S → S → Bool) (act : S → ℕ → S) (start :
 -- keys that compare alike are one
 exact_keys : CmpEqualImpliesEq key_cmp
 exact_keys a b h =
-    ap (λ (p : ℕ × List ℕ). (let k : Key = record { state = p.0; left = record { words = p.1 } } in k))
-    (exact_pairs nat_cmp (slice_cmp nat_cmp) exact_unsigned exact_bytes (a.state, a.left.words) (b.state, b.left.words) h)
+    ap (λ (p : List ℕ × List ℕ). (let k : Key = record { seen = record { words = p.0 }; left = record { words = p.1 } } in k))
+    (exact_pairs (slice_cmp nat_cmp) (slice_cmp nat_cmp) exact_bytes exact_bytes (a.seen.words, a.left.words) (b.seen.words, b.left.words) h)
 
 same_key : (a b : Class) → one_key a b ≡ true → key_of a ≡ key_of b
 same_key a b t = tells_apart exact_keys (key_of a) (key_of b) t
@@ -100,19 +102,9 @@ met_more has now kept class met is q =
 
 -- ---- classes in bits
 
-same_numbers : IsLike eqb
-same_numbers = record {
-  itself = λ x. eq-eqb x x refl;
-  passes_on = λ x y z p q. eq-eqb x z (eqb-true x y p ∙ eqb-true y z q);
-}
-
-module _ (act : ℕ → ℕ → ℕ) (start : ℕ) (needs : ℕ → ℕ → Bool) (n : ℕ) (like : ℕ → ℕ → Bool) (fine : IsLike like) where
-  coarser : (s t : ℕ) → eqb s t ≡ true → like s t ≡ true
-  coarser s t e = ap (like s) (sym (eqb-true s t e)) ∙ fine.itself s
-
-  acts : (s t k : ℕ) → eqb s t ≡ true → eqb (act s k) (act t k) ≡ true
-  acts s t k e = eq-eqb (act s k) (act t k) (ap (λ v. act v k) (eqb-true s t e))
-
+module _ (act : (ℕ → Bool) → ℕ → ℕ → Bool) (start : ℕ → Bool) (needs : ℕ → ℕ → Bool) (n : ℕ)
+    (acts : (s t : ℕ → Bool) (k : ℕ) → same_seen n s t ≡ true → same_seen n (act s k) (act t k) ≡ true)
+    (like : (ℕ → Bool) → (ℕ → Bool) → Bool) (fine : IsLike like) (coarser : (s t : ℕ → Bool) → same_seen n s t ≡ true → like s t ≡ true) where
   leaves_is_like : IsLike (leave_alike like act start)
   leaves_is_like = record {
     itself = λ x. fine.itself (state_of act start x);
@@ -120,13 +112,15 @@ module _ (act : ℕ → ℕ → ℕ) (start : ℕ) (needs : ℕ → ℕ → Bool
   }
 
   key_is_class : (k : ℕ) (a b : Class) → IsClass act start needs n k a → IsClass act start needs n k b → one_key a b ≡ true
-      → one_class eqb act start needs n k (members_at k a) (members_at k b) ≡ true
+      → one_class (same_seen n) act start needs n k (members_at k a) (members_at k b) ≡ true
   key_is_class k a b ia ib t =
       let keys = same_key a b t in
-      let states : a.state ≡ b.state = ap (λ q. q.state) keys in
+      let seen : a.seen ≡ b.seen = ap (λ q. q.seen) keys in
       let rows : a.left ≡ b.left = ap (λ q. q.left) keys in
-      and_from (eqb (state_of act start (members_at k a)) (state_of act start (members_at k b))) (same_future needs n k (members_at k a) (members_at k b))
-      (eq-eqb _ _ (sym ia.state ∙ states ∙ ib.state))
+      and_from (same_seen n (state_of act start (members_at k a)) (state_of act start (members_at k b)))
+      (same_future needs n k (members_at k a) (members_at k b))
+      (seen_from n (state_of act start (members_at k a)) (state_of act start (members_at k b))
+      (λ i low. sym (ia.seen i) ∙ ap (λ r. has_place r i) seen ∙ ib.seen i))
       (future_from needs n k (members_at k a) (members_at k b)
       (λ j l u. sym (ia.at.future j l u) ∙ ap (λ r. has_place r j) rows ∙ ib.at.future j l u))
 
@@ -135,13 +129,13 @@ module _ (act : ℕ → ℕ → ℕ) (start : ℕ) (needs : ℕ → ℕ → Bool
   leads_pruned k level low all leads =
       pruned (IsClass act start needs n k) one_key (leave_alike like act start) leaves_is_like (extensions needs n k)
       (λ a b ia ib t z c.
-      extended_alike eqb act start same_numbers acts needs n like coarser (n - k) k (omega (arith, low)) (members_at k a) (members_at k b)
+      extended_alike (same_seen n) act start (same_is_like n) acts needs n like coarser (n - k) k (omega (arith, low)) (members_at k a) (members_at k b)
       ia.at.below ib.at.below (key_is_class k a b ia ib t) z c)
       level all ∙ leads
 
 -- ---- one place more
 
-module _ (act : ℕ → ℕ → ℕ) (start : ℕ) (needs : ℕ → ℕ → Bool) (n : ℕ) where
+module _ (act : (ℕ → Bool) → ℕ → ℕ → Bool) (start : ℕ → Bool) (needs : ℕ → ℕ → Bool) (n : ℕ) where
   members_more : (k : ℕ) (class : Class) → members_at (k + 1) class ≡ members_at k class ++ cond (has_place class.members k) (k ∷ []) []
   members_more k class = ap (filter (has_place class.members)) (range_more k) ∙ filter-append (has_place class.members) (range_with_len 0 k) (k ∷ [])
 
@@ -154,7 +148,7 @@ module _ (act : ℕ → ℕ → ℕ) (start : ℕ) (needs : ℕ → ℕ → Bool
   module _ (k : ℕ) (low : k < n) (class : Class) (ic : IsClass act start needs n k class) (out : Class)
       (members : (j : ℕ) → has_place out.members j ≡ has_place class.members j)
       (left : (j : ℕ) → has_place out.left j ≡ (lacking needs k (has_place class.left) j && not (j == k)))
-      (state : out.state ≡ class.state) where
+      (seen : out.seen ≡ class.seen) where
     without_members : members_at (k + 1) out ≡ members_at k class
     without_members =
         members_more k out ∙ ap (λ b. members_at k out ++ cond b (k ∷ []) []) (members k ∙ ic.none_later k (omega arith))
@@ -162,7 +156,7 @@ module _ (act : ℕ → ℕ → ℕ) (start : ℕ) (needs : ℕ → ℕ → Bool
 
     pub without_is : IsClass act start needs n (k + 1) out
     without_is = record {
-      state = state ∙ ic.state ∙ ap (state_of act start) (sym without_members);
+      seen = λ i. ap (λ r. has_place r i) seen ∙ ic.seen i ∙ ap (λ v. state_of act start v i) (sym without_members);
       at = subst (λ v. IsAt needs n (k + 1) v (has_place out.left)) (sym without_members) (record {
         below = below_more k (members_at k class) ic.at.below;
         future = λ j l u. left j
@@ -187,7 +181,7 @@ module _ (act : ℕ → ℕ → ℕ) (start : ℕ) (needs : ℕ → ℕ → Bool
 
     module _ (more : Class) (with_members : (j : ℕ) → has_place more.members j ≡ (j == k || has_place class.members j))
         (kept : (j : ℕ) → has_place more.left j ≡ (has_place class.left j && not (j == k)))
-        (after : more.state ≡ act class.state k) where
+        (after : (i : ℕ) → has_place more.seen i ≡ act (has_place class.seen) k i) where
       members_with : members_at (k + 1) more ≡ members_at k class ++ k ∷ []
       members_with =
           members_more k more
@@ -197,7 +191,8 @@ module _ (act : ℕ → ℕ → ℕ) (start : ℕ) (needs : ℕ → ℕ → Bool
 
       pub with_is : IsClass act start needs n (k + 1) more
       with_is = record {
-        state = after ∙ ap (λ s. act s k) ic.state ∙ sym (fold_push act start (members_at k class) k) ∙ ap (state_of act start) (sym members_with);
+        seen = λ i. after i ∙ ap (λ s. act s k i) before ∙ ap (λ s. s i) (sym (fold_push act start (members_at k class) k))
+            ∙ ap (λ v. state_of act start v i) (sym members_with);
         at = subst (λ v. IsAt needs n (k + 1) v (has_place more.left)) (sym members_with) (record {
           below = below_push k (members_at k class) ic.at.below;
           future = λ j l u. kept j
@@ -209,6 +204,9 @@ module _ (act : ℕ → ℕ → ℕ) (start : ℕ) (needs : ℕ → ℕ → Bool
             ∙ ic.none_later j (omega (arith, l));
       }
         where
+          before : has_place class.seen ≡ state_of act start (members_at k class)
+          before = λ w i. ic.seen i w
+
           and_true : (b : Bool) → (b && true) ≡ b
           and_true true = refl
           and_true false = refl
@@ -223,23 +221,27 @@ module _ (act : ℕ → ℕ → ℕ) (start : ℕ) (needs : ℕ → ℕ → Bool
 
 -- ---- the first level and the last
 
-pub first_class : (act : ℕ → ℕ → ℕ) (start : ℕ) (needs : ℕ → ℕ → Bool) (n : ℕ) (class : Class) → class.state ≡ start
+pub first_class : (act : (ℕ → Bool) → ℕ → ℕ → Bool) (start : ℕ → Bool) (needs : ℕ → ℕ → Bool) (n : ℕ) (class : Class)
+    → ((i : ℕ) → has_place class.seen i ≡ start i)
     → ((j : ℕ) → has_place class.members j ≡ false) → IsAt needs n 0 [] (has_place class.left) → IsClass act start needs n 0 class
-first_class act start needs n class state none at = record { state = state; at = at; none_later = λ j l. none j }
+first_class act start needs n class seen none at = record { seen = seen; at = at; none_later = λ j l. none j }
 
-pub first_leads : (act : ℕ → ℕ → ℕ) (start : ℕ) (needs : ℕ → ℕ → Bool) (n : ℕ) (like : ℕ → ℕ → Bool) (class : Class) (level : List Class)
+pub first_leads : (act : (ℕ → Bool) → ℕ → ℕ → Bool) (start : ℕ → Bool) (needs : ℕ → ℕ → Bool) (n : ℕ)
+    (like : (ℕ → Bool) → (ℕ → Bool) → Bool) (class : Class) (level : List Class)
     → level ≡ [] ++ class ∷ [] → Leads like act start needs n 0 level
 first_leads act start needs n like class level e =
     let z : n - 0 ≡ n = omega arith in
     ap (firsts (leave_alike like act start))
     (ap (flat_map (extensions needs n 0)) e ∙ append-nil (extending needs (n - 0) 0 []) ∙ ap (λ m. extending needs m 0 []) z ∙ sym (every_is needs n))
 
-pub grown_leads : (act : ℕ → ℕ → ℕ) (start : ℕ) (needs : ℕ → ℕ → Bool) (n : ℕ) (like : ℕ → ℕ → Bool) (k : ℕ) (level next : List Class)
+pub grown_leads : (act : (ℕ → Bool) → ℕ → ℕ → Bool) (start : ℕ → Bool) (needs : ℕ → ℕ → Bool) (n : ℕ)
+    (like : (ℕ → Bool) → (ℕ → Bool) → Bool) (k : ℕ) (level next : List Class)
     → flat_map (extensions needs n (k + 1)) next ≡ flat_map (extensions needs n k) level → Leads like act start needs n k level
     → Leads like act start needs n (k + 1) next
 grown_leads act start needs n like k level next e leads = ap (firsts (leave_alike like act start)) e ∙ leads
 
-pub last_leads : (act : ℕ → ℕ → ℕ) (start : ℕ) (needs : ℕ → ℕ → Bool) (n : ℕ) (like : ℕ → ℕ → Bool) (level : List Class)
+pub last_leads : (act : (ℕ → Bool) → ℕ → ℕ → Bool) (start : ℕ → Bool) (needs : ℕ → ℕ → Bool) (n : ℕ)
+    (like : (ℕ → Bool) → (ℕ → Bool) → Bool) (level : List Class)
     → Leads like act start needs n n level → firsts (leave_alike like act start) (map (members_at n) level) ≡ different like act start needs n
 last_leads act start needs n like level leads =
     ap (firsts (leave_alike like act start))

@@ -1,12 +1,14 @@
 use Rattle.std.proofs.Common.{◌≡◌, ◌+◌, length, take}
 use Rattle.std.specs.List.{All, flat_map}
+use Rattle.cs_sets.specs.Bits.{has_place}
 use Rattle.cs_sets.specs.Classing.{IsClass, extensions}
 use Rattle.cs_sets.specs.Rows.{needed_in}
+use Rattle.cs_sets.specs.Seen.{none_seen, see}
 use Rattle.cs_sets.proofs.classes.grow.Given as goal
 
 abbrev pub invariant-loop-class : goal.invariant-loop-class
-invariant-loop-class g l = record {
+invariant-loop-class l = record {
   extends : flat_map (extensions (needed_in l.needed) (length l.needed) (l.place + 1)) l.next.items
       ≡ flat_map (extensions (needed_in l.needed) (length l.needed) l.place) (take l.class-index l.level);
-  classes : All (IsClass (g.M.Machine.after l.machine) (g.M.Machine.start l.machine) (needed_in l.needed) (length l.needed) (l.place + 1)) l.next.items;
+  classes : All (IsClass (see (needed_in l.hidden) (has_place l.shown)) none_seen (needed_in l.needed) (length l.needed) (l.place + 1)) l.next.items;
 }
