@@ -12,7 +12,8 @@ struct Needs(usize, &'static [(usize, usize)]);
 const SYNCED: Needs = Needs(5, &[(0, 4), (1, 4), (2, 4), (3, 4)]);
 
 /// Its sets, in order.
-const SYNCED_SETS: &str = "[]\n[3]\n[2]\n[2,3]\n[1]\n[1,3]\n[1,2]\n[1,2,3]\n[0]\n[0,3]\n[0,2]\n[0,2,3]\n[0,1]\n[0,1,3]\n[0,1,2]\n[0,1,2,3]\n[0,1,2,3,4]\n";
+const SYNCED_SETS: &str =
+    "[]\n[3]\n[2]\n[2,3]\n[1]\n[1,3]\n[1,2]\n[1,2,3]\n[0]\n[0,3]\n[0,2]\n[0,2,3]\n[0,1]\n[0,1,3]\n[0,1,2]\n[0,1,2,3]\n[0,1,2,3,4]\n";
 
 /// An acknowledged line, and an operation after it.
 const SAID: Needs = Needs(2, &[(0, 1)]);
@@ -124,10 +125,22 @@ fn more_sets_than_a_bound_are_noticed(rt: HostRuntime) {
 #[test]
 fn great_numbers_of_sets_are_counted(rt: HostRuntime) {
     let alloc = rt.alloc();
-    assert_eq!(&rt; count_text(alloc, &rt, &free_of(alloc, &rt, 20, false)).as_str(), "1048576\n");
-    assert_eq!(&rt; count_text(alloc, &rt, &free_of(alloc, &rt, 63, false)).as_str(), "9223372036854775808\n");
-    assert_eq!(&rt; count_text(alloc, &rt, &free_of(alloc, &rt, 63, true)).as_str(), "9223372036854775809\n");
-    assert_eq!(&rt; count_text(alloc, &rt, &free_of(alloc, &rt, 64, false)).as_str(), "more than 18446744073709551615\n");
+    assert_eq!(&rt;
+        count_text(alloc, &rt, &free_of(alloc, &rt, 20, false)).as_str(),
+        "1048576\n"
+    );
+    assert_eq!(&rt;
+        count_text(alloc, &rt, &free_of(alloc, &rt, 63, false)).as_str(),
+        "9223372036854775808\n"
+    );
+    assert_eq!(&rt;
+        count_text(alloc, &rt, &free_of(alloc, &rt, 63, true)).as_str(),
+        "9223372036854775809\n"
+    );
+    assert_eq!(&rt;
+        count_text(alloc, &rt, &free_of(alloc, &rt, 64, false)).as_str(),
+        "more than 18446744073709551615\n"
+    );
 }
 
 /// The same seed draws the same sets, and each of them is one of all.
@@ -136,7 +149,10 @@ fn a_seed_draws_the_same_sets(rt: HostRuntime) {
     let alloc = rt.alloc();
     let order = order_of(alloc, &rt, &SAID);
     let text = sample_text(alloc, &rt, &order, 1, 5);
-    assert_eq!(&rt; text.as_str(), sample_text(alloc, &rt, &order, 1, 5).as_str());
+    assert_eq!(&rt;
+        text.as_str(),
+        sample_text(alloc, &rt, &order, 1, 5).as_str()
+    );
     assert_eq!(&rt; text.as_str().lines().count(), 5);
     for line in text.as_str().lines() {
         assert!(&rt; line == "[]" || line == "[0]" || line == "[0,1]");

@@ -10,10 +10,10 @@ mod draw;
 mod fault;
 pub mod laws;
 mod needed;
-mod numbers;
-mod reach;
 mod next;
+mod numbers;
 pub mod order;
+mod reach;
 pub mod row;
 pub mod sets;
 

@@ -73,6 +73,11 @@ impl<'a> Numbers<'a> {
         ensures set { IfOk result (λ set. places_of set ≡ slice_index_or self.old number []) }
         ensures same { self.new ≡ self.old }
     {
-        set_numbered(self.order.needed(), &mut self.known, MOST, u128::from(number))
+        set_numbered(
+            self.order.needed(),
+            &mut self.known,
+            MOST,
+            u128::from(number),
+        )
     }
 }

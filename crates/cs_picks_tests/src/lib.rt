@@ -1,0 +1,5 @@
+//! The command `picks --every`: values from outside.
+#![tactic(auto)]
+
+#[cfg(test)]
+mod tests;
