@@ -9,9 +9,12 @@ const FIRST: &str = r#"{"trace":1,"owner":"cat","group":"staff","mode":"775"}
 "#;
 
 /// Headers of the third version.
-const BLOCKS: &str = r#"{"trace":3,"profile":"blocks","block":4096,"owner":"cat","group":"staff","mode":"775"}
+const BLOCKS: &str =
+    r#"{"trace":3,"profile":"blocks","block":4096,"owner":"cat","group":"staff","mode":"775"}
 "#;
-const ORDERED: &str = r#"{"trace":3,"profile":"ordered","block":4096,"owner":"cat","group":"staff","mode":"775"}
+
+const ORDERED: &str =
+    r#"{"trace":3,"profile":"ordered","block":4096,"owner":"cat","group":"staff","mode":"775"}
 "#;
 
 /// A text, another write after it, and a move of the file at the end.
@@ -30,7 +33,8 @@ const SAID: &str = r#"{"op":"say","text":"1"}
 "#;
 
 /// All sets of four operations of which none needs another, and one that needs all of them.
-const MOVED_SETS: &str = "[]\n[3]\n[2]\n[2,3]\n[1]\n[1,3]\n[1,2]\n[1,2,3]\n[0]\n[0,3]\n[0,2]\n[0,2,3]\n[0,1]\n[0,1,3]\n[0,1,2]\n[0,1,2,3]\n[0,1,2,3,4]\n";
+const MOVED_SETS: &str =
+    "[]\n[3]\n[2]\n[2,3]\n[1]\n[1,3]\n[1,2]\n[1,2,3]\n[0]\n[0,3]\n[0,2]\n[0,2,3]\n[0,1]\n[0,1,3]\n[0,1,2]\n[0,1,2,3]\n[0,1,2,3,4]\n";
 
 fn text_of(alloc: Global, rt: &impl Abort, text: &str) -> String {
     String::from_str(alloc, text).expect(rt, "memory")
@@ -39,12 +43,22 @@ fn text_of(alloc: Global, rt: &impl Abort, text: &str) -> String {
 /// A file of 5,000 bytes is written, waited for and moved.
 fn moved(alloc: Global, rt: &impl Abort) -> String {
     let mut trace = text_of(alloc, rt, FIRST);
-    trace.push_str("{\"op\":\"creat\",\"path\":\"/t\",\"owner\":\"ann\",\"group\":\"staff\",\"mode\":\"644\"}\n").expect(rt, "memory");
-    trace.push_str("{\"op\":\"write\",\"path\":\"/t\",\"offset\":0,\"bytes\":\"").expect(rt, "memory");
+    trace
+        .push_str(
+            "{\"op\":\"creat\",\"path\":\"/t\",\"owner\":\"ann\",\"group\":\"staff\",\"mode\":\"644\"}\n",
+        )
+        .expect(rt, "memory");
+    trace
+        .push_str("{\"op\":\"write\",\"path\":\"/t\",\"offset\":0,\"bytes\":\"")
+        .expect(rt, "memory");
     for _ in 0..5000 {
         trace.push_str("61").expect(rt, "memory");
     }
-    trace.push_str("\"}\n{\"op\":\"fsync\",\"path\":\"/t\"}\n{\"op\":\"rename\",\"from\":\"/t\",\"to\":\"/a\"}\n").expect(rt, "memory");
+    trace
+        .push_str(
+            "\"}\n{\"op\":\"fsync\",\"path\":\"/t\"}\n{\"op\":\"rename\",\"from\":\"/t\",\"to\":\"/a\"}\n",
+        )
+        .expect(rt, "memory");
     trace
 }
 
@@ -52,10 +66,14 @@ fn moved(alloc: Global, rt: &impl Abort) -> String {
 fn made(alloc: Global, rt: &impl Abort, header: &str, count: u32, bytes: bool) -> String {
     let mut trace = text_of(alloc, rt, header);
     for file in 0..count {
-        let creat = format!(in alloc; "{{\"op\":\"creat\",\"path\":\"/f{file}\",\"owner\":\"ann\",\"group\":\"staff\",\"mode\":\"644\"}}\n").expect(rt, "memory");
+        let creat = format!(in alloc;
+            "{{\"op\":\"creat\",\"path\":\"/f{file}\",\"owner\":\"ann\",\"group\":\"staff\",\"mode\":\"644\"}}\n"
+        ).expect(rt, "memory");
         trace.push_str(creat.as_str()).expect(rt, "memory");
         if bytes {
-            let write = format!(in alloc; "{{\"op\":\"write\",\"path\":\"/f{file}\",\"offset\":0,\"text\":\"x\"}}\n").expect(rt, "memory");
+            let write = format!(in alloc;
+                "{{\"op\":\"write\",\"path\":\"/f{file}\",\"offset\":0,\"text\":\"x\"}}\n"
+            ).expect(rt, "memory");
             trace.push_str(write.as_str()).expect(rt, "memory");
         }
     }
@@ -106,7 +124,13 @@ fn every_set_of_a_moved_file_is_printed(rt: HostRuntime) {
     let trace = moved(alloc, &rt);
     expect_printed(alloc, &rt, trace.as_str(), Sets::Count, "17\n");
     expect_printed(alloc, &rt, trace.as_str(), Sets::Every(17), MOVED_SETS);
-    expect_refused(alloc, &rt, trace.as_str(), Sets::Every(16), "crashfs: more than 16 sets\n");
+    expect_refused(
+        alloc,
+        &rt,
+        trace.as_str(),
+        Sets::Every(16),
+        "crashfs: more than 16 sets\n",
+    );
 }
 
 /// Sets of a session with two texts, of which the plan with holes has only some.
@@ -133,7 +157,13 @@ fn a_header_has_one_set(rt: HostRuntime) {
 fn what_follows_a_text_needs_it(rt: HostRuntime) {
     let alloc = rt.alloc();
     let trace = joined(alloc, &rt, BLOCKS, SAID);
-    expect_printed(alloc, &rt, trace.as_str(), Sets::Every(3), "[]\n[0]\n[0,1]\n");
+    expect_printed(
+        alloc,
+        &rt,
+        trace.as_str(),
+        Sets::Every(3),
+        "[]\n[0]\n[0,1]\n",
+    );
     expect_printed(alloc, &rt, trace.as_str(), Sets::Count, "3\n");
 }
 
@@ -143,14 +173,38 @@ fn sets_of_many_files_are_counted(rt: HostRuntime) {
     let alloc = rt.alloc();
     let twenty = made(alloc, &rt, BLOCKS, 20, false);
     expect_printed(alloc, &rt, twenty.as_str(), Sets::Count, "1048576\n");
-    expect_refused(alloc, &rt, twenty.as_str(), Sets::Every(1048575), "crashfs: more than 1048575 sets\n");
+    expect_refused(
+        alloc,
+        &rt,
+        twenty.as_str(),
+        Sets::Every(1048575),
+        "crashfs: more than 1048575 sets\n",
+    );
     let ordered = made(alloc, &rt, ORDERED, 20, false);
     expect_printed(alloc, &rt, ordered.as_str(), Sets::Count, "21\n");
     let more = made(alloc, &rt, BLOCKS, 64, false);
-    expect_printed(alloc, &rt, more.as_str(), Sets::Count, "more than 18446744073709551615\n");
-    expect_refused(alloc, &rt, more.as_str(), Sets::Sample(1, 1), "crashfs: too many sets to count\n");
+    expect_printed(
+        alloc,
+        &rt,
+        more.as_str(),
+        Sets::Count,
+        "more than 18446744073709551615\n",
+    );
+    expect_refused(
+        alloc,
+        &rt,
+        more.as_str(),
+        Sets::Sample(1, 1),
+        "crashfs: too many sets to count\n",
+    );
     let fewer = made(alloc, &rt, BLOCKS, 63, false);
-    expect_printed(alloc, &rt, fewer.as_str(), Sets::Count, "9223372036854775808\n");
+    expect_printed(
+        alloc,
+        &rt,
+        fewer.as_str(),
+        Sets::Count,
+        "9223372036854775808\n",
+    );
 }
 
 /// A text after a sync of all has one set more.
@@ -158,8 +212,16 @@ fn sets_of_many_files_are_counted(rt: HostRuntime) {
 fn a_text_after_a_sync_adds_one_set(rt: HostRuntime) {
     let alloc = rt.alloc();
     let mut trace = made(alloc, &rt, BLOCKS, 21, true);
-    trace.push_str("{\"op\":\"sync\"}\n{\"op\":\"say\",\"text\":\"1\"}\n").expect(&rt, "memory");
-    expect_printed(alloc, &rt, trace.as_str(), Sets::Count, "9223372036854775809\n");
+    trace
+        .push_str("{\"op\":\"sync\"}\n{\"op\":\"say\",\"text\":\"1\"}\n")
+        .expect(&rt, "memory");
+    expect_printed(
+        alloc,
+        &rt,
+        trace.as_str(),
+        Sets::Count,
+        "9223372036854775809\n",
+    );
 }
 
 /// A sample has as many lines as it was asked for, each a set, and the same for the same seed.
