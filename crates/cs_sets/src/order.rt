@@ -50,7 +50,10 @@ impl Order {
     pub fn of(alloc: Global, rows: Vec<Row>) -> Result<Order, AllocError>
         requires few { length rows.items ≤ MICRO_OPERATIONS }
         requires backward { IsBackward (bit_in rows.items) }
-        ensures { IfOk result (λ order. order ≡ table (bit_in rows.items) (length rows.items)) }
+        ensures value { IfOk result
+            (λ order. order ≡ table (bit_in rows.items) (length rows.items)) }
+        ensures long { IfOk result (λ order. length order ≡ length rows.items) }
+        ensures needs { IfOk result (λ order. needs_in order ≡ bit_in rows.items) }
     {
         let reach = reach_of(alloc, &rows)?;
         let needed = needed_of(alloc, &reach)?;
