@@ -19,7 +19,10 @@ def rows_after(count):
 ran = subprocess.run([store], stdin=subprocess.DEVNULL, stdout=subprocess.PIPE, text=True)
 if ran.returncode != 0:
     sys.exit('refused: the store does not open')
-found = dict(line.split('=') for line in ran.stdout.splitlines())
+lines = ran.stdout.splitlines()
+found = dict(line.split('=') for line in lines)
+if len(lines) > len(found):
+    sys.exit('wrong: a key has two rows')
 if found in (rows_after(acknowledged), rows_after(acknowledged + 1)):
     sys.exit(0)
 if any(key not in found for key in rows_after(acknowledged)):

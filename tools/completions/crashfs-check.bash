@@ -8,12 +8,12 @@ _crashfs_check() {
     done
     case $previous in
         --jobs | --shard | --nested | --state | --time-limit | --resume | --json | --junit | \
-        --html | --timeout | --crashfs | --serve | --uname | --merge) return ;;
+        --html | --timeout | --crashfs | --serve | --uname | --disks | --merge) return ;;
         *)
             [[ $current == -* ]] && words='
                 -h --help --version --jobs --shard --prefixes --quick --lost --files --nested
                 --state --fail-fast --time-limit --resume --json --junit --html --timeout
-                --crashfs --unproved --serve --uname --merge'
+                --crashfs --unproved --serve --uname --disks --merge'
             ;;
     esac
     mapfile -t COMPREPLY < <(compgen -W "$words" -- "$current")

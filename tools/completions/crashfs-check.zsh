@@ -22,5 +22,6 @@ _arguments -S \
     '--unproved[use the second implementation, in Python, even if there is a crashfs]' \
     '--serve[mount each state from the `crashfs serve --again --client linux` that listens at this host and port, with the same trace and plan]:ADDR:_files' \
     '--uname[with --serve]:NAME:_files' \
+    '--disks[make the session again on disk images of these file systems, such as ext4,xfs,btrfs, and report on which of them a crash left a failing state]:LIST:_files' \
     '--merge[try nothing, but report on all shards from their --json files]:FILE:_files' \
     '*:file:_files'

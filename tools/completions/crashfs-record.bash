@@ -7,13 +7,14 @@ _crashfs_record() {
         [[ $word == -- ]] && return
     done
     case $previous in
+        --say-each) words='line write' ;;
         --profile) words='blocks ordered' ;;
         --block) words='512 1024 2048 4096' ;;
         --ignore | --say-fd | --begin-after | --crashfs | --keep-log | --from-log | --log-dir) return ;;
         *)
             [[ $current == -* ]] && words='
-                -h --help --version --mapped --ignore --say-fd --no-say --stacks --begin-after
-                --profile --block --crashfs --keep-log --from-log --log-dir'
+                -h --help --version --mapped --ignore --say-fd --say-each --no-say --stacks
+                --begin-after --profile --block --crashfs --keep-log --from-log --log-dir'
             ;;
     esac
     mapfile -t COMPREPLY < <(compgen -W "$words" -- "$current")

@@ -6,7 +6,8 @@ _arguments -S \
     '--mapped[also record stores through shared mappings]' \
     '--ignore[leave out files that match, by the rules of .gitignore]:GLOB:_files' \
     '--say-fd[take the acknowledged lines from COMMAND’s descriptor N, not from standard output]:N:_files' \
-    '--no-say[do not warn if no line is acknowledged, or all are in one write]' \
+    '--say-each[what acknowledges something]:WHAT:(line write)' \
+    '--no-say[do not warn if no line is acknowledged, if all are in one write, or if one is held for long]' \
     '--stacks[note at each operation which of COMMAND’s functions made it]' \
     '--begin-after[begin the trace after the acknowledged line with this number, or after the first that matches]:LINE:_files' \
     '--profile[which directory operations the file system keeps in order]:PROFILE:(blocks ordered)' \

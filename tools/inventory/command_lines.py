@@ -7,7 +7,8 @@ import re
 from dataclasses import dataclass
 from typing import Dict, List, Optional, Tuple
 
-from crashfs_tools import check_options, record_options
+from crashfs_tools.checker import options as check_options
+from crashfs_tools.recorder import options as record_options
 
 from .sources import TOP
 
@@ -41,7 +42,7 @@ def options_of_tool(command: str) -> List[Option]:
 
 
 def help_of(action: argparse.Action) -> str:
-    """The first sentence of an option's help, without what stands in brackets: that may be of this
+    """The first sentence of an option's help, without what is in brackets, which may be of this
     machine."""
     text = ' '.join((action.help or '').split()) % {**vars(action), 'prog': ''}
     return re.split(r'; |\. |: ', re.sub(r' \([^)]*\)', '', text))[0].rstrip('.')
@@ -68,7 +69,8 @@ def options_in(function: str, functions: Dict[str, str]) -> List[Option]:
     for name, words in re.findall(rf'flag\(alloc, "([\w-]+)", {text}', body):
         found.append(Option((f'--{name}',), text_in(body, words)))
     for name, value, words in re.findall(
-            rf'value_argument\(alloc, "([\w-]+)", "([\w-]+)", {text}', body):
+        rf'value_argument\(alloc, "([\w-]+)", "([\w-]+)", {text}', body
+    ):
         choices = ('plan9', 'linux') if name == 'client' else ()
         found.append(Option((f'--{name}',), text_in(body, words), value, choices))
     for name, words in re.findall(rf'count_argument\(alloc, "([\w-]+)", {text}', body):
@@ -89,5 +91,8 @@ def about(command: str) -> str:
 def commands_of_program() -> Dict[str, List[Option]]:
     """The options of each command of the program."""
     functions = functions_of_program()
-    return {name.replace('_command', ''): options_in(name, functions)
-            for name in functions if name.endswith('_command')}
+    return {
+        name.replace('_command', ''): options_in(name, functions)
+        for name in functions
+        if name.endswith('_command')
+    }

@@ -5,8 +5,7 @@ from __future__ import annotations
 from pathlib import Path
 from typing import Dict, List
 
-from .command_lines import (HELP, TOOLS, VERSION, Option, about, commands_of_program,
-                            options_of_tool)
+from .command_lines import HELP, TOOLS, VERSION, Option, about, commands_of_program, options_of_tool
 from .sources import TOP
 
 FOLDER = TOP / 'tools' / 'completions'
@@ -31,8 +30,7 @@ def wrapped(words: str, indent: str) -> str:
 def bash_values(options: List[Option]) -> str:
     """The cases of a previous word that takes a value: known values are offered."""
     known = [it for it in options if it.choices]
-    cases = [f'        {" | ".join(it.names)}) words=\'{" ".join(it.choices)}\' ;;'
-             for it in known]
+    cases = [f'        {" | ".join(it.names)}) words=\'{" ".join(it.choices)}\' ;;' for it in known]
     taking = ' | '.join(name for it in options if it.value and not it.choices for name in it.names)
     if taking:
         cases.append(wrapped(taking + ')', '        ').replace('\n', ' \\\n') + ' return ;;')
@@ -66,9 +64,11 @@ complete -o default -F _{name} {command}
 def bash_of_program() -> str:
     commands = commands_of_program()
     every = {name: it for options in commands.values() for it in options for name in it.names}
-    cases = '\n'.join(f'                    {name})\n                        words=\'\n'
-                      f'{wrapped(names_of([HELP, *options]), " " * 28)}\' ;;'
-                      for name, options in commands.items())
+    cases = '\n'.join(
+        f'                    {name})\n                        words=\'\n'
+        f'{wrapped(names_of([HELP, *options]), " " * 28)}\' ;;'
+        for name, options in commands.items()
+    )
     first = f'{" ".join(commands)} help {names_of([HELP, VERSION])}'
     return f'''\
 # Completion for bash of crashfs. {MADE}
@@ -105,8 +105,9 @@ def zsh_option(option: Option) -> str:
     about_it = quoted(option.help).replace('[', '(').replace(']', ')').replace(':', '\\:')
     value = ''
     if option.value:
-        value = f':{option.value}:' + (f'({" ".join(option.choices)})' if option.choices
-                                       else '_files')
+        value = f':{option.value}:' + (
+            f'({" ".join(option.choices)})' if option.choices else '_files'
+        )
     if len(option.names) == 1:
         return f"'{option.names[0]}[{about_it}]{value}'"
     names = ' '.join(option.names)
@@ -123,8 +124,10 @@ def zsh_of_program() -> str:
     cases = []
     for name, options in commands.items():
         lines = ' \\\n                '.join(zsh_option(it) for it in [HELP, *options])
-        cases.append(f"        {name})\n            _arguments \\\n                {lines} \\\n"
-                     f"                '1:TRACE:_files' ;;")
+        cases.append(
+            f"        {name})\n            _arguments \\\n                {lines} \\\n"
+            f"                '1:TRACE:_files' ;;"
+        )
     described = '\n'.join(f"        '{name}:{quoted(about(name))}'" for name in commands)
     body = '\n'.join(cases)
     return f'''\
@@ -148,8 +151,9 @@ fi
 
 
 def fish_option(command: str, option: Option, condition: str = '') -> str:
-    names = ' '.join(f'-l {it[2:]}' if it.startswith('--') else f'-s {it[1:]}'
-                     for it in option.names)
+    names = ' '.join(
+        f'-l {it[2:]}' if it.startswith('--') else f'-s {it[1:]}' for it in option.names
+    )
     value = ''
     if option.value:
         value = f" -x -a '{' '.join(option.choices)}'" if option.choices else ' -r'
@@ -162,11 +166,15 @@ def fish_of_tool(command: str) -> str:
 
 
 def fish_of_program() -> str:
-    lines = [f'# {MADE}', fish_option('crashfs', HELP),
-             fish_option('crashfs', VERSION, ' -n __fish_use_subcommand')]
+    lines = [
+        f'# {MADE}',
+        fish_option('crashfs', HELP),
+        fish_option('crashfs', VERSION, ' -n __fish_use_subcommand'),
+    ]
     for name, options in commands_of_program().items():
-        lines.append(f"complete -c crashfs -n __fish_use_subcommand -a {name} "
-                     f"-d '{quoted(about(name))}'")
+        lines.append(
+            f"complete -c crashfs -n __fish_use_subcommand -a {name} " f"-d '{quoted(about(name))}'"
+        )
         condition = f" -n '__fish_seen_subcommand_from {name}'"
         lines += [fish_option('crashfs', it, condition) for it in options]
     return '\n'.join(lines) + '\n'
@@ -174,8 +182,11 @@ def fish_of_program() -> str:
 
 def completions() -> Dict[Path, str]:
     """The nine files."""
-    made = {FOLDER / 'crashfs.bash': bash_of_program(), FOLDER / 'crashfs.zsh': zsh_of_program(),
-            FOLDER / 'crashfs.fish': fish_of_program()}
+    made = {
+        FOLDER / 'crashfs.bash': bash_of_program(),
+        FOLDER / 'crashfs.zsh': zsh_of_program(),
+        FOLDER / 'crashfs.fish': fish_of_program(),
+    }
     for command in TOOLS:
         made[FOLDER / f'{command}.bash'] = bash_of_tool(command)
         made[FOLDER / f'{command}.zsh'] = zsh_of_tool(command)

@@ -1,4 +1,4 @@
-"""The parts of pages that are made from the sources, and where each stands."""
+"""The parts of pages that are made from the sources, and the page of each."""
 
 from __future__ import annotations
 
@@ -6,8 +6,19 @@ import re
 from pathlib import Path
 from typing import Dict, List
 
-from .sources import (TOP, citations, comment_of_file, crate_names, edits_of, examples_in,
-                      files_of, tools_tests, words_of)
+from .sources import (
+    TOP,
+    case_areas,
+    cases_of,
+    citations,
+    comment_of_file,
+    crate_names,
+    edits_of,
+    examples_in,
+    files_of,
+    tools_tests,
+    words_of,
+)
 
 EXAMPLES, INDEX = TOP / 'docs' / 'EXAMPLES.md', TOP / 'docs' / 'INDEX.md'
 BEGIN = '<!-- made by tools/inventories: begin -->'
@@ -40,10 +51,24 @@ def tests_of_tools() -> List[str]:
     return ['', '### tools/tests', '', '| What it shows | File |', '|---|---|', *rows]
 
 
+def tests_as_data() -> List[str]:
+    """The examples that are files: a table for each folder."""
+    lines: List[str] = []
+    for area in case_areas():
+        lines += ['', f'### tools/tests/data/cases/{area}', '', '| Example | File |', '|---|---|']
+        lines += [f'| {cell(it.sentence)} | `{it.name}` |' for it in cases_of(area)]
+    return lines
+
+
 def must_fail_edits() -> List[str]:
     """The table of wrong bodies, a row for each crate that has some."""
-    lines = ['', '## Wrong bodies that the prover refuses', '', '| Crate | Must-fail edits |',
-             '|---|---|']
+    lines = [
+        '',
+        '## Wrong bodies that the prover refuses',
+        '',
+        '| Crate | Must-fail edits |',
+        '|---|---|',
+    ]
     for crate in crate_names():
         edits = edits_of(crate)
         if edits:
@@ -52,9 +77,9 @@ def must_fail_edits() -> List[str]:
 
 
 def examples() -> str:
-    """All tests of the crates and of the tools, and all wrong bodies."""
+    """All tests of the crates, as data and of the tools, and all wrong bodies."""
     crates = [line for crate in crate_names() for line in tests_of(crate)]
-    return '\n'.join(crates + tests_of_tools() + must_fail_edits()).strip()
+    return '\n'.join(crates + tests_as_data() + tests_of_tools() + must_fail_edits()).strip()
 
 
 def calls_shown(calls: List[str]) -> str:
@@ -69,10 +94,18 @@ def index() -> str:
     for crate in crate_names():
         words, calls = words_of(crate), cited.get(crate, {})
         if words:
-            lines += ['', f'## {crate}', '', '| Word | What it says | File | Cited by |',
-                      '|---|---|---|---|']
-            lines += [f'| `{cell(it.name)}` | {cell(it.sentence)} | {it.file} '
-                      f'| {calls_shown(calls.get(it.name, []))} |' for it in words]
+            lines += [
+                '',
+                f'## {crate}',
+                '',
+                '| Word | What it says | File | Cited by |',
+                '|---|---|---|---|',
+            ]
+            lines += [
+                f'| `{cell(it.name)}` | {cell(it.sentence)} | {it.file} '
+                f'| {calls_shown(calls.get(it.name, []))} |'
+                for it in words
+            ]
     return '\n'.join(lines).strip()
 
 
@@ -88,5 +121,4 @@ def page_with(page: str, part: str) -> str:
 def pages() -> Dict[Path, str]:
     """Each page that has a part of this kind, as the sources want it."""
     parts = {EXAMPLES: examples(), INDEX: index()}
-    return {path: page_with(path.read_text(encoding='utf-8'), part)
-            for path, part in parts.items()}
+    return {path: page_with(path.read_text(encoding='utf-8'), part) for path, part in parts.items()}

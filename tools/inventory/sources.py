@@ -1,4 +1,4 @@
-"""The sources of a crate: its tests with their sentences, its words, and the calls that cite them."""
+"""The sources of a crate: its tests with their sentences, its words, and what cites them."""
 
 from __future__ import annotations
 
@@ -11,6 +11,7 @@ from typing import Dict, Iterator, List, Tuple
 TOP = Path(__file__).resolve().parent.parent.parent
 CRATES = TOP / 'crates'
 TOOLS_TESTS = TOP / 'tools' / 'tests'
+CASES = TOOLS_TESTS / 'data' / 'cases'
 
 # inside a module with parameters a word is indented
 WORD = re.compile(r" *(?:abbrev pub|unfoldable pub|opaque pub|pub record|pub data) ([^\s:({]+)")
@@ -53,7 +54,7 @@ def comment_above(lines: List[str], at: int, mark: str) -> str:
     for line in reversed(lines[:at]):
         text = line.strip()
         if text.startswith(mark):
-            found.insert(0, text[len(mark):].strip())
+            found.insert(0, text[len(mark) :].strip())
         elif found or not text.startswith('#['):
             break
     return ' '.join(found)
@@ -77,7 +78,7 @@ def comment_of_file(path: Path) -> str:
     for line in path.read_text(encoding='utf-8').splitlines():
         if not line.startswith('//!'):
             break
-        found.append(line[len('//!'):].strip())
+        found.append(line[len('//!') :].strip())
     return ' '.join(found)
 
 
@@ -88,6 +89,18 @@ def tools_tests() -> List[Example]:
         text = ast.get_docstring(ast.parse(path.read_text(encoding='utf-8'))) or ''
         found.append(Example(path.name, ' '.join(text.split())))
     return found
+
+
+def case_areas() -> List[str]:
+    """The folders of the examples that are files."""
+    return sorted(path.name for path in CASES.iterdir() if path.is_dir())
+
+
+def cases_of(area: str) -> List[Example]:
+    """The examples of a folder, each with the text before its first section."""
+    paths = sorted((CASES / area).glob('*.case'))
+    texts = (path.read_text(encoding='utf-8').partition('\n== ')[0] for path in paths)
+    return [Example(path.stem, ' '.join(text.split())) for path, text in zip(paths, texts)]
 
 
 def edits_of(crate: str) -> List[str]:
@@ -105,8 +118,11 @@ def words_in(path: Path, name: str) -> List[Word]:
 def words_of(crate: str) -> List[Word]:
     """The public words of a crate's `specs/`, by file, in the order in which they stand."""
     folder = CRATES / crate / 'specs'
-    return [word for path in files_of(crate, 'specs', '.antt')
-            for word in words_in(path, str(path.relative_to(folder))[:-len('.antt')])]
+    return [
+        word
+        for path in files_of(crate, 'specs', '.antt')
+        for word in words_in(path, str(path.relative_to(folder))[: -len('.antt')])
+    ]
 
 
 def contracts_in(path: Path) -> Iterator[Tuple[str, str]]:
@@ -120,7 +136,8 @@ def contracts_in(path: Path) -> Iterator[Tuple[str, str]]:
         if head is None or not (head.group(2) or owner):
             continue
         yield f'{owner}::{head.group(3)}' if owner else head.group(3), contract_at(
-            lines, at + 1, head.group(1))
+            lines, at + 1, head.group(1)
+        )
 
 
 def contract_at(lines: List[str], at: int, indent: str) -> str:

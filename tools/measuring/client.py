@@ -62,7 +62,7 @@ class Client:
         return granted
 
     def attach(self, fid: int, name: str) -> None:
-        """Ann comes to the tree of that name."""
+        """Attaches Ann to the tree of that name."""
         self.ask(message(TATTACH, struct.pack('<II', fid, NO_FID) + text('ann') + text(name)))
 
     def open(self, fid: int, newfid: int, name: str) -> None:

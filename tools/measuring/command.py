@@ -1,9 +1,9 @@
 """Prints the rows of all benchmark programs that are built, and whether each is within its bound.
 
 What isn't built is named, and nothing is built here. `serve_bench` and the rows of memory and of
-`crashfs-check`'s states need `crashfs` too, which serves the first two; servers and clients have processors of their own, half of them
-each. For figures that count nothing else is to be at work on the machine. Status 0: no row is past
-its bound, and no program failed.
+`crashfs-check`'s states need `crashfs` too, which serves the first two; servers and clients have
+half of the processors each. For figures that count, nothing else may be at work on the machine.
+Status 0: no row is past its bound, and no program failed.
 """
 
 from __future__ import annotations
@@ -14,6 +14,7 @@ from pathlib import Path
 from typing import Callable, Dict, List, Optional
 
 from .memory import memory_rows
+
 from .programs import Programs, Tally
 from .serving import serving_rows
 from .states import states_rows
@@ -29,12 +30,15 @@ NEEDED = {'serve_bench': ['serve_bench', 'crashfs'], 'memory': ['crashfs'], 'sta
 
 
 def words_of(given: Optional[List[str]]) -> argparse.Namespace:
-    words = argparse.ArgumentParser(prog='measure', description=__doc__,
-                                    formatter_class=argparse.RawDescriptionHelpFormatter)
-    words.add_argument('--top', type=Path, default=TOP, metavar='DIR',
-                       help='the repository (this one)')
-    words.add_argument('names', nargs='*', metavar='NAME',
-                       help='a benchmark program, `memory` or `states` (all)')
+    words = argparse.ArgumentParser(
+        prog='measure', description=__doc__, formatter_class=argparse.RawDescriptionHelpFormatter
+    )
+    words.add_argument(
+        '--top', type=Path, default=TOP, metavar='DIR', help='the repository (this one)'
+    )
+    words.add_argument(
+        'names', nargs='*', metavar='NAME', help='a benchmark program, `memory` or `states` (all)'
+    )
     return words.parse_args(given)
 
 

@@ -33,7 +33,7 @@ def idle(address: str, connections: int) -> Filled:
 
 
 def crowd(address: str, runs: int, connections: int) -> Filled:
-    """Runs of one state, each of which one user came to, by so many connections."""
+    """Runs of one state, each with one user attached, over so many connections."""
     clients = [Client(address) for _ in range(connections)]
     for run in range(runs):
         clients[run % connections].attach(run // connections, f'0/r{run}')

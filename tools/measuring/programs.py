@@ -83,7 +83,7 @@ class Tally:
             self.fail(f'status {status}')
 
     def end(self) -> int:
-        """Prints what all came to, and gives the command's status."""
+        """Prints which rows are past and what isn't built, and returns the command's status."""
         for row in self.past:
             print(f'past: {row}')
         lacking = f'; not built: {", ".join(self.lacking)}' if self.lacking else ''
@@ -94,9 +94,11 @@ class Tally:
 
 def started(words: List[str], cpus: Optional[Sequence[int]] = None) -> subprocess.Popen[str]:
     """The program, on these processors alone if any are named."""
+
     def place() -> None:
         if cpus:
             os.sched_setaffinity(0, cpus)
 
-    return subprocess.Popen(words, stdin=subprocess.DEVNULL, stdout=subprocess.PIPE, text=True,
-                            preexec_fn=place)
+    return subprocess.Popen(
+        words, stdin=subprocess.DEVNULL, stdout=subprocess.PIPE, text=True, preexec_fn=place
+    )

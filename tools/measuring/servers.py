@@ -35,7 +35,7 @@ _HOSTS = itertools.cycle(range(1, 255))
 
 @contextmanager
 def listening(words: List[str]) -> Iterator[subprocess.Popen[str]]:
-    """The server, once it has told that it listens. It is ended behind the block."""
+    """The server, once it has printed that it listens. It is ended after the block."""
     server = started(words, halves()[0])
     assert server.stdout is not None
     try:
@@ -52,13 +52,25 @@ def listening(words: List[str]) -> Iterator[subprocess.Popen[str]]:
 def crashfs(programs: Programs, address: str, connections: int) -> List[str]:
     """The command line that serves the one state of a small trace."""
     examples: Path = programs.top / 'examples'
-    return [str(programs.built('crashfs')), 'serve', '--users', str(examples / 'users'),
-            '--trace', str(examples / 'start.trace'), '--listen', address, '--workers', '1',
-            '--connections', str(connections), '--ready']
+    return [
+        str(programs.built('crashfs')),
+        'serve',
+        '--users',
+        str(examples / 'users'),
+        '--trace',
+        str(examples / 'start.trace'),
+        '--listen',
+        address,
+        '--workers',
+        '1',
+        '--connections',
+        str(connections),
+        '--ready',
+    ]
 
 
 def resident(server: subprocess.Popen[str]) -> int:
-    """The bytes that the server has in memory, as proc(5) tells them."""
+    """The bytes that the server has in memory, as in proc(5)."""
     for line in Path(f'/proc/{server.pid}/status').read_text().splitlines():
         if line.startswith('VmRSS:'):
             return int(line.split()[1]) * 1024

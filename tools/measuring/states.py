@@ -38,8 +38,9 @@ class Ran(NamedTuple):
 def ran(words: List[str], tried: int = 0, environment: Optional[Dict[str, str]] = None) -> Ran:
     """Runs a command, which prints how many states it tried, unless that is known."""
     began = time.monotonic()
-    with subprocess.Popen(words, stdout=subprocess.PIPE, stdin=subprocess.DEVNULL, text=True,
-                          env=environment) as child:
+    with subprocess.Popen(
+        words, stdout=subprocess.PIPE, stdin=subprocess.DEVNULL, text=True, env=environment
+    ) as child:
         assert child.stdout is not None
         printed = child.stdout.read()
         _, status, used = os.wait4(child.pid, 0)
@@ -62,14 +63,27 @@ class Checks:
         self.run('--prefixes')
 
     def run(self, *options: str) -> Ran:
-        return ran([sys.executable, '-S', str(CHECK), '--crashfs', self.program, *options,
-                    str(TRACE), '--', '/bin/true'], environment=self.environment)
+        return ran(
+            [
+                sys.executable,
+                '-S',
+                str(CHECK),
+                '--crashfs',
+                self.program,
+                *options,
+                str(TRACE),
+                '--',
+                '/bin/true',
+            ],
+            environment=self.environment,
+        )
 
     def least(self, *options: str) -> Ran:
         """The least figures of a few runs."""
         found = [self.run(*options) for _ in range(RUNS)]
-        return found[0]._replace(processor=min(one.processor for one in found),
-                                 wall=min(one.wall for one in found))
+        return found[0]._replace(
+            processor=min(one.processor for one in found), wall=min(one.wall for one in found)
+        )
 
 
 def least(folder: str, count: int) -> Ran:
@@ -95,11 +109,15 @@ def states_rows(programs: Programs, tally: Tally) -> None:
     each = (whole.processor - few.processor) / (whole.tried - few.tried)
     lowest = low.processor / low.tried
     for jobs, check in ((len(os.sched_getaffinity(0)), whole), (1, one)):
-        tally.line(f'{check.states} states, {check.tried} of them tried, by {jobs} jobs: '
-                   f'{check.wall:.3f} s, {check.states / check.wall:.0f} states and '
-                   f'{check.tried / check.wall:.0f} trials a second')
+        tally.line(
+            f'{check.states} states, {check.tried} of them tried, by {jobs} jobs: '
+            f'{check.wall:.3f} s, {check.states / check.wall:.0f} states and '
+            f'{check.tried / check.wall:.0f} trials a second'
+        )
     tally.line(f'the C program by one: {low.tried / low.wall:.0f} a second')
-    tally.line(f'processor time of a state: {each * 1e3:.3f} ms; of the C program '
-               f'{lowest * 1e3:.3f} ms')
+    tally.line(
+        f'processor time of a state: {each * 1e3:.3f} ms; of the C program '
+        f'{lowest * 1e3:.3f} ms'
+    )
     tally.figure('a state beside the C program', each / lowest, 'times', MOST)
     tally.figure('a state by all jobs', whole.wall / whole.states * 1e3, 'ms', MOST_MILLISECONDS)

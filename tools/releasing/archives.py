@@ -51,7 +51,7 @@ crashfs: unusual-interpreter -S [usr/lib/crashfs/crashfs_tools/reading/__main__.
 # Python's compiled files are made with the package, and go with it (Debian's Python policy 2.6).
 SCRIPTS = {
     'postinst': '#!/bin/sh\nset -e\nif [ "$1" = configure ]; then\n'
-                '    py3compile -p crashfs /usr/lib/crashfs\nfi\n',
+    '    py3compile -p crashfs /usr/lib/crashfs\nfi\n',
     'prerm': '#!/bin/sh\nset -e\npy3clean -p crashfs\n',
 }
 
@@ -88,7 +88,7 @@ def write_tarball(path: Path, items: Items, seconds: int) -> None:
     """Writes a tar.gz in which all is below a folder of the archive's own name."""
     plain = io.BytesIO()
     with tarfile.open(fileobj=plain, mode='w', format=tarfile.GNU_FORMAT) as archive:
-        add_all(archive, path.name[:-len('.tar.gz')], items, seconds)
+        add_all(archive, path.name[: -len('.tar.gz')], items, seconds)
     path.write_bytes(gzip.compress(plain.getvalue(), 9, mtime=seconds))
 
 
@@ -109,10 +109,12 @@ def control_of(version: str, items: Items) -> str:
     """The package's control file; the installed size is in units of 1,024 bytes, each file's
     rounded up (Debian policy 5.6.20)."""
     size = sum((len(item.content) + 1023) // 1024 for item in items.values())
-    return (f'Package: crashfs\nVersion: {version}\nArchitecture: amd64\nSection: devel\n'
-            f'Priority: optional\nMaintainer: {MAINTAINER}\nInstalled-Size: {size}\n'
-            f'Depends: python3 (>= 3.9)\nRecommends: strace (>= 5.18)\n'
-            f'Description: {SUMMARY}\n{DESCRIPTION}')
+    return (
+        f'Package: crashfs\nVersion: {version}\nArchitecture: amd64\nSection: devel\n'
+        f'Priority: optional\nMaintainer: {MAINTAINER}\nInstalled-Size: {size}\n'
+        f'Depends: python3 (>= 3.9)\nRecommends: strace (>= 5.18)\n'
+        f'Description: {SUMMARY}\n{DESCRIPTION}'
+    )
 
 
 def write_package(path: Path, version: str, items: Items, seconds: int) -> None:
@@ -132,24 +134,34 @@ def write_package(path: Path, version: str, items: Items, seconds: int) -> None:
             folder.chmod(0o755)
         # What xz writes depends on whether it has threads.
         environment = {**os.environ, 'SOURCE_DATE_EPOCH': str(seconds), 'DPKG_DEB_THREADS_MAX': '1'}
-        subprocess.run(['dpkg-deb', '--root-owner-group', '-Zxz', '--build', str(root), str(path)],
-                       check=True, env=environment, stdout=subprocess.DEVNULL)
+        subprocess.run(
+            ['dpkg-deb', '--root-owner-group', '-Zxz', '--build', str(root), str(path)],
+            check=True,
+            env=environment,
+            stdout=subprocess.DEVNULL,
+        )
 
 
 def checksums_below(root: Path) -> str:
     """The package's md5sums file."""
     files = sorted(it for it in root.rglob('*') if it.is_file() and not it.is_symlink())
-    lines = (f'{hashlib.md5(it.read_bytes()).hexdigest()}  {it.relative_to(root)}\n'
-             for it in files)
+    lines = (
+        f'{hashlib.md5(it.read_bytes()).hexdigest()}  {it.relative_to(root)}\n' for it in files
+    )
     return ''.join(lines)
 
 
 def for_debian(items: Items, version: str, seconds: int) -> Items:
     """The same files, the two that Debian's policy wants (12.5, 12.7), and lintian's overrides."""
     year = datetime.fromtimestamp(seconds, timezone.utc).year
-    changelog = (f'crashfs ({version}) unstable; urgency=medium\n\n'
-                 f'  * See CHANGELOG.md.\n\n'
-                 f' -- {MAINTAINER}  {formatdate(seconds)}\n')
-    return {**items, f'{DOCUMENTS}/copyright': Item(COPYRIGHT.format(year=year).encode()),
-            f'{DOCUMENTS}/changelog.gz': Item(gzip.compress(changelog.encode(), 9, mtime=0)),
-            'share/lintian/overrides/crashfs': Item(OVERRIDES.encode())}
+    changelog = (
+        f'crashfs ({version}) unstable; urgency=medium\n\n'
+        f'  * See CHANGELOG.md.\n\n'
+        f' -- {MAINTAINER}  {formatdate(seconds)}\n'
+    )
+    return {
+        **items,
+        f'{DOCUMENTS}/copyright': Item(COPYRIGHT.format(year=year).encode()),
+        f'{DOCUMENTS}/changelog.gz': Item(gzip.compress(changelog.encode(), 9, mtime=0)),
+        'share/lintian/overrides/crashfs': Item(OVERRIDES.encode()),
+    }

@@ -1,4 +1,4 @@
-"""What a release holds, and where it goes under the folder that it is unpacked to or installed in."""
+"""What a release has, and where each file goes in the folder that it is unpacked to."""
 
 from __future__ import annotations
 
@@ -33,8 +33,9 @@ Items = Dict[str, Item]
 
 def tracked(folder: str) -> List[str]:
     """The files below a folder that git knows."""
-    said = subprocess.run(['git', 'ls-files', '-z', '--', folder], cwd=TOP, stdout=subprocess.PIPE,
-                          check=True)
+    said = subprocess.run(
+        ['git', 'ls-files', '-z', '--', folder], cwd=TOP, stdout=subprocess.PIPE, check=True
+    )
     return sorted(name for name in said.stdout.decode().split('\0') if name)
 
 
@@ -44,9 +45,11 @@ def file_of(path: str) -> Item:
 
 
 def tools() -> Items:
-    """The two commands with their package; a link in bin/ stands for each."""
-    items = {f'{LIBRARY}/{path[len("tools/"):]}': file_of(path)
-             for path in tracked('tools/crashfs_tools')}
+    """The two commands with their package; bin/ has a link to each."""
+    items = {
+        f'{LIBRARY}/{path[len("tools/"):]}': file_of(path)
+        for path in tracked('tools/crashfs_tools')
+    }
     for command in COMMANDS:
         items[f'{LIBRARY}/{command}'] = file_of(f'tools/{command}')
         items[f'bin/{command}'] = Item(target=f'../{LIBRARY}/{command}')
@@ -54,8 +57,8 @@ def tools() -> Items:
 
 
 def documents() -> Items:
-    """The pages and the examples, in the same folders as here, so that links between them work."""
-    paths = [*TOP_PAGES, *tracked('docs/*.md'), *tracked('examples')]
+    """Pages, pictures and examples, in the same folders as here, so that links to them work."""
+    paths = [*TOP_PAGES, *tracked('docs/*.md'), *tracked('docs/images'), *tracked('examples')]
     return {f'{DOCUMENTS}/{path}': file_of(path) for path in paths}
 
 
@@ -71,9 +74,11 @@ def manuals() -> Items:
 
 def completions() -> Items:
     """Completions of the three commands for bash, zsh and fish, where each shell looks for them."""
-    places = {'bash': 'share/bash-completion/completions/{0}',
-              'zsh': 'share/zsh/vendor-completions/_{0}',
-              'fish': 'share/fish/vendor_completions.d/{0}.fish'}
+    places = {
+        'bash': 'share/bash-completion/completions/{0}',
+        'zsh': 'share/zsh/vendor-completions/_{0}',
+        'fish': 'share/fish/vendor_completions.d/{0}.fish',
+    }
     items: Items = {}
     for path in tracked('tools/completions'):
         command, _, shell = Path(path).name.rpartition('.')
@@ -82,7 +87,7 @@ def completions() -> Items:
 
 
 def items_with(program: bytes, built: bytes) -> Items:
-    """All files of a release, by their path: with the program, and the module that names a build."""
+    """All files of a release by path, with the program and the module that names a build."""
     items = {**tools(), **documents(), **manuals(), **completions()}
     items['bin/crashfs'] = Item(program, is_program=True)
     items[f'{LIBRARY}/crashfs_tools/built.py'] = Item(built)

@@ -33,7 +33,9 @@ def kit_version() -> str:
 
 def linker_version() -> str:
     """The linker's name and version; its own library is linked too."""
-    said = subprocess.run(['gcc', '-dumpfullversion'], stdout=subprocess.PIPE, text=True, check=True)
+    said = subprocess.run(
+        ['gcc', '-dumpfullversion'], stdout=subprocess.PIPE, text=True, check=True
+    )
     return f'gcc {said.stdout.strip()}'
 
 
@@ -45,8 +47,12 @@ def link_statically(made: Path, program: Path) -> None:
     kit = kit_folder()
     libraries = [str(kit / 'c' / name) for name in ('libos_c.a', 'liblibc_c.a')]
     words = ['gcc', '-static', '-s', '-Wl,--build-id=none', '-o', str(program), str(made)]
-    ran = subprocess.run([*words, *libraries, '-lm', '-lpthread'], stdout=subprocess.PIPE,
-                         stderr=subprocess.STDOUT, text=True)
+    ran = subprocess.run(
+        [*words, *libraries, '-lm', '-lpthread'],
+        stdout=subprocess.PIPE,
+        stderr=subprocess.STDOUT,
+        text=True,
+    )
     if ran.returncode:
         raise LinkFault(f'gcc: status {ran.returncode}\n{ran.stdout}')
     for line in ran.stdout.splitlines():

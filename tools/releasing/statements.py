@@ -4,7 +4,6 @@ from __future__ import annotations
 
 import hashlib
 import json
-import re
 from dataclasses import dataclass
 from datetime import datetime, timezone
 from pathlib import Path
@@ -13,7 +12,6 @@ from typing import Dict, List, Set
 NOT_RUN = 'the gate was not run'
 BUILT = 'as tools/build left it, which builds only what is proved'
 GIVEN = 'given by --objects; nothing here says that it was proved'
-LAST_LINE = re.compile(r'\d+ passed, \d+ failed\b.*')
 
 
 @dataclass(frozen=True)
@@ -35,14 +33,6 @@ class Made:
         return moment.strftime('%Y-%m-%dT%H:%M:%SZ')
 
 
-def last_line_of_gate(said: str) -> str:
-    """The last line of what `.ci/run` printed that counts what passed."""
-    lines = [line.strip() for line in said.splitlines() if LAST_LINE.fullmatch(line.strip())]
-    if not lines:
-        raise ValueError('no line "N passed, M failed" in what the gate printed')
-    return lines[-1]
-
-
 def sha256_of(path: Path) -> str:
     return hashlib.sha256(path.read_bytes()).hexdigest()
 
@@ -54,17 +44,20 @@ def checksums(paths: List[Path]) -> str:
 
 def built_module(made: Made) -> str:
     """The module of the tools from which `--version` takes the commit and the kit."""
-    return ('"""Of what this release was made."""\n\n'
-            f'COMMIT = {made.commit!r}\nKIT = {made.kit!r}\n')
+    return (
+        '"""Of what this release was made."""\n\n' f'COMMIT = {made.commit!r}\nKIT = {made.kit!r}\n'
+    )
 
 
 def attestation(made: Made, objects: bytes, program: bytes) -> str:
     """What was proved, by what, and what the gate said; a name and its value a line."""
-    return (f'version: {made.version}\ncommit: {made.commit}\nkit: {made.kit}\n'
-            f'gate: {made.gate}\n'
-            f'object: {made.objects}\nobject-sha256: {hashlib.sha256(objects).hexdigest()}\n'
-            f'linked: statically, outside the kit, by {made.linker} with {made.c_library}\n'
-            f'program-sha256: {hashlib.sha256(program).hexdigest()}\n')
+    return (
+        f'version: {made.version}\ncommit: {made.commit}\nkit: {made.kit}\n'
+        f'gate: {made.gate}\n'
+        f'object: {made.objects}\nobject-sha256: {hashlib.sha256(objects).hexdigest()}\n'
+        f'linked: statically, outside the kit, by {made.linker} with {made.c_library}\n'
+        f'program-sha256: {hashlib.sha256(program).hexdigest()}\n'
+    )
 
 
 def dependencies(crates: str) -> Dict[str, List[str]]:
@@ -78,7 +71,7 @@ def dependencies(crates: str) -> Dict[str, List[str]]:
 
 
 def linked_by(program: str, crates: str) -> Set[str]:
-    """The crates that the program stands on, the kit's among them."""
+    """The crates that the program uses, directly or not, with those of the kit."""
     below, found, left = dependencies(crates), set(), [program]
     while left:
         for name in below.get(left.pop(), []):
@@ -90,10 +83,16 @@ def linked_by(program: str, crates: str) -> Set[str]:
 
 def package_of(name: str, version: str) -> Dict[str, object]:
     """An SPDX package without a file; no licence is asserted for it."""
-    return {'SPDXID': f'SPDXRef-{name.replace("_", "-")}', 'name': name, 'versionInfo': version,
-            'downloadLocation': 'NOASSERTION', 'filesAnalyzed': False,
-            'licenseConcluded': 'NOASSERTION', 'licenseDeclared': 'NOASSERTION',
-            'copyrightText': 'NOASSERTION'}
+    return {
+        'SPDXID': f'SPDXRef-{name.replace("_", "-")}',
+        'name': name,
+        'versionInfo': version,
+        'downloadLocation': 'NOASSERTION',
+        'filesAnalyzed': False,
+        'licenseConcluded': 'NOASSERTION',
+        'licenseDeclared': 'NOASSERTION',
+        'copyrightText': 'NOASSERTION',
+    }
 
 
 def relation(one: object, kind: str, other: object) -> Dict[str, object]:
@@ -112,9 +111,14 @@ def spdx(made: Made, crates: str) -> str:
         packages.append(package_of('libgcc' if name == 'gcc' else name, version))
     relations = [relation('SPDXRef-DOCUMENT', 'DESCRIBES', 'SPDXRef-crashfs')]
     relations += [relation('SPDXRef-crashfs', 'STATIC_LINK', it['SPDXID']) for it in packages[1:]]
-    document = {'spdxVersion': 'SPDX-2.3', 'dataLicense': 'CC0-1.0', 'SPDXID': 'SPDXRef-DOCUMENT',
-                'name': f'crashfs-{made.version}',
-                'documentNamespace': f'urn:crashfs:{made.version}:{made.commit}',
-                'creationInfo': {'created': made.time, 'creators': ['Tool: tools/release']},
-                'packages': packages, 'relationships': relations}
+    document = {
+        'spdxVersion': 'SPDX-2.3',
+        'dataLicense': 'CC0-1.0',
+        'SPDXID': 'SPDXRef-DOCUMENT',
+        'name': f'crashfs-{made.version}',
+        'documentNamespace': f'urn:crashfs:{made.version}:{made.commit}',
+        'creationInfo': {'created': made.time, 'creators': ['Tool: tools/release']},
+        'packages': packages,
+        'relationships': relations,
+    }
     return json.dumps(document, indent=1) + '\n'

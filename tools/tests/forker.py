@@ -13,7 +13,8 @@ import sys
 import traceback
 from typing import Any, Callable, Dict, Optional
 
-from crashfs_tools import check, record
+from crashfs_tools.checker import main as check
+from crashfs_tools.recorder import main as record
 
 MAINS: Dict[str, Callable[..., int]] = {'crashfs-check': check.main, 'crashfs-record': record.main}
 

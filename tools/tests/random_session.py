@@ -93,9 +93,25 @@ class Session:
         os.wait()
 
     def run(self, steps):
-        todo = [self.mkdir, self.rmdir, self.open, self.open, self.close, self.write, self.write,
-                self.write_at, self.cut, self.rename, self.unlink, self.rename_by_link,
-                self.duplicate, self.seek, self.sync, self.copy, self.child]
+        todo = [
+            self.mkdir,
+            self.rmdir,
+            self.open,
+            self.open,
+            self.close,
+            self.write,
+            self.write,
+            self.write_at,
+            self.cut,
+            self.rename,
+            self.unlink,
+            self.rename_by_link,
+            self.duplicate,
+            self.seek,
+            self.sync,
+            self.copy,
+            self.child,
+        ]
         for step in range(steps):
             self.random.choice(todo)()
             if step % 20 == 0:

@@ -15,8 +15,24 @@ from crashfs_tools.reading import ReadingFault, read
 PATHS = ['/a', '/b', '/c', '/d', '/d/a', '/d/b', '/e', '/e/x', '/é "\\']
 RIGHTS = [('ann', 'staff', '644'), ('bob', 'staff', '600'), ('cat', 'ann', '755')]
 WORDS = {
-    1: ['creat', 'creat', 'mkdir', 'unlink', 'rmdir', 'rename', 'rename', 'write', 'write', 'write',
-        'truncate', 'fsync', 'fsync', 'sync', 'say', 'say'],
+    1: [
+        'creat',
+        'creat',
+        'mkdir',
+        'unlink',
+        'rmdir',
+        'rename',
+        'rename',
+        'write',
+        'write',
+        'write',
+        'truncate',
+        'fsync',
+        'fsync',
+        'sync',
+        'say',
+        'say',
+    ],
     2: ['chmod', 'chown'],
     3: ['link', 'link', 'link', 'fsync_range', 'fsync_range', 'fsync_range'],
 }
@@ -97,7 +113,7 @@ class RandomTrace:
         if word == 'write':
             fields.update(self.data())
         elif word in ('truncate', 'fsync_range'):
-            fields['length'] = self.pick(0, 1, self.place(), 2 ** 64 - 1 if 'range' in word else 7)
+            fields['length'] = self.pick(0, 1, self.place(), 2**64 - 1 if 'range' in word else 7)
         elif word == 'say':
             fields['text'] = self.pick('stored', '')
         if self.version > 2 and self.random.random() < 0.2:

@@ -50,7 +50,7 @@ class Steps:
 
     def __init__(self, test: unittest.TestCase) -> None:
         self.steps: List[Step] = []
-        test.run(self)  # type: ignore[arg-type]
+        test.run(self)  # type: ignore[arg-type]  # it has what a result has
 
     def __getattr__(self, name: str) -> Callable[..., None]:
         if not name.startswith(('add', 'start', 'stop')):
@@ -73,7 +73,6 @@ def sendable(word: Any) -> Any:
 
 
 class SeveralAtOnce(unittest.TestSuite):
-
     def run(self, result: unittest.TestResult, debug: bool = False) -> unittest.TestResult:
         tests = list(tests_of(self))
         came: Dict[int, List[Step]] = {}
@@ -95,8 +94,11 @@ def tell(result: unittest.TestResult, steps: Sequence[Step]) -> None:
 
 def ended(test: unittest.TestCase) -> List[Step]:
     named, trouble = Named(test), Broken('the process of the test ended')
-    return [('startTest', (named,)), ('addError', (named, (Broken, trouble, None))),
-            ('stopTest', (named,))]
+    return [
+        ('startTest', (named,)),
+        ('addError', (named, (Broken, trouble, None))),
+        ('stopTest', (named,)),
+    ]
 
 
 def outcomes(tests: Sequence[unittest.TestCase]) -> Iterator[Tuple[int, List[Step]]]:
@@ -113,9 +115,9 @@ def outcomes(tests: Sequence[unittest.TestCase]) -> Iterator[Tuple[int, List[Ste
         telling.close()
     os.close(numbers)
     while processes:
-        for end in connection.wait(processes):  # type: ignore[arg-type]
+        for end in connection.wait(processes):  # type: ignore[arg-type]  # pipes, by any name
             try:
-                yield end.recv()  # type: ignore[union-attr]
+                yield end.recv()  # type: ignore[union-attr]  # pipes only
             except EOFError:
                 processes.pop(end).join()
 

@@ -17,11 +17,14 @@ from functools import lru_cache
 from pathlib import Path
 from typing import Any, Callable, Dict, List, Optional, Sequence
 
-from crashfs_tools.directory import Scan
-from crashfs_tools.session import Beginning, Session
-from crashfs_tools.strace_log import Call, read_log
-from crashfs_tools.trace import WRITTEN_VERSION, Creat, Header, Mkdir, Start
-from crashfs_tools.translate import Translator
+from crashfs_tools.common.trace import WRITTEN_VERSION, Creat, Header, Mkdir, Start
+from crashfs_tools.recorder.directory import Scan
+from crashfs_tools.recorder.log_filter import LogFilter
+from crashfs_tools.recorder.mapped_files import FileCopies
+from crashfs_tools.recorder.live_files import LiveFiles, StartConditions
+from crashfs_tools.recorder.recording import Recording, TraceSettings
+from crashfs_tools.recorder.strace_log import Call, read_log
+from crashfs_tools.recorder.translate import Translator
 
 TOOLS = Path(__file__).resolve().parents[1]
 EXAMPLES = TOOLS.parent / 'examples'
@@ -31,8 +34,9 @@ PYTHON_FOLDER = os.path.dirname(sys.executable)
 # How long a test, or a check of one, waits for what has to come: so long only where a machine is
 # overloaded.
 PATIENCE = 600
-PROGRESS = re.compile(r'crashfs-check: (?:micro-operations [\d,]+ to [\d,]+: )?'
-                      r'[\d,]+ of [\d,]+ tried, .* left\n')
+PROGRESS = re.compile(
+    r'crashfs-check: (?:micro-operations [\d,]+ to [\d,]+: )?' r'[\d,]+ of [\d,]+ tried, .* left\n'
+)
 QUOTED = re.compile(r'"([^"]*)"|<(/[^>]*|\w+:\[\d+\])>')
 
 
@@ -42,25 +46,39 @@ def numbers(text: str) -> str:
 
 def as_strace(line: str) -> str:
     """A line with its texts as -xx prints them."""
-    return QUOTED.sub(lambda match: f'"{numbers(match[1])}"' if match[2] is None
-                      else f'<{numbers(match[2])}>', line)
+    return QUOTED.sub(
+        lambda match: f'"{numbers(match[1])}"' if match[2] is None else f'<{numbers(match[2])}>',
+        line,
+    )
 
 
-def session_of(lines: List[str], start: Optional[List[Start]] = None, ignored=None,
-               note: Optional[Callable[[Call], str]] = None) -> Session:
-    """The session that a log gives, for the directory /d with the umask 022 and the user u."""
+def recording_of(
+    lines: List[str],
+    start: Optional[List[Start]] = None,
+    ignored=None,
+    note: Optional[Callable[[Call], str]] = None,
+    acknowledged: Sequence[str] = ('1',),
+    copies: Optional[FileCopies] = None,
+    output: Optional[str] = None,
+) -> Recording:
+    """What a log becomes, for the directory /d with the umask 022 and the user u."""
     scan = Scan(Header('u', 'u', 0o755), list(start or []))
-    session = Session(Beginning('/d', 0o022, 'u', 'u'), scan, ignored or (lambda path: False))
-    log = read_log(map(as_strace, lines))
+    recording = Recording(scan.header, TraceSettings(acknowledged))
+    recording.streams.set_standard_output(output)
+    conditions = StartConditions('/d', 0o022, 'u', 'u')
+    files = LiveFiles(recording, conditions, scan, ignored or (lambda path: False))
+    numbers = [int(number) for number in acknowledged if number.isdigit()]
+    needed = LogFilter(b'/d', numbers) if copies is None else None
+    log = read_log(map(as_strace, lines), needed)
     for call in log.calls if note else []:
         call.note = note(call)
-    Translator(session, log).run()
-    return session
+    Translator(files, log, copies).run()
+    return recording
 
 
 def operations_of(lines: List[str], start: Optional[List[Start]] = None) -> List[str]:
     """The operations of a log as short texts: `creat /a`, `write /a 0 hi`, `chmod /a 600`."""
-    return [short(operation) for operation in session_of(lines, start).trace.operations]
+    return [short(operation) for operation in recording_of(lines, start).trace.operations]
 
 
 def short(operation) -> str:
@@ -98,9 +116,15 @@ class InFolder(unittest.TestCase):
         with open(self.path(name), encoding='utf-8') as file:
             return file.read()
 
-    def start(self, command: str, *words: str, path: Optional[str] = None,
-              file_bytes: Optional[int] = None, output: Any = subprocess.PIPE,
-              ignored: str = '') -> subprocess.Popen:
+    def start(
+        self,
+        command: str,
+        *words: str,
+        path: Optional[str] = None,
+        file_bytes: Optional[int] = None,
+        output: Any = subprocess.PIPE,
+        ignored: str = '',
+    ) -> subprocess.Popen:
         """Starts one of the two commands, with the test's folder for what it lays down; with
         file_bytes no file may become larger, as on a disk that is full; a signal may be ignored."""
         # The standard library is all that is needed, and starts faster without `site`.
@@ -111,33 +135,55 @@ class InFolder(unittest.TestCase):
             line = ['sh', '-c', f'trap "" {ignored}; exec "$@"', 'sh', *line]
         else:  # The tests may themselves run under `nohup`.
             line = ['env', '--default-signal=HUP', *line]
-        return subprocess.Popen(line, cwd=self.folder, stdout=output,
-                                stderr=subprocess.PIPE, text=True, stdin=subprocess.DEVNULL,
-                                env={**os.environ, **self.environment(path)})
+        return subprocess.Popen(
+            line,
+            cwd=self.folder,
+            stdout=output,
+            stderr=subprocess.PIPE,
+            text=True,
+            stdin=subprocess.DEVNULL,
+            env={**os.environ, **self.environment(path)},
+        )
 
     def environment(self, path: Optional[str]) -> Dict[str, str]:
-        return {'TMPDIR': self.temporary, 'LC_ALL': 'C',
-                'PATH': path or f"{PYTHON_FOLDER}:{os.environ['PATH']}"}
+        return {
+            'TMPDIR': self.temporary,
+            'LC_ALL': 'C',
+            'PATH': path or f"{PYTHON_FOLDER}:{os.environ['PATH']}",
+        }
 
-    def run_tool(self, command: str, *words: str, path: Optional[str] = None,
-                 file_bytes: Optional[int] = None,
-                 output: Optional[str] = None) -> subprocess.CompletedProcess:
+    def run_tool(
+        self,
+        command: str,
+        *words: str,
+        path: Optional[str] = None,
+        file_bytes: Optional[int] = None,
+        output: Optional[str] = None,
+    ) -> subprocess.CompletedProcess:
         if file_bytes is None and output is None:
             return forked(command, words, self.folder, self.environment(path))
         with open(output or os.devnull, 'w', encoding='utf-8') as file:
-            child = self.start(command, *words, path=path, file_bytes=file_bytes,
-                               output=file if output else subprocess.PIPE)
+            child = self.start(
+                command,
+                *words,
+                path=path,
+                file_bytes=file_bytes,
+                output=file if output else subprocess.PIPE,
+            )
         out, err = child.communicate(timeout=PATIENCE)
         return subprocess.CompletedProcess(words, child.returncode, out, PROGRESS.sub('', err))
 
-    def wait_until(self, holds: Callable[[], bool], what: str,
-                   child: Optional[subprocess.Popen] = None) -> None:
+    def wait_until(
+        self, holds: Callable[[], bool], what: str, child: Optional[subprocess.Popen] = None
+    ) -> None:
         """Waits, but not for what a process was to do that has ended."""
         deadline = time.monotonic() + PATIENCE
         while not holds():
             if child is not None and child.poll() is not None and not holds():
-                self.fail(f'ended with status {child.returncode}, and not: {what}: '
-                          f'{child.communicate()[1]}')
+                self.fail(
+                    f'ended with status {child.returncode}, and not: {what}: '
+                    f'{child.communicate()[1]}'
+                )
             self.assertLess(time.monotonic(), deadline, f'in {PATIENCE} seconds not: {what}')
             time.sleep(0.02)
 
@@ -152,11 +198,17 @@ def patient(command: str, words: Sequence[str]) -> Sequence[str]:
     return ['--timeout', str(PATIENCE), *words]
 
 
-def forked(command: str, words: Sequence[str], folder: str,
-           environment: Dict[str, str]) -> subprocess.CompletedProcess:
+def forked(
+    command: str, words: Sequence[str], folder: str, environment: Dict[str, str]
+) -> subprocess.CompletedProcess:
     """Runs one of the two commands to its end, by a forker that each process of tests has."""
-    asked = {'command': command, 'words': patient(command, words), 'folder': folder,
-             'environment': environment, 'seconds': PATIENCE}
+    asked = {
+        'command': command,
+        'words': patient(command, words),
+        'folder': folder,
+        'environment': environment,
+        'seconds': PATIENCE,
+    }
     print(json.dumps(asked), file=forker().stdin, flush=True)
     told = json.loads(forker().stdout.readline())
     # On a machine with other work a check may take so long that it shows how far it is.
@@ -167,8 +219,13 @@ def forked(command: str, words: Sequence[str], folder: str,
 @lru_cache(maxsize=None)
 def forker() -> Any:
     started = subprocess.Popen(
-        [sys.executable, '-S', '-m', 'tests.forker'], cwd=TOOLS, text=True,
-        env={**os.environ, 'LC_ALL': 'C'}, stdin=subprocess.PIPE, stdout=subprocess.PIPE)
+        [sys.executable, '-S', '-m', 'tests.forker'],
+        cwd=TOOLS,
+        text=True,
+        env={**os.environ, 'LC_ALL': 'C'},
+        stdin=subprocess.PIPE,
+        stdout=subprocess.PIPE,
+    )
     atexit.register(started.communicate)
     return started
 
@@ -185,8 +242,15 @@ def strace_works() -> bool:
     """Whether strace is there, and may trace."""
     if shutil.which('strace') is None:
         return False
-    return subprocess.run(['strace', '-o', os.devnull, 'true'], check=False,
-                          stdout=subprocess.DEVNULL, stderr=subprocess.DEVNULL).returncode == 0
+    return (
+        subprocess.run(
+            ['strace', '-o', os.devnull, 'true'],
+            check=False,
+            stdout=subprocess.DEVNULL,
+            stderr=subprocess.DEVNULL,
+        ).returncode
+        == 0
+    )
 
 
 def needed(there: bool, what: str) -> Callable[[Any], Any]:

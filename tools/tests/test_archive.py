@@ -4,24 +4,25 @@ import io
 import tarfile
 import unittest
 
-from crashfs_tools.archive import ArchiveFault, Member, members
+from crashfs_tools.common.archive import ArchiveFault, members
+from crashfs_tools.common.entry import Entry
 
 LONG = 'n' * 255
 TREE = [
-    Member('', 0o755, 'u', 'g', None),
-    Member('d', 0o700, 'u', 'g', None),
-    Member('d/empty', 0, 'u', 'g', b''),
-    Member('d/ä "o"\n', 0o644, 'ü', 'g' * 40, bytes(range(256)) * 3),
-    Member('/'.join([LONG] * 3), 0o644, 'u', 'g', b'long'),
-    Member('/'.join(['m' * 60] * 3), 0o644, 'u', 'g', 512 * b'x'),
+    ('', Entry('u', 'g', 0o755, None)),
+    ('d', Entry('u', 'g', 0o700, None)),
+    ('d/empty', Entry('u', 'g', 0, b'')),
+    ('d/ä "o"\n', Entry('ü', 'g' * 40, 0o644, bytes(range(256)) * 3)),
+    ('/'.join([LONG] * 3), Entry('u', 'g', 0o644, b'long')),
+    ('/'.join(['m' * 60] * 3), Entry('u', 'g', 0o644, 512 * b'x')),
 ]
 
 
 def archive_of(tree, form=tarfile.PAX_FORMAT) -> bytes:
     out = io.BytesIO()
     with tarfile.open(fileobj=out, mode='w', format=form) as archive:
-        for one in tree:
-            info = tarfile.TarInfo(one.path or '.')
+        for path, one in tree:
+            info = tarfile.TarInfo(path or '.')
             info.type = tarfile.DIRTYPE if one.data is None else tarfile.REGTYPE
             info.mode, info.uname, info.gname = one.mode, one.owner, one.group
             info.size = len(one.data or b'')
@@ -34,11 +35,11 @@ def read(data: bytes):
 
 
 class Archives(unittest.TestCase):
-
     def test_entries_are_read_with_all_that_they_have(self):
         self.assertEqual(read(archive_of(TREE)), TREE)
-        self.assertEqual(read(archive_of(TREE[:3] + TREE[5:], tarfile.USTAR_FORMAT)),
-                         TREE[:3] + TREE[5:])
+        self.assertEqual(
+            read(archive_of(TREE[:3] + TREE[5:], tarfile.USTAR_FORMAT)), TREE[:3] + TREE[5:]
+        )
 
     def test_an_archive_without_its_end_is_refused(self):
         data = archive_of(TREE[:1])
@@ -51,12 +52,12 @@ class Archives(unittest.TestCase):
         header = bytearray(archive_of(TREE[2:3])[:512])
         for place, byte, why in [(0, b'D', 'another sum'), (156, b'2', 'another sum')]:
             changed = bytearray(header)
-            changed[place:place + 1] = byte
+            changed[place : place + 1] = byte
             with self.assertRaisesRegex(ArchiveFault, why):
                 read(bytes(changed) + bytes(1024))
         for path in ('../up', 'd/../up', 'd//f', '/top', './d'):
             with self.assertRaisesRegex(ArchiveFault, 'an entry of the path'):
-                read(archive_of([Member(path, 0o644, 'u', 'g', b'')]))
+                read(archive_of([(path, Entry('u', 'g', 0o644, b''))]))
 
     def test_other_kinds_of_entries_are_refused(self):
         out = io.BytesIO()

@@ -1,40 +1,32 @@
-"""The order in which `tools/build` proves crates, and how many processors each gets."""
+"""The order in which `tools/build` proves crates, with how many processors, and what it says if it
+fails."""
 
 from __future__ import annotations
 
-import importlib.util
+import io
 import os
+import signal
 import sys
 import tempfile
 import unittest
-from importlib.machinery import SourceFileLoader
+from contextlib import redirect_stderr, redirect_stdout
 from pathlib import Path
-from types import ModuleType
 from typing import Dict, List, Optional, Tuple
+from unittest import mock
 
-TOOLS = Path(__file__).resolve().parents[1]
+from building import checks, main, proving
+from building.checks import Check, memory_of_machine, memory_text, run_check
+from building.order import MANY_BELOW, Work, libraries
+from building.proving import build_program, has_library, prove_in
 
-
-def build_module() -> ModuleType:
-    loader = SourceFileLoader('build_command', str(TOOLS / 'build'))
-    spec = importlib.util.spec_from_loader('build_command', loader)
-    assert spec is not None
-    module = importlib.util.module_from_spec(spec)
-    sys.modules[spec.name] = module
-    written, sys.dont_write_bytecode = sys.dont_write_bytecode, True
-    loader.exec_module(module)
-    sys.dont_write_bytecode = written
-    return module
-
-
-BUILD = build_module()
+GIGABYTE = 2**30
 
 # a is below all; b, c and d stand on it, and e on b.
 BELOW: Dict[str, List[str]] = {'a': [], 'b': ['a'], 'c': ['a'], 'd': ['a'], 'e': ['b']}
 CHAINS = {'a': 50, 'b': 40, 'c': 20, 'd': 10, 'e': 30}
 
 
-def all_ready(work: BUILD.Work) -> List[Tuple[str, int]]:
+def all_ready(work: Work) -> List[Tuple[str, int]]:
     """Takes each crate that can begin now, with its processors."""
     taken: List[Tuple[str, int]] = []
     while True:
@@ -48,7 +40,7 @@ def all_ready(work: BUILD.Work) -> List[Tuple[str, int]]:
 
 class Order(unittest.TestCase):
     def test_the_longest_chain_has_two_processors(self) -> None:
-        work = BUILD.Work(BELOW, CHAINS, 4)
+        work = Work(BELOW, CHAINS, 4)
         self.assertEqual(all_ready(work), [('a', 3)])
         work.end('a', True)
         self.assertEqual(all_ready(work), [('b', 2), ('c', 1), ('d', 1)])
@@ -58,15 +50,15 @@ class Order(unittest.TestCase):
         self.assertEqual(all_ready(work), [('e', 3)])
 
     def test_a_crate_over_many_has_one_processor(self) -> None:
-        low = [f'low{it}' for it in range(BUILD.MANY_BELOW)]
-        below = {'top': low[-1:], **{it: low[at - 1:at] for at, it in enumerate(low)}}
-        work = BUILD.Work(below, {it: 1 for it in below}, 4)
+        low = [f'low{it}' for it in range(MANY_BELOW)]
+        below = {'top': low[-1:], **{it: low[at - 1 : at] for at, it in enumerate(low)}}
+        work = Work(below, {it: 1 for it in below}, 4)
         work.begun.update(low)
         work.proved.update(low)
         self.assertEqual(all_ready(work), [('top', 1)])
 
     def test_one_processor_takes_a_crate_at_a_time(self) -> None:
-        work = BUILD.Work(BELOW, CHAINS, 1)
+        work = Work(BELOW, CHAINS, 1)
         order = []
         for _ in BELOW:
             [(name, jobs)] = all_ready(work)
@@ -76,7 +68,7 @@ class Order(unittest.TestCase):
         self.assertEqual(order, ['a', 'b', 'e', 'c', 'd'])
 
     def test_nothing_begins_once_a_crate_is_not_proved(self) -> None:
-        work = BUILD.Work(BELOW, CHAINS, 4)
+        work = Work(BELOW, CHAINS, 4)
         name, _ = work.next()
         work.end(name, False)
         self.assertIsNone(work.next())
@@ -89,20 +81,115 @@ class Order(unittest.TestCase):
             (crate / 'out' / 'rlib').mkdir(parents=True)
             text, library = crate / 'src' / 'lib.rt', crate / 'out' / 'rlib' / 'stamp'
             text.write_text('fn f() {}')
-            self.assertFalse(BUILD.has_library(Path(room), 'a'))
+            self.assertFalse(has_library(Path(room), 'a'))
             library.write_text('')
             os.utime(crate / 'src', (100, 100))
             os.utime(text, (100, 100))
             os.utime(library, (200, 200))
-            self.assertTrue(BUILD.has_library(Path(room), 'a'))
+            self.assertTrue(has_library(Path(room), 'a'))
             os.utime(text, (300, 300))
-            self.assertFalse(BUILD.has_library(Path(room), 'a'))
+            self.assertFalse(has_library(Path(room), 'a'))
 
     def test_the_libraries_are_all_that_the_program_stands_on(self) -> None:
-        below = BUILD.libraries()
+        below = libraries()
         self.assertIn('cs_names', below)
         self.assertNotIn('cs_bench', below)
         self.assertTrue(all(it in below for its in below.values() for it in its))
+
+
+# A check that takes so much memory, and then ends as its last word says.
+HUNGRY = "import os, sys; memory = b'x' * %d; print('so far: 0 of 9 functions checked', flush=True)"
+
+
+class Checks(unittest.TestCase):
+    def ended(self, last: str, size: int = 0) -> Check:
+        words = [sys.executable, '-S', '-c', f'{HUNGRY % size}; {last}']
+        return run_check(words, Path('/'))
+
+    def test_a_check_has_its_status_and_what_it_printed(self) -> None:
+        check = self.ended('sys.exit(1)')
+        self.assertEqual((check.status, check.was_killed), (1, False))
+        self.assertEqual(check.output, b'so far: 0 of 9 functions checked\n')
+
+    def test_its_memory_is_that_of_its_largest_process(self) -> None:
+        size = 200 << 20
+        other = f'[sys.executable, "-S", "-c", "x = bytes(1) * {size}"]'
+        below = f'import subprocess; subprocess.run({other})'
+        for check in (self.ended('sys.exit(0)', size), self.ended(below)):
+            self.assertGreater(check.most, size)
+            self.assertLess(check.most, 2 * size)
+
+    def test_a_process_that_the_system_killed_is_seen_in_each_form(self) -> None:
+        self.assertTrue(self.ended('os.kill(os.getpid(), 9)').was_killed)
+        for status in (-9, 137, 247):
+            self.assertTrue(Check(status, b'', 0).was_killed)
+        for status in (0, 1, 2, -signal.SIGTERM):
+            self.assertFalse(Check(status, b'', 0).was_killed)
+
+    def test_the_text_has_the_crate_its_memory_and_what_to_do(self) -> None:
+        check = Check(247, b'', 5 * GIGABYTE)
+        with mock.patch.object(checks, 'memory_of_machine', return_value=8 * GIGABYTE):
+            text = memory_text('cs_session', check, 3, 4)
+            alone = memory_text('crashfs', check, 1, 1)
+        self.assertRegex(text, '^cs_session: the system killed its check, .* memory ran out')
+        self.assertIn('with 3 jobs, had 5.0 GB; the machine has 8.0 GB', text)
+        self.assertTrue(text.endswith(': run tools/build --processors 2'))
+        self.assertIn('with a job, had 5.0 GB', alone)
+        self.assertTrue(alone.endswith(': it needs a machine with more memory'))
+
+    def test_the_machine_has_some_memory(self) -> None:
+        self.assertGreater(memory_of_machine(), GIGABYTE // 4)
+
+
+class Reports(unittest.TestCase):
+    """What is printed of checks that end in a given way."""
+
+    def printed(self, check: Check, work: Optional[Work] = None) -> Tuple[str, str]:
+        out, err = io.StringIO(), io.TextIOWrapper(io.BytesIO(), 'utf-8')
+        with mock.patch.object(proving, 'run_check', return_value=check), redirect_stdout(
+            out
+        ), redirect_stderr(err):
+            if work is None:
+                self.status = build_program(4, 0)
+            else:
+                prove_in(Path('/'), work, 0)
+        err.flush()
+        assert isinstance(err.buffer, io.BytesIO)
+        return out.getvalue(), err.buffer.getvalue().decode()
+
+    def test_a_killed_check_ends_the_build_and_says_that_memory_ran_out(self) -> None:
+        work = Work(BELOW, CHAINS, 4)
+        out, err = self.printed(Check(247, b'so far: 0 of 139 functions checked\n', 1), work)
+        self.assertRegex(out, r'min: a NOT PROVED \(0 of 5\)\n$')
+        first, last = err.splitlines()
+        self.assertEqual(first, 'so far: 0 of 139 functions checked')
+        self.assertRegex(last, '^a: the system killed its check')
+        self.assertEqual((work.failed, work.begun), ('a', {'a'}))
+
+    def test_a_refused_check_says_nothing_of_memory(self) -> None:
+        _, err = self.printed(Check(1, b'fn a::b: not proved\n', 1), Work(BELOW, CHAINS, 4))
+        self.assertEqual(err, 'fn a::b: not proved\n')
+
+    def test_all_crates_are_proved_in_their_order(self) -> None:
+        out, err = self.printed(Check(0, b'', 1), Work(BELOW, CHAINS, 4))
+        names = [line.split()[2] for line in out.splitlines()]
+        self.assertEqual((names, err), (['a', 'b', 'e', 'c', 'd'], ''))
+
+    def test_the_program_s_check_is_reported_like_those_of_libraries(self) -> None:
+        _, err = self.printed(Check(137, b'so far\n', 1))
+        self.assertRegex(err, '^so far\ncrashfs: the system killed its check')
+        self.assertEqual(self.status, 1)
+        out, err = self.printed(Check(0, b'help\n', 1))
+        self.assertRegex(out, 'min: crates/crashfs/out/crashfs is built\n$')
+        self.assertEqual((self.status, err), (0, ''))
+
+    def test_without_the_toolchain_it_says_what_is_missing(self) -> None:
+        err = io.StringIO()
+        with mock.patch.object(main.shutil, 'which', return_value=None), mock.patch(
+            'sys.argv', ['build']
+        ), redirect_stderr(err):
+            self.assertEqual(main.main(), 1)
+        self.assertIn('rt: command not found', err.getvalue())
 
 
 if __name__ == '__main__':

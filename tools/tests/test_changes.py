@@ -6,10 +6,11 @@ import unittest
 from io import BytesIO
 from typing import List
 
-from crashfs_tools.archive import ArchiveFault, Member, members
-from crashfs_tools.changes import Changes, Tree, read_changes
-from crashfs_tools.directory import scan
+from crashfs_tools.checker.states.changes import Changes, read_changes
+from crashfs_tools.common.archive import ArchiveFault, members
+from crashfs_tools.common.entry import Entries, Entry
 from crashfs_tools.reading import plan_of, read
+from crashfs_tools.recorder.directory import scan
 
 from .support import EXAMPLES, FAKE, InFolder, needed
 from .test_tar import BUILT, EXAMPLE_TRACES
@@ -18,7 +19,9 @@ HEADER = '{"trace":1,"owner":"u","group":"u","mode":"755"}\n'
 RIGHTS = '"owner":"u","group":"u","mode":"644"'
 # A file becomes a directory, a directory a file, a whole directory goes, and a file is written,
 # put back as it was, and given another mode.
-ODD = HEADER + f"""\
+ODD = (
+    HEADER
+    + f"""\
 {{"start":"file","path":"/a",{RIGHTS},"bytes":"61"}}
 {{"start":"dir","path":"/d",{RIGHTS.replace('644', '755')}}}
 {{"start":"file","path":"/d/b",{RIGHTS},"bytes":"62"}}
@@ -31,6 +34,7 @@ ODD = HEADER + f"""\
 {{"op":"write","path":"/d.b","offset":0,"bytes":"64"}}
 {{"op":"write","path":"/d.b","offset":0,"bytes":"63"}}
 """
+)
 
 
 class Trees:
@@ -42,10 +46,12 @@ class Trees:
     def __len__(self) -> int:
         return len(self.plan.states)
 
-    def tree(self, number: int) -> Tree:
+    def tree(self, number: int) -> Entries:
         tree = self.plan.trees.tree(self.plan.states[number][1])
-        return {path[1:]: Member(path[1:], int(mode, 8), owner, group, data)
-                for path, ((owner, group, mode), data) in tree.items()}
+        return {
+            path[1:]: Entry(owner, group, int(mode, 8), data)
+            for path, ((owner, group, mode), data) in tree.items()
+        }
 
 
 class OfTheSecondReading(InFolder):
@@ -73,8 +79,9 @@ class OfTheSecondReading(InFolder):
                 self.assertEqual(one.applied(start), tree, one.number)
                 # no more than that
                 self.assertEqual({path for path in start if path not in tree}, set(one.missing))
-                self.assertEqual({path for path in tree if start.get(path) != tree[path]},
-                                 set(one.entries))
+                self.assertEqual(
+                    {path for path in tree if start.get(path) != tree[path]}, set(one.entries)
+                )
 
     def test_each_state_of_the_examples(self) -> None:
         for path in EXAMPLE_TRACES:
@@ -96,24 +103,34 @@ class OfTheSecondReading(InFolder):
         self.assertEqual(self.changes(str(EXAMPLES / 'store.trace'), '0'), [Changes(0, [], {})])
 
     def test_a_copy_of_the_start_tree_becomes_the_state(self) -> None:
-        """By the commands that FORMATS.md has: what is missing is removed, and the rest laid out."""
+        """By the commands that FORMATS.md has: what is missing is removed, the rest laid out."""
         trace = self.write('odd.trace', ODD)
         trees = Trees(ODD)
         for number in range(0, len(trees), self.step // 8):
             with open(self.path('whole.tar'), 'wb') as out:
-                subprocess.run([self.program, 'tar', '--trace', trace, '--holes', '--states', '0'],
-                               stdout=out, check=True)
+                subprocess.run(
+                    [self.program, 'tar', '--trace', trace, '--holes', '--states', '0'],
+                    stdout=out,
+                    check=True,
+                )
             with open(self.path('changes.tar'), 'wb') as out:
                 out.write(self.archive(trace, str(number)))
-            script = (f'tar -x --no-same-owner -f whole.tar && mv 0 {number}x && mv {number}x {number}\n'
-                      f'tar -x -f changes.tar {number}.missing\n'
-                      f'(cd {number} && xargs -0 rm -rf -- < ../{number}.missing)\n'
-                      f'tar -x -p --no-same-owner -f changes.tar\n')
+            script = (
+                f'tar -x --no-same-owner -f whole.tar && mv 0 {number}x && mv {number}x {number}\n'
+                f'tar -x -f changes.tar {number}.missing\n'
+                f'(cd {number} && xargs -0 rm -rf -- < ../{number}.missing)\n'
+                f'tar -x -p --no-same-owner -f changes.tar\n'
+            )
             subprocess.run(['sh', '-e', '-c', script], cwd=self.folder, check=True)
-            found = {one.path: (one.mode, one.data)
-                     for one in scan(self.path(str(number)), lambda path: False).entries}
-            wanted = {'/' + path: (entry.mode, entry.data)
-                      for path, entry in trees.tree(number).items() if path}
+            found = {
+                one.path: (one.mode, one.data)
+                for one in scan(self.path(str(number)), lambda path: False).entries
+            }
+            wanted = {
+                '/' + path: (entry.mode, entry.data)
+                for path, entry in trees.tree(number).items()
+                if path
+            }
             self.assertEqual(found, wanted, f'{number} of {len(trees)}')
             shutil.rmtree(self.path(str(number)))
 

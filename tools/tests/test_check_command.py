@@ -3,15 +3,12 @@
 import json
 import os
 import re
-import signal
 import sys
-import time
 import unittest
-from pathlib import Path
 
-from crashfs_tools import program
+from crashfs_tools.common import program
 
-from .support import EXAMPLES, FAKE, PATIENCE, InFolder, long_time
+from .support import EXAMPLES, FAKE, InFolder, long_time
 
 CHECK = """\
 #!/bin/sh
@@ -25,28 +22,48 @@ exit 1
 
 RIGHTS = '"owner":"u","group":"u","mode":"755"'
 # Two copies of a value, of which neither is synced.
-DOUBLE = '\n'.join([
-    f'{{"trace":3,"profile":"blocks","block":4096,{RIGHTS}}}',
-    f'{{"op":"creat","path":"/a",{RIGHTS}}}', f'{{"op":"creat","path":"/b",{RIGHTS}}}',
-    '{"op":"fsync","path":"/"}', '{"op":"write","path":"/a","offset":0,"text":"v1"}',
-    '{"op":"write","path":"/b","offset":0,"text":"v1"}', '{"op":"say","text":"stored"}', ''])
+DOUBLE = '\n'.join(
+    [
+        f'{{"trace":3,"profile":"blocks","block":4096,{RIGHTS}}}',
+        f'{{"op":"creat","path":"/a",{RIGHTS}}}',
+        f'{{"op":"creat","path":"/b",{RIGHTS}}}',
+        '{"op":"fsync","path":"/"}',
+        '{"op":"write","path":"/a","offset":0,"text":"v1"}',
+        '{"op":"write","path":"/b","offset":0,"text":"v1"}',
+        '{"op":"say","text":"stored"}',
+        '',
+    ]
+)
+
+
+def processes(command):
+    """The processes whose command line has a text."""
+    found = []
+    for name in filter(str.isdigit, os.listdir('/proc')):
+        try:
+            with open(f'/proc/{name}/cmdline', encoding='utf-8', errors='replace') as file:
+                if command in file.read():
+                    found.append(int(name))
+        except OSError:
+            continue
+    return found
 
 
 class InStore(InFolder):
-
     def setUp(self):
         super().setUp()
         self.good = str(EXAMPLES / 'store.trace')
         lines = (EXAMPLES / 'store.trace').read_text(encoding='utf-8').splitlines(True)
         syncs = [place for place, line in enumerate(lines) if '"fsync","path":"/"' in line]
         # Without the second sync of the root, the one behind the rename.
-        self.bad = self.write('bad.trace', ''.join(lines[:syncs[1]] + lines[syncs[1] + 1:]))
+        self.bad = self.write('bad.trace', ''.join(lines[: syncs[1]] + lines[syncs[1] + 1 :]))
         self.command = self.write('recover.sh', CHECK, 0o755)
         self.long = long_time()
 
     def check(self, *words, command=None):
-        return self.run_tool('crashfs-check', '--crashfs', FAKE, *words, '--',
-                             *(command or ['./recover.sh']))
+        return self.run_tool(
+            'crashfs-check', '--crashfs', FAKE, *words, '--', *(command or ['./recover.sh'])
+        )
 
     def assert_ended(self):
         """No `sleep` of this test runs any more."""
@@ -54,35 +71,40 @@ class InStore(InFolder):
 
 
 class Checks(InStore):
-
     def test_a_store_that_is_right_fails_nowhere(self):
         ran = self.check(self.good)
         self.assertEqual((ran.returncode, ran.stderr), (0, ''))
-        self.assertEqual(ran.stdout, 'store.trace: 11 micro-operations, 20 states, 13 different: '
-                                     'none fails\n')
+        self.assertEqual(
+            ran.stdout, 'store.trace: 11 micro-operations, 20 states, 13 different: ' 'none fails\n'
+        )
         self.assert_nothing_left()
 
     def test_a_missing_sync_is_told_by_its_pair(self):
         ran = self.check(self.bad)
         self.assertEqual(ran.returncode, 1, ran.stderr)
-        self.assertEqual(ran.stdout.splitlines(), [
-            'bad.trace: 11 micro-operations, 23 states, 16 different: 3 fail (lost 3)',
-            '  lost: a=2 was told                                   3 states, e.g. --state 20',
-            '    line 13: put the new table in place',
-            '    line 15: the table has all of it',
-            '    line 13 (rename /tmp/table to /table) was not durable when line 15 (truncate '
-            '/log, 0 bytes) was:',
-            '    fsync the directory / between them',
-            '    tried: with that sync 0 of these 3 states are left, and no other fails',
-            '    state 20 also lacks line 14 (rmdir /tmp)',
-        ])
+        self.assertEqual(
+            ran.stdout.splitlines(),
+            [
+                'bad.trace: 11 micro-operations, 23 states, 16 different: '
+                '3 fail (3 of all 23 states): 3 lost',
+                '  lost: a=2 was told                                   3 states, e.g. --state 20',
+                '    line 13: put the new table in place',
+                '    line 15: the table has all of it',
+                '    line 13 (rename /tmp/table to /table) was not durable when line 15 (truncate '
+                '/log, 0 bytes) was:',
+                '    fsync the directory / between them',
+                '    tried: with that sync 0 of these 3 states are left, and no other fails',
+                '    state 20 also lacks line 14 (rmdir /tmp)',
+            ],
+        )
         self.assert_nothing_left()
 
     def test_without_a_program_the_second_reading_is_used_and_the_report_says_so(self):
         whole = self.check(self.bad)
         for words in [('--unproved', '--crashfs', FAKE), ('--unproved',)]:
-            ran = self.run_tool('crashfs-check', *words, '--json', 'r.json', self.bad, '--',
-                                './recover.sh')
+            ran = self.run_tool(
+                'crashfs-check', *words, '--json', 'r.json', self.bad, '--', './recover.sh'
+            )
             first, _, rest = ran.stdout.partition('\n')
             self.assertEqual((ran.returncode, rest), (1, whole.stdout), ran.stderr)
             self.assertTrue(first.startswith('unproved: ') and 'tools/build' in first, first)
@@ -94,8 +116,9 @@ class Checks(InStore):
         search = f"{self.path('bin')}:/usr/bin:/bin"
         for is_there in (False, True):
             if is_there:
-                self.write('bin/crashfs',
-                           f'#!/bin/sh\nexec {sys.executable} -S {FAKE} "$@"\n', 0o755)
+                self.write(
+                    'bin/crashfs', f'#!/bin/sh\nexec {sys.executable} -S {FAKE} "$@"\n', 0o755
+                )
             elif program.Crashfs.find(None) is not None:
                 continue  # One is built here, or there is one on PATH.
             ran = self.run_tool('crashfs-check', self.good, '--', 'true', path=search)
@@ -109,24 +132,37 @@ class Checks(InStore):
     def test_families_find_a_sync_that_a_second_copy_hides(self):
         trace = self.write('double.trace', DOUBLE)
         both_gone = ['sh', '-c', 'test $CRASHFS_SAYS = 0 || grep -qs v1 a b || exit 1']
-        for families, failing in [([], 1), (['--quick'], 0), (['--prefixes'], 0),
-                                  (['--quick', '--lost'], 1), (['--prefixes', '--files'], 0)]:
+        for families, failing in [
+            ([], 1),
+            (['--quick'], 0),
+            (['--prefixes'], 0),
+            (['--quick', '--lost'], 1),
+            (['--prefixes', '--files'], 0),
+        ]:
             ran = self.check(*families, trace, command=both_gone)
             self.assertEqual(ran.returncode, failing, f'{families} {ran.stdout}{ran.stderr}')
 
     def test_families_add_what_the_plan_has_not(self):
-        for families, states in [(['--prefixes'], 12), (['--prefixes', '--lost'], 23),
-                                 (['--prefixes', '--files'], 15), (['--quick'], 19), ([], 20)]:
+        for families, states in [
+            (['--prefixes'], 12),
+            (['--prefixes', '--lost'], 23),
+            (['--prefixes', '--files'], 15),
+            (['--quick'], 19),
+            ([], 20),
+        ]:
             ran = self.check(*families, self.good, command=['true'])
             self.assertIn(f', {states} states, ', ran.stdout)
 
     def test_a_state_is_left_as_the_crash_left_it(self):
-        ran = self.check('--state', '20', self.bad,
-                         command=['sh', '-c', 'cat log table; ls; rm log; echo "$CRASHFS_STATE"; '
-                                              'exit 1'])
+        ran = self.check(
+            '--state',
+            '20',
+            self.bad,
+            command=['sh', '-c', 'cat log table; ls; rm log; echo "$CRASHFS_STATE"; ' 'exit 1'],
+        )
         self.assertEqual((ran.returncode, ran.stderr), (1, ''))
         self.assertIn('state 20, hole 8 11, says 1: bad: 20\n', ran.stdout)
-        folder, = os.listdir(self.temporary)
+        (folder,) = os.listdir(self.temporary)
         left = os.path.join(self.temporary, folder, '20')
         self.assertIn(f'It is laid out in {left}.', ran.stdout)
         self.assertEqual(sorted(os.listdir(left)), ['log', 'table', 'tmp'])
@@ -147,47 +183,75 @@ class Checks(InStore):
         # What was tried of the advice is known only where COMMAND runs.
         untried = re.sub(' *tried: .*\n', '', whole.stdout)
         self.assertEqual((ran.returncode, ran.stdout), (1, untried), ran.stderr)
-        parts = [json.loads(self.read(f'{part}.json'))['windows'][0]['outcomes']
-                 for part in (1, 2)]
+        parts = [json.loads(self.read(f'{part}.json'))['windows'][0]['outcomes'] for part in (1, 2)]
         merged = json.loads(self.read('all.json'))['windows'][0]['outcomes']
         self.assertEqual(merged, {**parts[0], **parts[1]})
         self.assertEqual(len(merged), sum(map(len, parts)))
         self.merged_with_trace(whole.stdout, files)
-        for given, told in [((1, 1), 'shard 1/2 is missing'), ((0,), 'shard 2/2 is missing'),
-                            ((0, 1, 0), 'shard 1/2 was given 2 times')]:
+        for given, told in [
+            ((1, 1), 'shard 1/2 is missing'),
+            ((0,), 'shard 2/2 is missing'),
+            ((0, 1, 0), 'shard 1/2 was given 2 times'),
+        ]:
             ran = self.run_tool('crashfs-check', '--merge', *(files[one] for one in given))
             self.assertEqual((ran.returncode, ran.stderr), (2, f'crashfs-check: {told}\n'))
+
+    def test_shards_of_different_commands_are_refused(self):
+        files = [self.path('1.json'), self.path('2.json')]
+        self.check('--shard', '1/2', '--json', files[0], self.good, command=['true'])
+        self.check('--shard', '2/2', '--json', files[1], self.good, command=['test', '1'])
+        ran = self.run_tool('crashfs-check', '--merge', *files)
+        self.assertEqual(
+            (ran.returncode, ran.stdout, ran.stderr),
+            (2, '', 'crashfs-check: the reports are of different COMMANDs: true and test 1\n'),
+        )
 
     def merged_with_trace(self, whole, files):
         """The trace gives a merged report the differences of files."""
         words = ['--crashfs', FAKE, '--json', 'all.json', '--html', 'all.html']
         ran = self.run_tool('crashfs-check', *words, self.bad, '--merge', *files)
         self.assertEqual((ran.returncode, ran.stdout), (1, re.sub(' *tried: .*\n', '', whole)))
-        group, = json.loads(self.read('all.json'))['groups']
-        self.assertIn('/log has 0 bytes, there 4 bytes', group['differences'][0])
+        (group,) = json.loads(self.read('all.json'))['groups']
+        self.assertIn('/log has 0 bytes, in the good state 4 bytes', group['differences'][0])
         self.assertIn('class="differences"', self.read('all.html'))
-        for more, told in [((self.good,), f'{self.good}: that is not the trace of the reports'),
-                           (('--quick', self.bad), 'the trace has other states than the reports'),
-                           (('none',), 'none: No such file or directory')]:
+        for more, told in [
+            ((self.good,), f'{self.good}: that is not the trace of the reports'),
+            (('--quick', self.bad), 'the trace has other states than the reports'),
+            (('none',), 'none: No such file or directory'),
+        ]:
             ran = self.run_tool('crashfs-check', *words, *more, '--merge', *files)
             self.assertEqual(ran.returncode, 2)
             self.assertIn(told, ran.stderr)
         self.assert_nothing_left()
 
     def test_causes_are_last_lines_signals_and_statuses(self):
-        for script, told in [('echo a; echo "b: c"; echo', 'b: c'), ('true', 'status 7'),
-                             ('kill -9 $$', 'ended by SIGKILL')]:
+        for script, told in [
+            ('echo a; echo "b: c"; echo', 'b: c'),
+            ('true', 'status 7'),
+            ('kill -9 $$', 'ended by SIGKILL'),
+        ]:
             with self.subTest(script):
-                ran = self.check('--prefixes', self.good, command=[
-                    'sh', '-c', f'test $CRASHFS_STATE != 3 || {{ {script}; exit 7; }}'])
+                ran = self.check(
+                    '--prefixes',
+                    self.good,
+                    command=['sh', '-c', f'test $CRASHFS_STATE != 3 || {{ {script}; exit 7; }}'],
+                )
                 self.assertEqual(ran.stdout.splitlines()[1].strip().split('  ')[0], told)
                 self.assertEqual(ran.returncode, 1)
 
     def test_a_command_that_hangs_is_ended_and_has_no_answer(self):
         for seconds in ('1.5', '15', '150'):
-            ran = self.check('--prefixes', '--timeout', seconds, '--jobs', '4', '--json', 'r.json',
-                             self.good, command=['sh', '-c', 'test $CRASHFS_STATE != 3 || '
-                                                 '{ echo begun; sleep 900; }'])
+            ran = self.check(
+                '--prefixes',
+                '--timeout',
+                seconds,
+                '--jobs',
+                '4',
+                '--json',
+                'r.json',
+                self.good,
+                command=['sh', '-c', 'test $CRASHFS_STATE != 3 || ' '{ echo begun; sleep 900; }'],
+            )
             self.assertEqual(ran.returncode, 3, ran.stderr)
             self.assertIn(' gave no answer', ran.stdout)
             self.assert_nothing_left()
@@ -199,8 +263,11 @@ class Checks(InStore):
         self.assertEqual(printed, 'begun\n')
 
     def test_what_a_command_leaves_running_is_ended(self):
-        self.check('--prefixes', self.good,
-                   command=['sh', '-c', f'sleep {self.long} & setsid sleep {self.long} &'])
+        self.check(
+            '--prefixes',
+            self.good,
+            command=['sh', '-c', f'sleep {self.long} & setsid sleep {self.long} &'],
+        )
         self.assert_ended()
         self.assert_nothing_left()
 
@@ -210,25 +277,43 @@ class Checks(InStore):
         self.assertEqual((ran.returncode, ran.stderr), (0, ''))
 
     def test_modes_that_forbid_everything_are_no_hindrance(self):
-        trace = self.write('modes.trace', '\n'.join([
-            '{"trace":1,"owner":"u","group":"u","mode":"755"}',
-            '{"start":"dir","path":"/d","owner":"u","group":"u","mode":"500"}',
-            '{"start":"file","path":"/d/f","owner":"u","group":"u","mode":"000","bytes":"00"}',
-            '{"start":"dir","path":"/e","owner":"u","group":"u","mode":"000"}',
-            '{"start":"dir","path":"/e/g","owner":"u","group":"u","mode":"000"}']))
-        ran = self.check(trace, command=[
-            'sh', '-c', 'test "$(stat -c %a d d/f e | xargs)" = "500 0 0" && chmod 0 .'])
+        trace = self.write(
+            'modes.trace',
+            '\n'.join(
+                [
+                    '{"trace":1,"owner":"u","group":"u","mode":"755"}',
+                    '{"start":"dir","path":"/d","owner":"u","group":"u","mode":"500"}',
+                    '{"start":"file","path":"/d/f","owner":"u","group":"u","mode":"000",'
+                    '"bytes":"00"}',
+                    '{"start":"dir","path":"/e","owner":"u","group":"u","mode":"000"}',
+                    '{"start":"dir","path":"/e/g","owner":"u","group":"u","mode":"000"}',
+                ]
+            ),
+        )
+        ran = self.check(
+            trace,
+            command=['sh', '-c', 'test "$(stat -c %a d d/f e | xargs)" = "500 0 0" && chmod 0 .'],
+        )
         self.assertEqual(ran.returncode, 0, ran.stdout + ran.stderr)
         self.assert_nothing_left()
 
 
 class Room(InStore):
-
     def test_what_has_no_room_is_told_and_not_there(self):
-        for words, told in [(('--json', 'r.json'), 'r.json: File too large'),
-                            ((), f'{self.temporary}: File too large')]:
-            ran = self.run_tool('crashfs-check', '--crashfs', FAKE, *words, self.good, '--', 'true',
-                                file_bytes=300 if words else 4)
+        for words, told in [
+            (('--json', 'r.json'), 'r.json: File too large'),
+            ((), f'{self.temporary}: File too large'),
+        ]:
+            ran = self.run_tool(
+                'crashfs-check',
+                '--crashfs',
+                FAKE,
+                *words,
+                self.good,
+                '--',
+                'true',
+                file_bytes=300 if words else 4,
+            )
             # The report is printed all the same.
             self.assertEqual((ran.returncode, 'none fails' in ran.stdout), (3, bool(words)))
             self.assertEqual(ran.stderr, f'crashfs-check: {told}\n')
@@ -237,139 +322,14 @@ class Room(InStore):
 
     def test_a_standard_output_that_takes_nothing_is_told(self):
         for tool, status, *words in [
-                ('crashfs-check', 3, '--crashfs', FAKE, self.good, '--', 'true'),
-                ('crashfs-check', 3, '--crashfs', FAKE, '--state', '3', self.good, '--', 'true')]:
+            ('crashfs-check', 3, '--crashfs', FAKE, self.good, '--', 'true'),
+            ('crashfs-check', 3, '--crashfs', FAKE, '--state', '3', self.good, '--', 'true'),
+        ]:
             ran = self.run_tool(tool, *words, output='/dev/full')
-            self.assertEqual((ran.returncode, ran.stderr), (
-                status, f'{tool}: standard output: No space left on device\n'))
-
-
-class Stops(InStore):
-
-    def begin(self, *words, ignored=''):
-        """Starts a check of which all but the first two commands hang."""
-        child = self.start('crashfs-check', '--crashfs', FAKE, *words, self.good, '--', 'sh', '-c',
-                           'case $CRASHFS_STATE in 0|11) exit;; esac; '
-                           f'echo > {self.path("begun")}; sleep {self.long}', ignored=ignored)
-        self.wait_until(lambda: os.path.exists(self.path('begun')), 'a command has begun')
-        return child
-
-    def test_a_stop_leaves_nothing(self):
-        for number in (signal.SIGINT, signal.SIGTERM, signal.SIGHUP):
-            child = self.begin()
-            child.send_signal(number)
-            out, err = child.communicate(timeout=PATIENCE)
-            self.assertEqual(child.returncode, 128 + number)
-            self.assertIn(f', 2 tried (stopped by {signal.Signals(number).name}): none fails', out)
-            self.assertEqual(err, f'crashfs-check: stopped by {signal.Signals(number).name}\n')
-            self.assert_ended()
-            self.assert_nothing_left()
-            os.unlink(self.path('begun'))
-
-    def test_a_hangup_that_is_ignored_stops_nothing(self):
-        child = self.begin(ignored='HUP')
-        child.send_signal(signal.SIGHUP)
-        time.sleep(0.5)
-        child.send_signal(signal.SIGTERM)
-        child.communicate(timeout=PATIENCE)
-        self.assertEqual(child.returncode, 128 + signal.SIGTERM)
-        self.assert_ended()
-
-    def test_a_process_that_is_killed_ends_the_check(self):
-        child = self.begin('--jobs', '2')
-        self.wait_until(lambda: len(workers(child.pid)) == 2, 'both processes have begun', child)
-        os.kill(workers(child.pid)[0], signal.SIGKILL)
-        _, err = child.communicate(timeout=PATIENCE)
-        self.assertEqual((child.returncode, err), (
-            2, 'crashfs-check: a process of this check was ended by SIGKILL\n'))
-        self.assert_ended()
-        self.assert_nothing_left()
-
-    def test_a_kill_leaves_nothing(self):
-        child = self.begin()
-        child.kill()
-        child.communicate(timeout=PATIENCE)
-        self.wait_until(lambda: os.listdir(self.temporary) == [], 'nothing left')
-        self.assert_ended()
-
-
-class Refuses(InStore):
-
-    def refusal(self, *words, status=2):
-        ran = self.run_tool('crashfs-check', *words)
-        self.assertEqual((ran.returncode, ran.stdout), (status, ''), ran.stderr)
-        self.assert_nothing_left()
-        return ran.stderr
-
-    def test_bad_input_is_told_in_one_line(self):
-        broken = self.write('broken.trace', 'nothing\n')
-        odd = self.write('odd', 'true\n', 0o755)
-        killed = self.write('killed', '#!/bin/sh\nkill -9 $$\n', 0o755)
-        listless = self.write('listless.json', '{"crashfs-check":1,"trace":"","sha256":"",'
-                              '"list":[],"command":[],"shard":[1,1],"outcomes":[],"needs":[]}')
-        for told, *words in [
-                ('none: No such file or directory', '--crashfs', FAKE, 'none', '--', 'true'),
-                ('no-such: command not found', '--crashfs', FAKE, self.good, '--', 'no-such'),
-                ('recover.sh: command not found (use ./recover.sh)', '--crashfs', FAKE, self.good,
-                 '--', 'recover.sh'),
-                ('--crashfs /none: no such program', '--crashfs', '/none', self.good, '--', 'true'),
-                ('no such state: 99', '--crashfs', FAKE, '--state', '99', self.good, '--', 'true'),
-                ('x/r.json: its directory is not there', '--json', 'x/r.json', '--crashfs', FAKE,
-                 self.good, '--', 'true'),
-                ('tmp is a directory', '--json', 'tmp', '--crashfs', FAKE, self.good, '--', 'true'),
-                (f'{odd}: Exec format error', '--crashfs', FAKE, self.good, '--', odd),
-                (f'{odd}: Exec format error', '--crashfs', odd, self.good, '--', 'true'),
-                ('crashfs was ended by SIGKILL', '--crashfs', killed, self.good, '--', 'true'),
-                ('none.json: No such file or directory', '--merge', 'none.json'),
-                (f'{listless} is no report', '--merge', listless),
-                (f'{broken} is no report', '--merge', broken)]:
-            with self.subTest(told):
-                err = self.refusal(*words)
-                self.assertTrue(err.startswith(f'crashfs-check: {told}'), err)
-                self.assertEqual(err.count('\n'), 1, err)
-        self.assertIn('crashfs-check: ', self.refusal('--crashfs', FAKE, broken, '--', 'true'))
-
-    def test_a_program_without_the_options_is_told(self):
-        old = self.write('old', f'#!/bin/sh\nexec {FAKE} "$@" --old\n', 0o755)
-        err = self.refusal('--crashfs', old, self.good, '--', 'true')
-        self.assertIn('has no `list --json` yet', err)
-        no_tar = self.write('no_tar', f'#!/bin/sh\ntest $1 = tar && set -- --old\n'
-                                      f'exec {FAKE} "$@"\n', 0o755)
-        err = self.refusal('--crashfs', no_tar, self.good, '--', 'true')
-        self.assertIn('has no `tar --states` yet', err)
-
-    def test_the_command_line_is_refused(self):
-        for words in [(), (self.good, '--'), ('--jobs', '0', self.good, '--', 'x'),
-                      ('--shard', '3/2', self.good, '--', 'x'),
-                      ('--timeout', 'x', self.good, '--', 'x')]:
-            self.assertIn('error: ', self.refusal(*words))
-        self.assertIn('error: put -- before COMMAND (./check.sh)',
-                      self.refusal(self.good, './check.sh'))
-
-    def test_a_trace_that_the_program_refuses_is_told_with_its_line(self):
-        refusing = self.write('refusing', '#!/bin/sh\necho "crashfs: trace line 3: Exists" >&2\n'
-                                          'exit 1\n', 0o755)
-        err = self.refusal('--crashfs', refusing, self.good, '--', 'true')
-        self.assertEqual(err, 'crashfs-check: crashfs: trace line 3: Exists\n')
-
-
-def processes(command):
-    """The processes whose command line has a text."""
-    found = []
-    for name in filter(str.isdigit, os.listdir('/proc')):
-        try:
-            with open(f'/proc/{name}/cmdline', encoding='utf-8', errors='replace') as file:
-                if command in file.read():
-                    found.append(int(name))
-        except OSError:
-            continue
-    return found
-
-
-def workers(check):
-    """The processes of a check in which COMMAND is run: its guard has a session of its own."""
-    found = Path(f'/proc/{check}/task/{check}/children').read_text(encoding='ascii').split()
-    return [one for one in map(int, found) if os.getsid(one) == os.getsid(check)]
+            self.assertEqual(
+                (ran.returncode, ran.stderr),
+                (status, f'{tool}: standard output: No space left on device\n'),
+            )
 
 
 if __name__ == '__main__':

@@ -6,9 +6,9 @@ import os
 import signal
 import unittest
 
-from crashfs_tools import progress
-from crashfs_tools.results import read_json
-from crashfs_tools.runner import BAD, GOOD, NO_ANSWER, Outcome
+from crashfs_tools.checker.running import progress
+from crashfs_tools.checker.running.read_results import read_json
+from crashfs_tools.checker.running.runner import BAD, GOOD, NO_ANSWER, Outcome
 
 from .support import FAKE, PATIENCE, PROGRESS
 from .test_check_command import InStore
@@ -18,7 +18,6 @@ COUNT = 'echo $CRASHFS_STATE >> {0}; '
 
 
 class InCounted(InStore):
-
     def counted(self, script):
         return ['sh', '-c', COUNT.format(self.path('ran')) + script]
 
@@ -31,7 +30,6 @@ class InCounted(InStore):
 
 
 class First(InCounted):
-
     def refusal(self, command):
         ran = self.check(self.good, command=command)
         self.assertEqual((ran.returncode, ran.stdout), (2, ''), ran.stderr)
@@ -40,16 +38,21 @@ class First(InCounted):
 
     def test_a_command_that_fails_where_nothing_is_lost_ends_the_check(self):
         lines = self.refusal(self.counted('echo "old: $PWD/x"; test $CRASHFS_STATE != 11'))
-        self.assertEqual(lines, [
-            "crashfs-check: COMMAND fails in the tree at the session's end, where nothing is lost "
-            '(state 11, says 1): old: ./x',
-            'crashfs-check: is COMMAND stricter than the session, or does it look for files '
-            'elsewhere?',
-            'crashfs-check: inspect it with --state 11'])
+        self.assertEqual(
+            lines,
+            [
+                "crashfs-check: COMMAND fails in the tree at the session's end, where nothing is "
+                'lost (state 11, says 1): old: ./x',
+                'crashfs-check: is COMMAND stricter than the session, or does it look for files '
+                'elsewhere?',
+                'crashfs-check: inspect it with --state 11',
+            ],
+        )
         self.assertEqual(self.ran(), [11])
         lines = self.refusal(self.counted('test $CRASHFS_STATE != 0'))
-        self.assertIn('in the start tree, where nothing is lost (state 0, says 0): status 1',
-                      lines[0])
+        self.assertIn(
+            'in the start tree, where nothing is lost (state 0, says 0): status 1', lines[0]
+        )
         self.assertEqual(self.ran(), [11, 0])
 
     def test_what_to_look_at_is_said(self):
@@ -62,34 +65,58 @@ class First(InCounted):
         rights = '"owner":"u","group":"u","mode":"755"'
         question = 'crashfs-check: did the directory have files of an earlier session when it was '
         for start, asked in (f'{{"start":"file","path":"/log",{rights},"bytes":"61"}}\n', True), (
-                '', False):
-            trace = self.write('old.trace', f'{{"trace":1,{rights}}}\n{start}'
-                               f'{{"op":"creat","path":"/new",{rights}}}\n')
+            '',
+            False,
+        ):
+            trace = self.write(
+                'old.trace',
+                f'{{"trace":1,{rights}}}\n{start}' f'{{"op":"creat","path":"/new",{rights}}}\n',
+            )
             ran = self.check(trace, command=['sh', '-c', 'test -e new'])
             self.assertEqual((ran.returncode, ran.stdout), (2, ''), ran.stderr)
             self.assertIn('in the start tree', ran.stderr)
             self.assertEqual(f'{question}recorded?' in ran.stderr, asked, ran.stderr)
 
     def test_a_command_without_an_answer_there_is_tried_everywhere(self):
-        ran = self.check('--prefixes', '--timeout', '0.5', self.good,
-                         command=['sh', '-c', 'test $CRASHFS_STATE != 11 || sleep 60'])
+        ran = self.check(
+            '--prefixes',
+            '--timeout',
+            '0.5',
+            self.good,
+            command=['sh', '-c', 'test $CRASHFS_STATE != 11 || sleep 60'],
+        )
         self.assertEqual(ran.returncode, 3, ran.stdout + ran.stderr)
 
 
 class Stops(InCounted):
-
     def test_a_stop_has_a_report_and_a_json_that_a_later_check_goes_on_from(self):
         whole = self.check(self.bad)
-        command = self.counted(f'test -e {self.path("on")} || test $CRASHFS_STATE != 5 || '
-                               f'sleep {self.long}; exec {self.path("recover.sh")}')
-        child = self.start('crashfs-check', '--crashfs', FAKE, '--jobs', '1', '--timeout', '300',
-                           '--json', 'r.json', self.bad, '--', *command)
-        self.wait_until(lambda: '\n5\n' in self.read('ran') if os.path.exists(self.path('ran'))
-                        else False, 'state 5 is begun')
+        command = self.counted(
+            f'test -e {self.path("on")} || test $CRASHFS_STATE != 5 || '
+            f'sleep {self.long}; exec {self.path("recover.sh")}'
+        )
+        child = self.start(
+            'crashfs-check',
+            '--crashfs',
+            FAKE,
+            '--jobs',
+            '1',
+            '--timeout',
+            '300',
+            '--json',
+            'r.json',
+            self.bad,
+            '--',
+            *command,
+        )
+        self.wait_until(
+            lambda: '\n5\n' in self.read('ran') if os.path.exists(self.path('ran')) else False,
+            'state 5 is begun',
+        )
         child.send_signal(signal.SIGTERM)
         out, _ = child.communicate(timeout=PATIENCE)
         self.assertEqual(child.returncode, 143)
-        self.assertIn(' (stopped by SIGTERM): ', out)
+        self.assertIn(' (stopped by SIGTERM)\n', out)
         before = self.ran()
         self.write('on', '')
         ran = self.check('--resume', 'r.json', self.bad, command=command)
@@ -100,12 +127,16 @@ class Stops(InCounted):
         self.assert_ended()
 
     def test_a_state_without_an_answer_is_tried_again(self):
-        command = self.counted(f'test -e {self.path("on")} || test $CRASHFS_STATE != 3 || '
-                               f'sleep {self.long}')
+        command = self.counted(
+            f'test -e {self.path("on")} || test $CRASHFS_STATE != 3 || ' f'sleep {self.long}'
+        )
         ran = self.check('--timeout', '2', '--json', 'r.json', self.good, command=command)
         self.assertEqual(ran.returncode, 3)
-        silent = [state for state, one in read_json(self.path('r.json')).windows[0].outcomes.items()
-                  if one.result == NO_ANSWER]
+        silent = [
+            state
+            for state, one in read_json(self.path('r.json')).windows[0].outcomes.items()
+            if one.result == NO_ANSWER
+        ]
         self.assertIn(3, silent)
         self.ran()
         self.write('on', '')
@@ -114,36 +145,67 @@ class Stops(InCounted):
 
     def test_only_the_same_check_goes_on(self):
         self.check('--json', 'r.json', self.good, command=['true'])
-        for words, command in [((self.good,), ['false']), ((self.bad,), ['true']),
-                               (('--quick', self.good), ['true'])]:
+        for words, command in [
+            ((self.good,), ['false']),
+            ((self.bad,), ['true']),
+            (('--quick', self.good), ['true']),
+        ]:
             ran = self.check('--resume', 'r.json', *words, command=command)
-            self.assertEqual((ran.returncode, ran.stderr),
-                             (2, 'crashfs-check: --resume: that is a report of another check\n'))
+            self.assertEqual(
+                (ran.returncode, ran.stderr),
+                (2, 'crashfs-check: --resume: that is a report of another check\n'),
+            )
         ran = self.check('--resume', 'none.json', self.good, command=['true'])
         self.assertEqual((ran.returncode, ran.stderr), (0, ''))
 
     def test_a_time_limit_ends_a_check_with_a_report(self):
-        ran = self.check('--time-limit', '1', '--jobs', '1', '--json', 'r.json', self.good,
-                         command=['sh', '-c', f'test $CRASHFS_STATE != 3 || sleep {self.long}'])
+        ran = self.check(
+            '--time-limit',
+            '1',
+            '--jobs',
+            '1',
+            '--json',
+            'r.json',
+            self.good,
+            command=['sh', '-c', f'test $CRASHFS_STATE != 3 || sleep {self.long}'],
+        )
         self.assertEqual((ran.returncode, ran.stderr), (3, ''))
-        self.assertRegex(ran.stdout, r', \d+ tried \(stopped by the time limit\): none fails\n')
+        self.assertRegex(
+            ran.stdout,
+            r': (none of the \d+ tried fails; \d+ not|nothing was) tried '
+            r'\(stopped by the time limit\)\n',
+        )
         self.assertEqual(json.loads(self.read('r.json'))['stopped'], 'the time limit')
         self.assert_ended()
         self.assert_nothing_left()
 
     def test_the_first_failure_ends_a_check_by_fail_fast(self):
-        ran = self.check('--fail-fast', '--jobs', '1', self.good,
-                         command=self.counted('test $CRASHFS_STATE != 3'))
+        ran = self.check(
+            '--fail-fast',
+            '--jobs',
+            '1',
+            self.good,
+            command=self.counted('test $CRASHFS_STATE != 3'),
+        )
         self.assertEqual((ran.returncode, ran.stderr), (1, ''))
-        self.assertIn(', 5 tried (stopped by the first failure): 1 fails (status 1 1)', ran.stdout)
-        self.assertEqual(self.ran(), [11, 0, 1, 2, 3])
+        self.assertIn(
+            ': 1 of the 5 tried fails: 1 status 1; 8 not tried (stopped by the first failure)\n',
+            ran.stdout,
+        )
+        # State 3 fails, and is run once more.
+        self.assertEqual(self.ran(), [11, 0, 1, 2, 3, 3])
         ran = self.check('--fail-fast', self.good, command=['true'])
-        self.assertEqual(ran.stdout.partition(': ')[2], '11 micro-operations, 20 states, '
-                         '13 different: none fails\n')
+        self.assertEqual(
+            ran.stdout.partition(': ')[2],
+            '11 micro-operations, 20 states, ' '13 different: none fails\n',
+        )
 
     def test_a_reader_that_reads_no_more_is_no_fault(self):
-        for words, status in [((self.bad, '--', './recover.sh'), 1), (('--help',), 0),
-                              (('--state', '3', self.bad, '--', 'true'), 0)]:
+        for words, status in [
+            ((self.bad, '--', './recover.sh'), 1),
+            (('--help',), 0),
+            (('--state', '3', self.bad, '--', 'true'), 0),
+        ]:
             reading, writing = os.pipe()
             os.close(reading)
             child = self.start('crashfs-check', '--crashfs', FAKE, *words, output=writing)
@@ -152,40 +214,69 @@ class Stops(InCounted):
             self.assertEqual((child.returncode, PROGRESS.sub('', err)), (status, ''))
 
     def test_the_json_is_there_though_nobody_reads_the_report(self):
-        ran = self.run_tool('crashfs-check', '--crashfs', FAKE, '--json', 'r.json', self.bad, '--',
-                            './recover.sh', output='/dev/full')
+        ran = self.run_tool(
+            'crashfs-check',
+            '--crashfs',
+            FAKE,
+            '--json',
+            'r.json',
+            self.bad,
+            '--',
+            './recover.sh',
+            output='/dev/full',
+        )
         self.assertEqual(ran.returncode, 3)
-        group, = json.loads(self.read('r.json'))['groups']
-        self.assertEqual((group['states'], group['lines'], group['syncs']),
-                         ([20, 19, 18], [[13, 15]], {'13': '/'}))
-        self.assertEqual((group['good'], group['differences']),
-                         (8, ['/log has 0 bytes, there 4 bytes; at byte 0 its end, there '
-                              '613d320a']))
+        (group,) = json.loads(self.read('r.json'))['groups']
+        self.assertEqual(
+            (group['states'], group['lines'], group['syncs']),
+            ([20, 19, 18], [[13, 15]], {'13': '/'}),
+        )
+        self.assertEqual(
+            (group['good'], group['differences']),
+            (
+                8,
+                [
+                    '/log has 0 bytes, in the good state 4 bytes; at byte 0 its end, in the good '
+                    'state 613d320a'
+                ],
+            ),
+        )
 
 
 class Archives(InStore):
-
     def test_an_archive_that_ends_early_is_told_with_what_ended_its_program(self):
-        for end, told in [('kill $$', 'was ended by SIGTERM'), ('exit 5', 'ended with status 5'),
-                          ('exit 0', 'ended with status 0; what it wrote is no archive: it ends '
-                                     'early')]:
-            cut = self.write('cut', f'#!/bin/sh\ntest $1 = tar || exec {FAKE} "$@"\n'
-                                    f'{FAKE} "$@" | head -c 3000\n{end}\n', 0o755)
+        for end, told in [
+            ('kill $$', 'was ended by SIGTERM'),
+            ('exit 5', 'ended with status 5'),
+            ('exit 0', 'ended with status 0; what it wrote is no archive: it ends ' 'early'),
+        ]:
+            cut = self.write(
+                'cut',
+                f'#!/bin/sh\ntest $1 = tar || exec {FAKE} "$@"\n'
+                f'{FAKE} "$@" | head -c 3000\n{end}\n',
+                0o755,
+            )
             ran = self.run_tool('crashfs-check', '--crashfs', cut, self.good, '--', 'true')
-            self.assertEqual((ran.returncode, ran.stdout), (2, ''))
+            # The trees that are tried first are shorter, and whole unless the status says more.
+            in_the_middle = end == 'exit 0'
+            self.assertEqual(ran.returncode, 3 if in_the_middle else 2, ran.stdout)
+            self.assertEqual('(stopped by a fault)' in ran.stdout, in_the_middle)
             self.assertIn(f'crashfs-check: crashfs tar {told}', ran.stderr)
 
     def test_a_program_may_write_its_archive_to_the_end(self):
-        slow = self.write('slow', f'#!/bin/sh\ntest $1 = tar || exec {FAKE} "$@"\n'
-                                  f'{FAKE} "$@"\nsleep 0.1\nhead -c 200000 /dev/zero || exit 9\n',
-                          0o755)
-        ran = self.run_tool('crashfs-check', '--crashfs', slow, '--prefixes', self.good, '--',
-                            'true')
+        slow = self.write(
+            'slow',
+            f'#!/bin/sh\ntest $1 = tar || exec {FAKE} "$@"\n'
+            f'{FAKE} "$@"\nsleep 0.1\nhead -c 200000 /dev/zero || exit 9\n',
+            0o755,
+        )
+        ran = self.run_tool(
+            'crashfs-check', '--crashfs', slow, '--prefixes', self.good, '--', 'true'
+        )
         self.assertEqual((ran.returncode, ran.stderr), (0, ''))
 
 
 class Progress(unittest.TestCase):
-
     def test_without_a_terminal_a_line_comes_every_half_minute(self):
         stream, now = io.StringIO(), [0.0]
         shown = progress.Progress(stream, lambda: now[0])
@@ -194,9 +285,13 @@ class Progress(unittest.TestCase):
             now[0] = step
             shown.step(Outcome(BAD if step == 2 else GOOD))
         shown.end()
-        self.assertEqual(stream.getvalue().splitlines(), [
-            'crashfs-check: 30 of 100 tried, 1 fail, about 1 minute left',
-            'crashfs-check: 60 of 100 tried, 1 fail, about 40 seconds left'])
+        self.assertEqual(
+            stream.getvalue().splitlines(),
+            [
+                'crashfs-check: 30 of 100 tried, 1 fail, about 1 minute left',
+                'crashfs-check: 60 of 100 tried, 1 fail, about 40 seconds left',
+            ],
+        )
 
     def test_the_half_minute_goes_on_through_windows(self):
         stream, now = io.StringIO(), [0.0]
@@ -207,12 +302,20 @@ class Progress(unittest.TestCase):
                 now[0] += 1
                 shown.step(Outcome(GOOD))
             shown.end()
-        self.assertEqual(stream.getvalue().splitlines(), [
-            'crashfs-check: part 2: 10 of 10 tried, 0 fail, about 0 seconds left'])
+        self.assertEqual(
+            stream.getvalue().splitlines(),
+            ['crashfs-check: part 2: 10 of 10 tried, 0 fail, about 0 seconds left'],
+        )
 
     def test_durations_are_rounded(self):
-        for seconds, shown in [(0.4, '0 seconds'), (1.2, '1 second'), (59, '59 seconds'),
-                               (100, '2 minutes'), (3600, '1 hour'), (9000, '2 hours')]:
+        for seconds, shown in [
+            (0.4, '0 seconds'),
+            (1.2, '1 second'),
+            (59, '59 seconds'),
+            (100, '2 minutes'),
+            (3600, '1 hour'),
+            (9000, '2 hours'),
+        ]:
             self.assertEqual(progress.duration(seconds), shown)
 
 

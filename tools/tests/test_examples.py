@@ -4,8 +4,8 @@ import os
 import re
 import unittest
 
-from crashfs_tools.trace import WRITTEN_VERSION
-from crashfs_tools.trace_read import read_trace
+from crashfs_tools.common.trace import WRITTEN_VERSION
+from crashfs_tools.common.trace_read import read_trace
 
 from .support import EXAMPLES, FAKE, InFolder, needs_sqlite, needs_strace
 
@@ -17,7 +17,6 @@ def example(*names: str) -> str:
 
 
 class Examples(InFolder):
-
     def lines(self, path):
         with open(path, encoding='utf-8') as file:
             return file.read().splitlines()
@@ -45,14 +44,13 @@ class Examples(InFolder):
             if '"unlink"' in line:
                 lines.append('{"op":"fsync","path":"/"}')
         trace = self.write('extra.trace', '\n'.join(lines) + '\n')
-        report, = self.check(trace, example('sqlite', 'recover.sh'), '--shard', '1/8')
-        whole, = self.lines(example('sqlite', 'extra.report'))
-        self.assertEqual(re.sub(', [0-9]+ tried by shard 1/8', '', report), whole)
+        (report,) = self.check(trace, example('sqlite', 'recover.sh'), '--shard', '1/8')
+        (whole,) = self.lines(example('sqlite', 'extra.report'))
+        self.assertEqual(re.sub('of the [0-9]+ tried by shard 1/8 ', '', report), whole)
 
 
 @needs_strace
 class Recorded(InFolder):
-
     def record(self, *command):
         ran = self.run_tool('crashfs-record', 'store', 'out.trace', '--', *command)
         self.assertEqual(ran.returncode, 0, ran.stderr)
@@ -65,8 +63,10 @@ class Recorded(InFolder):
         with open(example('config', 'config.trace'), encoding='utf-8') as file:
             wanted = read_trace(OWNERS.sub(NOBODY, file.read()))
         found = read_trace(OWNERS.sub(NOBODY, '\n'.join(self.record(example('config', 'save.py')))))
-        self.assertEqual((found.version, found.start, found.operations),
-                         (WRITTEN_VERSION, wanted.start, wanted.operations))
+        self.assertEqual(
+            (found.version, found.start, found.operations),
+            (WRITTEN_VERSION, wanted.start, wanted.operations),
+        )
 
     @needs_sqlite
     def test_a_session_of_sqlite_has_its_rows_told_and_its_journals_removed(self):

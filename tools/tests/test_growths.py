@@ -7,18 +7,32 @@ import unittest
 CRATES = pathlib.Path(__file__).parents[2] / 'crates'
 
 # the crates whose calls are run with each growth refused in its turn
-SWEPT = ['cs_tree', 'cs_overlay', 'cs_fids', 'cs_run', 'cs_journal', 'cs_registry', 'cs_session',
-         'cs_world', 'cs_shared_runs', 'cs_connection']
+SWEPT = [
+    'cs_tree',
+    'cs_overlay',
+    'cs_fids',
+    'cs_run',
+    'cs_journal',
+    'cs_registry',
+    'cs_session',
+    'cs_world',
+    'cs_shared_runs',
+    'cs_connection',
+]
 
 ROW = re.compile(r'"(cs_\w+) ([\w:]+)"')
 
 # what an error or an answer is called that can be out of memory
-MEMORY = re.compile(r'AllocError|RecordsFault|FidFault|PassFault|PublishFault|FindFault|ServeFault'
-                    r'|\bAnswer\b|\bReply\b|\bRMessage\b')
+MEMORY = re.compile(
+    r'AllocError|RecordsFault|FidFault|PassFault|PublishFault|FindFault|ServeFault'
+    r'|\bAnswer\b|\bReply\b|\bRMessage\b'
+)
 
 FUNCTION = re.compile(r'^( *)(pub )?fn (\w+)([^{;]*?)(?:\n *(?:requires|ensures)\b|\s*\{|;)', re.M)
 
-BLOCK = re.compile(r'^(?:impl(?:<[^{]*?>)? (?:(\w+)(?:<[^{]*?>)? for )?(\w+)|pub trait (\w+))', re.M)
+BLOCK = re.compile(
+    r'^(?:impl(?:<[^{]*?>)? (?:(\w+)(?:<[^{]*?>)? for )?(\w+)|pub trait (\w+))', re.M
+)
 
 NO_GROWTH = 'takes no memory: its faults are others'
 BY_STEP = 'a part of a step of a run, whose rows make it'
@@ -83,7 +97,7 @@ def blocks_of(text):
     """The parts of a file by the type whose methods they are; None for what stands in no block."""
     place, name, is_trait = 0, None, False
     for found in BLOCK.finditer(text):
-        yield name, is_trait, text[place:found.start()]
+        yield name, is_trait, text[place : found.start()]
         trait, of, _ = found.groups()
         place, name, is_trait = found.start(), of, bool(trait)
         end = text.find('\n}\n', place)

@@ -2,7 +2,7 @@
 
 import unittest
 
-from crashfs_tools.ignore import Ignore
+from crashfs_tools.recorder.ignore import Ignore
 
 # (the patterns, a path, whether it is left out)
 CASES = [
@@ -33,16 +33,27 @@ CASES = [
     (['d', '!d/a'], '/d/a', True),
     (['\\!x'], '/!x', True),
     (['a.b'], '/axb', False),
+    (['a[!x]b'], '/a/b', False),
+    (['x[a/b]y'], '/x/y', False),
+    (['[[:digit:]]x'], '/7x', True),
+    (['[[:digit:]]x'], '/ax', False),
+    (['[]a]x'], '/]x', True),
+    (['[a'], '/[a', True),
+    (['[]'], '/[]', True),
     ([], '/x', False),
 ]
 
 
 class Patterns(unittest.TestCase):
-
     def test_what_each_pattern_leaves_out(self):
         for globs, path, wanted in CASES:
             with self.subTest(f'{globs} {path}'):
                 self.assertEqual(Ignore(globs)(path), wanted)
+
+    def test_a_set_that_has_no_meaning_is_refused(self):
+        for glob in ('[z-a]', 'x[b-a]y'):
+            with self.subTest(glob), self.assertRaisesRegex(ValueError, 'is no set of letters'):
+                Ignore([glob])
 
 
 if __name__ == '__main__':

@@ -4,10 +4,9 @@ import pathlib
 import tempfile
 import unittest
 
-from inventory.completions import completions
-from inventory.pages import BEGIN, END, calls_shown, cell, page_with, pages
-from inventory.sources import (TOP, Word, contracts_in, crate_names, edits_of, examples_in,
-                               tools_tests, words_in)
+from inventory.command import older_files
+from inventory.pages import BEGIN, END, calls_shown, cell, page_with
+from inventory.sources import Word, contracts_in, examples_in, words_in
 
 TESTS = '''\
 //! Lists.
@@ -65,7 +64,6 @@ pub fn sorted(x: &List<u8>) -> bool
 
 
 class Inventories(unittest.TestCase):
-
     def written(self, text):
         folder = tempfile.TemporaryDirectory()
         self.addCleanup(folder.cleanup)
@@ -75,14 +73,22 @@ class Inventories(unittest.TestCase):
 
     def test_a_test_has_the_comment_above_it(self):
         found = [(it.name, it.sentence) for it in examples_in(self.written(TESTS))]
-        self.assertEqual(found, [
-            ('a_longer_list_is_longer', 'A list of two is longer than one of one.'),
-            ('nothing_is_said', '')])
+        self.assertEqual(
+            found,
+            [
+                ('a_longer_list_is_longer', 'A list of two is longer than one of one.'),
+                ('nothing_is_said', ''),
+            ],
+        )
 
     def test_a_word_in_a_module_with_parameters_is_found(self):
-        self.assertEqual(words_in(self.written(WORDS), 'Given'), [
-            Word('first_two', 'Given', 'the first two'),
-            Word('IsGiven', 'Given', 'What is given, and kept.')])
+        self.assertEqual(
+            words_in(self.written(WORDS), 'Given'),
+            [
+                Word('first_two', 'Given', 'the first two'),
+                Word('IsGiven', 'Given', 'What is given, and kept.'),
+            ],
+        )
 
     def test_contracts_are_those_of_public_calls_without_their_bodies(self):
         found = dict(contracts_in(self.written(CALLS)))
@@ -100,25 +106,11 @@ class Inventories(unittest.TestCase):
         with self.assertRaises(ValueError):
             page_with('no marks', 'new')
 
-    def test_what_is_made_is_as_the_sources_are(self):
-        for path, page in {**pages(), **completions()}.items():
-            same = path.read_text(encoding='utf-8') == page
-            self.assertTrue(same, f'{path.relative_to(TOP)}: run tools/inventories')
-
-    def test_each_file_of_these_tests_says_what_it_shows(self):
-        for it in tools_tests():
-            self.assertTrue(it.sentence, it.name)
-        self.assertIn('test_inventories.py', [it.name for it in tools_tests()])
-
-    def test_each_must_fail_edit_is_of_a_crate_of_the_list(self):
-        listed = [name for crate in crate_names() for name in edits_of(crate)]
-        files = [path.stem for path in TOP.glob('crates/*/must-fail/*.edit')]
-        self.assertEqual(sorted(listed), sorted(files))
-
-    def test_each_test_of_the_crates_has_its_sentence(self):
-        for path in TOP.glob('crates/*/src/**/*.rt'):
-            for example in examples_in(path):
-                self.assertTrue(example.sentence, f'{path.relative_to(TOP)}: {example.name}')
+    def test_a_file_that_is_older_than_its_text_is_found(self):
+        older, same = self.written('old'), self.written('same')
+        missing = older.with_name('missing')
+        found = older_files({older: 'new', same: 'same', missing: ''})
+        self.assertEqual(found, [older, missing])
 
 
 if __name__ == '__main__':

@@ -4,12 +4,13 @@ import os
 import subprocess
 import time
 import unittest
+from dataclasses import replace
 from unittest import mock
 
-from crashfs_tools import kept_tree
-from crashfs_tools.archive import Member
-from crashfs_tools.kept_tree import KeptTree
-from crashfs_tools.trying import has_much
+from crashfs_tools.checker.running.trying import has_large_trees
+from crashfs_tools.checker.states import kept_tree
+from crashfs_tools.checker.states.kept_tree import KeptTree
+from crashfs_tools.common.entry import Entry
 
 from .support import FAKE, InFolder
 from .test_check_command import InStore
@@ -17,23 +18,52 @@ from .test_check_command import InStore
 RIGHTS = '"owner":"u","group":"u","mode"'
 
 
-def file(text: str, mode: int = 0o644) -> Member:
-    return Member('', mode, 'u', 'g', text.encode())
+def file(text: str, mode: int = 0o644) -> Entry:
+    return Entry('u', 'g', mode, text.encode())
 
 
-def folder(mode: int = 0o755) -> Member:
-    return Member('', mode, 'u', 'g', None)
+def say_of(size: int) -> str:
+    """A line of so many bytes."""
+    line = '{"op":"say","text":""}'
+    return line[:-2] + 'x' * (size - len(line)) + line[-2:]
 
 
-TREE = {'': folder(), 'a': file('one'), 'b': file('two', 0o600), 'd': folder(0o750),
-        'd/c': file('three'), 'd/e': folder(), 'd/e/f': file('')}
+def folder(mode: int = 0o755) -> Entry:
+    return Entry('u', 'g', mode, None)
+
+
+TREE = {
+    '': folder(),
+    'a': file('one'),
+    'b': file('two', 0o600),
+    'd': folder(0o750),
+    'd/c': file('three'),
+    'd/e': folder(),
+    'd/e/f': file(''),
+}
 # What COMMAND may do, in a shell, to a tree that is to be kept.
 DEEDS = [
-    'echo more >> a', 'printf eno > a', 'printf xxx | dd of=b conv=notrunc 2>/dev/null',
-    'cp -p a old; printf xxx > a; touch -r old a; rm old', 'mv a b', 'ln a g', 'ln -f a ../outside',
-    'rm -r d', 'rm d/c; mkdir d/c', 'rm a; ln -s b a', 'chmod 000 a', 'chmod 000 d/e d',
-    'chmod 0 .', 'mkdir -p x/y; echo > x/y/z', 'mv d dd; mkdir d', 'chmod 4755 b',
-    'cp -p a n; mv n a', 'echo > "new\nline"', 'chmod 600 d/e; chmod 755 d/e', 'mkfifo p', 'true',
+    'echo more >> a',
+    'printf eno > a',
+    'printf xxx | dd of=b conv=notrunc 2>/dev/null',
+    'cp -p a old; printf xxx > a; touch -r old a; rm old',
+    'mv a b',
+    'ln a g',
+    'ln -f a ../outside',
+    'rm -r d',
+    'rm d/c; mkdir d/c',
+    'rm a; ln -s b a',
+    'chmod 000 a',
+    'chmod 000 d/e d',
+    'chmod 0 .',
+    'mkdir -p x/y; echo > x/y/z',
+    'mv d dd; mkdir d',
+    'chmod 4755 b',
+    'cp -p a n; mv n a',
+    'echo > "new\nline"',
+    'chmod 600 d/e; chmod 755 d/e',
+    'mkfifo p',
+    'true',
 ]
 STORE = """
 import mmap
@@ -54,8 +84,11 @@ def listing(directory: str):
             if os.path.isfile(full) and not os.path.islink(full):
                 with open(full, 'rb') as file_read:
                     data = file_read.read()
-            found[os.path.relpath(full, directory)] = status.st_mode, status.st_nlink * (
-                data is not None), data
+            found[os.path.relpath(full, directory)] = (
+                status.st_mode,
+                status.st_nlink * (data is not None),
+                data,
+            )
     return found
 
 
@@ -68,7 +101,6 @@ def fresh(tree, directory):
 
 
 class Kept(InFolder):
-
     def setUp(self):
         super().setUp()
         self.place = self.path('kept')
@@ -80,8 +112,11 @@ class Kept(InFolder):
         self.addCleanup(patched.stop)
 
     def times(self):
-        return {path: os.lstat(os.path.join(self.place, path)).st_ctime_ns for path in TREE
-                if TREE[path].data is not None}
+        return {
+            path: os.lstat(os.path.join(self.place, path)).st_ctime_ns
+            for path in TREE
+            if TREE[path].data is not None
+        }
 
     def test_whatever_was_done_to_it_the_next_tree_is_right(self):
         for has_times, large in ((True, 9), (False, 9), (True, 1), (False, 1)):
@@ -131,8 +166,9 @@ class Kept(InFolder):
         kept.begin()
         subprocess.run(['sh', '-c', 'echo >> a; rm b'], cwd=self.place, check=True)
         kept.bring(TREE)
-        self.assertEqual([path for path in before if self.times()[path] == before[path]],
-                         ['d/c', 'd/e/f'])
+        self.assertEqual(
+            [path for path in before if self.times()[path] == before[path]], ['d/c', 'd/e/f']
+        )
 
     def test_a_file_that_was_written_in_the_same_tick_is_written_again(self):
         kept = KeptTree(self.place)
@@ -149,25 +185,29 @@ class Kept(InFolder):
 
     def test_of_a_large_file_only_what_differs_is_written(self):
         whole = bytes(range(256)) * 1_024
-        tree = {'': folder(), 'a': file('')._replace(data=whole)}
+        tree = {'': folder(), 'a': replace(file(''), data=whole)}
         kept = KeptTree(self.place)
         kept.bring(tree)
         kept.has_times = True
         for deed, data, pieces in (
-                ('true', whole[:50_000] + b'changed' + whole[50_007:], [3]),
-                ('printf new | dd of=a conv=notrunc bs=1 seek=100000 2> ../told', whole, [3, 6]),
-                ('echo >> a', whole[:-1], [15]), ('cp a b; mv b a', whole, None),
-                (': > a', whole + b'x', list(range(17))), ('ln a b', whole, None)):
+            ('true', whole[:50_000] + b'changed' + whole[50_007:], [3]),
+            ('printf new | dd of=a conv=notrunc bs=1 seek=100000 2> ../told', whole, [3, 6]),
+            ('echo >> a', whole[:-1], [15]),
+            ('cp a b; mv b a', whole, list(range(16))),
+            (': > a', whole + b'x', list(range(17))),
+            ('ln a b', whole, []),
+        ):
             with self.subTest(deed), mock.patch('os.pwrite', side_effect=os.pwrite) as written:
                 node = os.stat(self.path('kept', 'a')).st_ino
                 kept.begin()
                 subprocess.run(['sh', '-c', deed], cwd=self.place, check=True)
-                kept.bring({**tree, 'a': tree['a']._replace(data=data)})
+                kept.bring({**tree, 'a': replace(tree['a'], data=data)})
                 with open(self.path('kept', 'a'), 'rb') as stream:
                     self.assertEqual(stream.read(), data)
-                self.assertEqual([call.args[2] >> 14 for call in written.mock_calls],
-                                 pieces or [])
-                if pieces is not None:
+                places = [call.args[2] >> 14 for call in written.mock_calls]
+                # A file that is made again is written whole.
+                self.assertEqual(places, pieces)
+                if 'mv' not in deed and 'ln' not in deed:
                     self.assertEqual(os.stat(self.path('kept', 'a')).st_ino, node)
                 self.assertEqual(os.listdir(self.place), ['a'])
         kept.remove()
@@ -175,8 +215,8 @@ class Kept(InFolder):
         kept.has_times = False
         kept.begin()
         with mock.patch('os.pwrite', side_effect=os.pwrite) as written:
-            kept.bring({**tree, 'a': tree['a']._replace(data=whole[::-1])})
-        self.assertEqual(written.mock_calls, [])
+            kept.bring({**tree, 'a': replace(tree['a'], data=whole[::-1])})
+        self.assertEqual(sum(len(call.args[1]) for call in written.mock_calls), len(whole))
         kept.remove()
 
     def test_a_large_file_with_a_new_attribute_is_made_again(self):
@@ -202,8 +242,14 @@ class Kept(InFolder):
         self.assertEqual([path for path in before if self.times()[path] != before[path]], ['a'])
 
     def test_one_tree_after_another(self):
-        trees = [TREE, {'': folder(0o700)}, {'': folder(), 'a': folder(0), 'a/x': file('y')},
-                 {**TREE, 'd/e': file('now a file')}, TREE, {**TREE, 'a': file('one', 0o400)}]
+        trees = [
+            TREE,
+            {'': folder(0o700)},
+            {'': folder(), 'a': folder(0), 'a/x': file('y')},
+            {**TREE, 'd/e': file('now a file')},
+            TREE,
+            {**TREE, 'a': file('one', 0o400)},
+        ]
         trees[3].pop('d/e/f')
         for large in (9, 1):
             self.patch('LARGE_BYTES', large)
@@ -219,25 +265,33 @@ class Checks(InStore):
     """The same states by what they change as by whole archives."""
 
     def trace_of_many(self, count: int) -> str:
-        start = ''.join(f'{{"start":"file","path":"/f{number}",{RIGHTS}:"644","text":"{number}"}}\n'
-                        for number in range(count))
-        return self.write('many.trace', f'{{"trace":3,"profile":"blocks","block":4096,{RIGHTS}:'
-                          f'"755"}}\n{start}'
-                          '{"op":"write","path":"/f1","offset":0,"text":"changed"}\n'
-                          f'{{"op":"mkdir","path":"/d",{RIGHTS}:"750"}}\n'
-                          '{"op":"rename","from":"/f2","to":"/d/g"}\n'
-                          '{"op":"unlink","path":"/f3"}\n'
-                          '{"op":"chmod","path":"/f4","mode":"600"}\n'
-                          '{"op":"say","text":"done"}\n')
+        start = ''.join(
+            f'{{"start":"file","path":"/f{number}",{RIGHTS}:"644","text":"{number}"}}\n'
+            for number in range(count)
+        )
+        return self.write(
+            'many.trace',
+            f'{{"trace":3,"profile":"blocks","block":4096,{RIGHTS}:'
+            f'"755"}}\n{start}'
+            '{"op":"write","path":"/f1","offset":0,"text":"changed"}\n'
+            f'{{"op":"mkdir","path":"/d",{RIGHTS}:"750"}}\n'
+            '{"op":"rename","from":"/f2","to":"/d/g"}\n'
+            '{"op":"unlink","path":"/f3"}\n'
+            '{"op":"chmod","path":"/f4","mode":"600"}\n'
+            '{"op":"say","text":"done"}\n',
+        )
 
     def states(self, program: str, trace: str, script: str):
         """What COMMAND found in each state."""
         log = self.path('log')
         os.makedirs(log)
-        listed = (f'find . -printf "%P %y %m %s %n\\n" | sort > {log}/$CRASHFS_STATE; find . -type f '
-                  f'| sort | xargs cat >> {log}/$CRASHFS_STATE; {script}')
-        ran = self.run_tool('crashfs-check', '--crashfs', program, '--jobs', '2', trace, '--',
-                            'sh', '-c', listed)
+        listed = (
+            f'find . -printf "%P %y %m %s %n\\n" | sort > {log}/$CRASHFS_STATE; find . -type f '
+            f'| sort | xargs cat >> {log}/$CRASHFS_STATE; {script}'
+        )
+        ran = self.run_tool(
+            'crashfs-check', '--crashfs', program, '--jobs', '2', trace, '--', 'sh', '-c', listed
+        )
         self.assertEqual((ran.returncode, ran.stderr), (0, ''), ran.stdout)
         found = {name: self.read(os.path.join('log', name)) for name in os.listdir(log)}
         os.rename(log, self.path(f'log-{len(os.listdir(self.folder))}'))
@@ -246,16 +300,22 @@ class Checks(InStore):
 
     def test_states_are_those_of_whole_archives(self):
         trace = self.trace_of_many(40)
-        whole = self.write('whole', f'#!/bin/sh\ntest "$2" = --help && exit 2\n{FAKE} "$@"\n',
-                           0o755)
+        whole = self.write(
+            'whole', f'#!/bin/sh\ntest "$2" = --help && exit 2\n{FAKE} "$@"\n', 0o755
+        )
         # No archive of many whole states is asked for.
-        only = self.write('only', '#!/bin/sh\nfor last; do :; done\ncase "$last" in --*) ;; '
-                          f'*,*|*[0-9]-[0-9]*) exit 9;; esac\n{FAKE} "$@"\n', 0o755)
+        only = self.write(
+            'only',
+            '#!/bin/sh\nfor last; do :; done\ncase "$last" in --*) ;; '
+            f'*,*|*[0-9]-[0-9]*) exit 9;; esac\n{FAKE} "$@"\n',
+            0o755,
+        )
         wanted = self.states(whole, trace, 'true')
         self.assertGreater(len(wanted), 10)
-        for script in ('echo x >> f1; rm f9; mv f5 f6; chmod 0 .',
-                       f'(setsid sh -c "sleep 0.1; echo x >> f8; sleep {self.long}" &) '
-                       '> /dev/null 2>&1'):
+        for script in (
+            'echo x >> f1; rm f9; mv f5 f6; chmod 0 .',
+            f'(setsid sh -c "sleep 0.1; echo x >> f8; sleep {self.long}" &) ' '> /dev/null 2>&1',
+        ):
             self.assertEqual(self.states(only, trace, script), wanted)
         self.assert_ended()
 
@@ -263,14 +323,20 @@ class Checks(InStore):
         start = '{"start":"dir","path":"/d"}\n'
         grown = '{"op":"truncate","path":"/f","length":%d}\n'
         for text, expected in (
-                (start * 31, False), (start * 32, True), (grown % 1_000_000, False),
-                (grown % 500_000 * 3, True), (grown % 1_048_576, True), ('x' * 1_048_575, False),
-                ('x' * 524_288 + '\n' + 'y' * 524_288, True)):
-            self.assertEqual(has_much(self.write('much.trace', text)), expected, text[:99])
+            (start * 31, False),
+            (start * 32, True),
+            (grown % 1_000_000, False),
+            (grown % 500_000 * 3, True),
+            (grown % 1_048_576, True),
+            (say_of(1_048_575), False),
+            (say_of(524_288) + '\n' + say_of(524_288), True),
+        ):
+            self.assertEqual(has_large_trees(self.write('much.trace', text)), expected, text[:99])
 
     def test_a_small_tree_is_laid_out_whole(self):
-        no_changes = self.write('none', f'#!/bin/sh\ncase "$*" in *--changes*) exit 9;; esac\n'
-                                f'{FAKE} "$@"\n', 0o755)
+        no_changes = self.write(
+            'none', f'#!/bin/sh\ncase "$*" in *--changes*) exit 9;; esac\n' f'{FAKE} "$@"\n', 0o755
+        )
         ran = self.run_tool('crashfs-check', '--crashfs', no_changes, self.good, '--', 'true')
         self.assertEqual(ran.returncode, 0, ran.stderr)
 

@@ -3,22 +3,28 @@
 import sys
 import unittest
 
-from crashfs_tools import arguments
-from crashfs_tools.directory import Scan
-from crashfs_tools.pipe_lines import PipeLines
-from crashfs_tools.session import Beginning, Session
-from crashfs_tools.strace_log import LogError, read_log
-from crashfs_tools.trace import Header
-from crashfs_tools.translate import Translator
+from crashfs_tools.common.trace import Header
+from crashfs_tools.recorder import arguments
+from crashfs_tools.recorder.arguments import LogError
+from crashfs_tools.recorder.directory import Scan
+from crashfs_tools.recorder.log_filter import LogFilter
+from crashfs_tools.recorder.pipe_lines import PipeLines
+from crashfs_tools.recorder.live_files import LiveFiles, StartConditions
+from crashfs_tools.recorder.recording import Recording, TraceSettings
+from crashfs_tools.recorder.strace_log import read_log
+from crashfs_tools.recorder.translate import Translator
 
-from .support import numbers
+from .support import as_strace, numbers
 
 LARGE = 'ab' * 40_000
 
 
-def new_session():
-    return Session(Beginning('/d', 0o022, 'u', 'u'), Scan(Header('u', 'u', 0o755)),
-                   lambda path: False)
+def new_files():
+    header = Header('u', 'u', 0o755)
+    recording = Recording(header, TraceSettings())
+    return LiveFiles(
+        recording, StartConditions('/d', 0o022, 'u', 'u'), Scan(header), lambda path: False
+    )
 
 
 def written(word, name='pwrite64'):
@@ -27,21 +33,23 @@ def written(word, name='pwrite64'):
 
 
 class Words(unittest.TestCase):
-
     def test_arguments_end_at_commas_outside_of_texts_and_brackets(self):
         for text, words in (
-                ('3</d>, "a,b)", [{x="(", y=1}, 2], A|B', ['3</d>', '"a,b)"', '[{x="(", y=1}, 2]',
-                                                           'A|B']),
-                ('"a"..., 9', ['"a"...', '9']),
-                ('"a, 9', ['"a, 9']),
-                ('', [''])):
+            (
+                '3</d>, "a,b)", [{x="(", y=1}, 2], A|B',
+                ['3</d>', '"a,b)"', '[{x="(", y=1}, 2]', 'A|B'],
+            ),
+            ('"a"..., 9', ['"a"...', '9']),
+            ('"a, 9', ['"a, 9']),
+            ('', ['']),
+        ):
             self.assertEqual(arguments.split(text), words)
 
     def test_only_texts_by_numbers_are_read(self):
         self.assertEqual(arguments.from_numbers('\\x61\\x00\\xff'), b'a\0\xff')
         self.assertEqual(arguments.from_numbers(''), b'')
         for text in ('\\x6', '\\x61\\x', '61', 'abcd', '/x61', '\\y61', '\\x6g', '\\x6é'):
-            with self.assertRaises(ValueError, msg=text):
+            with self.assertRaises(LogError, msg=text):
                 arguments.from_numbers(text)
 
     def test_what_is_written_is_kept_in_the_room_that_it_needs(self):
@@ -50,8 +58,9 @@ class Words(unittest.TestCase):
             word = written(f'"{piece}"', name)
             self.assertEqual(arguments.data(word), LARGE.encode())
             self.assertLess(sys.getsizeof(word), len(LARGE) + 200)
-        vector = written(f'[{{iov_base="{piece}", iov_len=80000}}, {{iov_base="{numbers("z")}"}}]',
-                         'writev')
+        vector = written(
+            f'[{{iov_base="{piece}", iov_len=80000}}, {{iov_base="{numbers("z")}"}}]', 'writev'
+        )
         self.assertEqual(arguments.vector(vector), LARGE.encode() + b'z')
         self.assertLess(sys.getsizeof(vector), len(LARGE) + 200)
 
@@ -63,27 +72,77 @@ class Words(unittest.TestCase):
     def test_a_text_that_is_not_by_numbers_is_reported(self):
         log = read_log(['7 write(1<pipe:[7]>, "abc", 3) = 3\n'])
         with self.assertRaises(LogError):
-            Translator(new_session(), log).run()
+            Translator(new_files(), log).run()
 
     def test_the_trace_has_what_the_log_had(self):
         file = f'3<{numbers("/d/f")}>'
-        log = read_log([f'7 openat(AT_FDCWD<{numbers("/d")}>, "{numbers("f")}", O_RDWR|O_CREAT, '
-                        f'0666) = {file}\n',
-                        f'7 pwrite64({file}, "{numbers(LARGE)}", 80000, 0) = 80000\n'])
-        session = new_session()
-        Translator(session, log).run()
-        self.assertEqual(session.trace.operations[1].data, LARGE.encode())
+        log = read_log(
+            [
+                f'7 openat(AT_FDCWD<{numbers("/d")}>, "{numbers("f")}", O_RDWR|O_CREAT, '
+                f'0666) = {file}\n',
+                f'7 pwrite64({file}, "{numbers(LARGE)}", 80000, 0) = 80000\n',
+            ]
+        )
+        files = new_files()
+        Translator(files, log).run()
+        self.assertEqual(files.recording.trace.operations[1].data, LARGE.encode())
         self.assertEqual([len(call.words) for call in log.calls], [4, 0])
 
 
-class Lines(unittest.TestCase):
+class Needless(unittest.TestCase):
+    """Calls on files elsewhere, which aren't read."""
 
+    def read(self, lines, numbers=()):
+        """The names of the calls that are read."""
+        log = read_log(map(as_strace, lines), LogFilter(b'/d', numbers))
+        return [call.name for call in log.calls]
+
+    def test_calls_on_files_elsewhere_are_not_read(self):
+        elsewhere = [
+            '7 read(0x5, 0x7ffc, 0x2) = 0x2',
+            '7 lseek(5</etc/x>, 0, SEEK_SET) = 0',
+            '7 write(5</etc/x>, "a", 1) = 1',
+            '7 pwrite64(5</etc/x>, "a", 1 <unfinished ...>',
+            '7 <... pwrite64 resumed>, 0) = 1',
+            '7 fsync(5</etc/x>) = 0',
+            '7 close(5</etc/x>) = 0',
+            '7 mmap(NULL, 9, PROT_READ, MAP_PRIVATE, 5</etc/x>, 0) = 0x7f00',
+            '7 mprotect(0x7f00, 4096, PROT_READ) = 0',
+        ]
+        self.assertEqual(self.read(elsewhere), [])
+        here = ['7 openat(AT_FDCWD</d>, "f", O_RDWR) = 5</d/f>']
+        self.assertEqual(self.read(here + elsewhere[:1]), ['openat', 'read'])
+        mapped = ['7 mmap(NULL, 9, PROT_READ, MAP_SHARED, 4</d/f>, 0) = 0x7f00']
+        self.assertEqual(self.read(mapped + elsewhere[-1:]), ['mmap', 'mprotect'])
+
+    def test_descriptors_that_may_count_are_read(self):
+        read = '7 read(0x9, 0x7ffc, 0x2) = 0x2'
+        for line in [
+            '7 dup2(1<pipe:[7]>, 9) = 9<pipe:[7]>',
+            '7 fcntl(2</etc/x>, F_DUPFD, 9) = 9</etc/x>',
+            '7 openat(AT_FDCWD</>, "/proc/self/fd/1", O_WRONLY) = 9</etc/x>',
+            '7 open("/dev/stdout", O_WRONLY) = 9</dev/pts/0>',
+            '7 dup(5</d/f>) = 9',
+        ]:
+            self.assertEqual(len(self.read([line, read])), 2, line)
+        self.assertEqual(self.read([read], [9]), ['read'])
+        self.assertEqual(self.read(['7 write(9<pipe:[3]>, "a", 1) = 1']), ['write'])
+        self.assertEqual(self.read(['7 dup2(5</etc/x>, 9) = 9</etc/x>', read]), ['dup2'])
+
+    def test_the_frames_of_a_call_that_is_not_read_are_not_another_s(self):
+        frames = [' > /opt/store(put+0x24) [0x119d]']
+        lines = ['7 openat(AT_FDCWD</d>, "f", O_RDWR) = 5</d/f>', '7 fsync(6</etc/x>) = 0']
+        (call,) = read_log(map(as_strace, lines + frames), LogFilter(b'/d')).calls
+        self.assertEqual(call.frames, [])
+
+
+class Lines(unittest.TestCase):
     def test_lines_come_whole_however_they_are_cut(self):
         text = b'a\n\n' + b'b' * 9 + b'\nc\nd'
         for size in range(1, len(text) + 1):
             lines = PipeLines(-1)
             for at in range(0, len(text), size):
-                lines.take(text[at:at + size])
+                lines.take(text[at : at + size])
             lines.take(b'')
             self.assertEqual(list(lines.ready), ['a\n', '\n', 'b' * 9 + '\n', 'c\n', 'd'])
             self.assertTrue(lines.has_ended)
@@ -95,11 +154,17 @@ class Lines(unittest.TestCase):
         self.assertEqual(list(lines.ready), ['a\n'])
 
     def test_a_call_that_is_cut_in_two_is_one(self):
-        log = read_log(['7 read(0x3 <unfinished ...>\n', '8 close(4) = 0\n',
-                        '7 <... read resumed>, 0x7ffc, 0x2) = 0x2\n'])
-        self.assertEqual([(call.process, call.name, call.words, call.begin, call.end)
-                          for call in log.calls],
-                         [(8, 'close', ['4'], 2, 2), (7, 'read', ['0x3', '0x7ffc', '0x2'], 1, 3)])
+        log = read_log(
+            [
+                '7 read(0x3 <unfinished ...>\n',
+                '8 close(4) = 0\n',
+                '7 <... read resumed>, 0x7ffc, 0x2) = 0x2\n',
+            ]
+        )
+        self.assertEqual(
+            [(call.process, call.name, call.words, call.begin, call.end) for call in log.calls],
+            [(8, 'close', ['4'], 2, 2), (7, 'read', ['0x3', '0x7ffc', '0x2'], 1, 3)],
+        )
 
 
 if __name__ == '__main__':

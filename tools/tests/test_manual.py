@@ -10,10 +10,8 @@ from pathlib import Path
 from typing import Dict, List, Optional, Set
 
 from crashfs_tools import VERSION
-from crashfs_tools.program import Crashfs
-
-from inventory.command_lines import (TOOLS, Option, commands_of_program,
-                                     options_of_tool)
+from crashfs_tools.common.program import Crashfs
+from inventory.command_lines import TOOLS, Option, commands_of_program, options_of_tool
 
 from .support import TOOLS as FOLDER
 from .support import InFolder, needed
@@ -54,7 +52,6 @@ def values_of(options: List[Option]) -> Options:
 
 
 class Manual(unittest.TestCase):
-
     def test_the_tools_have_their_options(self) -> None:
         for command in TOOLS:
             page, known = described(f'{command}.1'), values_of(options_of_tool(command))
@@ -75,15 +72,18 @@ class Manual(unittest.TestCase):
     def test_the_synopsis_has_the_options_of_each_command(self) -> None:
         lines = section('crashfs.1', 'SYNOPSIS').split('.br\n')
         written = {line.split()[2]: set(re.findall(r'--[\w-]+', line)) for line in lines}
-        self.assertEqual(written,
-                         {name: set(values_of(options))
-                          for name, options in commands_of_program().items()})
+        self.assertEqual(
+            written,
+            {name: set(values_of(options)) for name, options in commands_of_program().items()},
+        )
 
     def test_the_trace_has_the_lines_of_the_formats(self) -> None:
         formats = (DOCS / 'FORMATS.md').read_text('utf-8').split('### Lines')[1].split('\n### ')[0]
         page = section('crashfs-trace.5', 'LINES') + section('crashfs-trace.5', 'VERSIONS')
-        self.assertEqual(sorted(re.findall(r'^\{.*\}$', page, re.M)),
-                         sorted(re.findall(r'^\{.*\}$', formats, re.M)))
+        self.assertEqual(
+            sorted(re.findall(r'^\{.*\}$', page, re.M)),
+            sorted(re.findall(r'^\{.*\}$', formats, re.M)),
+        )
 
     def test_pages_name_their_version(self) -> None:
         program = re.search(r'VERSION: &str = "([\d.]+) ', PROGRAM_VERSION)
@@ -97,14 +97,17 @@ class Manual(unittest.TestCase):
     @needs_groff
     def test_pages_have_no_faults(self) -> None:
         for page in sorted(PAGES.iterdir()):
-            ran = subprocess.run(['groff', '-man', '-ww', '-Tascii', str(page)], check=True,
-                                 capture_output=True, text=True)
+            ran = subprocess.run(
+                ['groff', '-man', '-ww', '-Tascii', str(page)],
+                check=True,
+                capture_output=True,
+                text=True,
+            )
             self.assertEqual(ran.stderr, '', page.name)
             self.assertIn('SEE ALSO', re.sub(r'.\x08|\x1b\[\d*m', '', ran.stdout))
 
 
 class Example(InFolder):
-
     def test_the_trace_of_the_page_is_one(self) -> None:
         text = section('crashfs-trace.5', 'EXAMPLES').replace('\\en', '\\n')
         trace = self.write('t', '\n'.join(re.findall(r'^\{.*\}$', text, re.M)))
@@ -113,35 +116,40 @@ class Example(InFolder):
 
 @needs_bash
 class Completions(unittest.TestCase):
-
     def complete(self, *words: str) -> List[str]:
         """What the last of these words may become."""
         command = words[0]
-        script = ('set -eu; . "$0"; COMP_WORDS=("$@"); COMP_CWORD=$(($# - 1)); '
-                  f'_{command.replace("-", "_")} || true; printf "%s\\n" "${{COMPREPLY[@]}}"')
+        script = (
+            'set -eu; . "$0"; COMP_WORDS=("$@"); COMP_CWORD=$(($# - 1)); '
+            f'_{command.replace("-", "_")} || true; printf "%s\\n" "${{COMPREPLY[@]}}"'
+        )
         file: Path = COMPLETIONS / f'{command}.bash'
-        ran = subprocess.run(['bash', '-c', script, str(file), *words], check=True,
-                             capture_output=True, text=True)
+        ran = subprocess.run(
+            ['bash', '-c', script, str(file), *words], check=True, capture_output=True, text=True
+        )
         self.assertEqual(ran.stderr, '')
         return ran.stdout.split()
 
     def test_the_tools_have_their_options(self) -> None:
         for command in TOOLS:
-            self.assertEqual(sorted(self.complete(command, '-')),
-                             sorted(values_of(options_of_tool(command))))
+            self.assertEqual(
+                sorted(self.complete(command, '-')), sorted(values_of(options_of_tool(command)))
+            )
 
     def test_the_program_has_its_options(self) -> None:
         for command, options in commands_of_program().items():
-            self.assertEqual(set(self.complete('crashfs', command, '-')),
-                             {*HELP, *values_of(options)})
+            self.assertEqual(
+                set(self.complete('crashfs', command, '-')), {*HELP, *values_of(options)}
+            )
         first: Set[str] = {*commands_of_program(), 'help', *HELP, '-V', '--version'}
         self.assertEqual(set(self.complete('crashfs', '')), first)
 
     def test_values_that_are_known_are_offered(self) -> None:
         for option in options_of_tool('crashfs-record'):
             if option.choices:
-                self.assertEqual(self.complete('crashfs-record', option.names[0], ''),
-                                 list(option.choices))
+                self.assertEqual(
+                    self.complete('crashfs-record', option.names[0], ''), list(option.choices)
+                )
         self.assertEqual(self.complete('crashfs', 'serve', '--client', 'l'), ['linux'])
 
     def test_nothing_is_offered_after_the_two_dashes(self) -> None:

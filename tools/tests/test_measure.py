@@ -1,4 +1,4 @@
-"""The command `measure`, over programs that the tests make. Nothing is built, and nothing is timed."""
+"""The command `measure`, over programs that the tests make. Nothing is built or timed."""
 
 from __future__ import annotations
 
@@ -57,25 +57,31 @@ class Measure(InFolder):
     def test_rows_of_built_programs_are_printed_and_the_others_named(self) -> None:
         self.printing('first_bench', ROWS)
         told = self.measure()
-        self.assertEqual(told.stdout.splitlines(), [
-            '== first_bench', *ROWS.splitlines(),
-            '== second_bench: not built: second_bench',
-            '== serve_bench: not built: serve_bench, crashfs',
-            '== memory: not built: crashfs',
-            '== states: not built: crashfs',
-            'past: first_bench: kept: 41.200 MB, past (at most 40)',
-            '1 rows within, 1 past; not built: second_bench, serve_bench, memory, '
-            'states',
-        ])
+        self.assertEqual(
+            told.stdout.splitlines(),
+            [
+                '== first_bench',
+                *ROWS.splitlines(),
+                '== second_bench: not built: second_bench',
+                '== serve_bench: not built: serve_bench, crashfs',
+                '== memory: not built: crashfs',
+                '== states: not built: crashfs',
+                'past: first_bench: kept: 41.200 MB, past (at most 40)',
+                '1 rows within, 1 past; not built: second_bench, serve_bench, memory, ' 'states',
+            ],
+        )
         self.assertEqual((told.returncode, told.stderr), (1, ''))
 
     def test_a_program_that_fails_is_named(self) -> None:
         self.printing('second_bench', ROWS.splitlines()[0] + '\n', status=3)
         told = self.measure('second_bench')
-        self.assertEqual(told.stdout.splitlines()[-2:], [
-            'second_bench failed: status 3',
-            '1 rows within, 0 past; failed: second_bench',
-        ])
+        self.assertEqual(
+            told.stdout.splitlines()[-2:],
+            [
+                'second_bench failed: status 3',
+                '1 rows within, 0 past; failed: second_bench',
+            ],
+        )
         self.assertEqual(told.returncode, 1)
 
     def test_where_all_rows_are_within_the_status_is_zero(self) -> None:
@@ -85,17 +91,23 @@ class Measure(InFolder):
     def test_a_name_that_is_no_benchmark_is_refused(self) -> None:
         told = self.measure('cs_bench')
         self.assertEqual(told.returncode, 2)
-        self.assertIn('cs_bench is none of first_bench, second_bench, serve_bench, memory, '
-                      'states\n', told.stderr)
+        self.assertIn(
+            'cs_bench is none of first_bench, second_bench, serve_bench, memory, ' 'states\n',
+            told.stderr,
+        )
 
     def test_clients_get_the_served_address_and_those_of_three_bare_servers(self) -> None:
         self.program('crashfs', ['#!/bin/sh', f'exec {FAKE} "$@"'])
-        self.program('serve_bench', ['#!/bin/sh', f'test $# = 3 && exec {FAKE} "$@"',
-                                     'echo "$# words, $5 clients, $6"'])
+        self.program(
+            'serve_bench',
+            ['#!/bin/sh', f'test $# = 3 && exec {FAKE} "$@"', 'echo "$# words, $5 clients, $6"'],
+        )
         told = self.measure('serve_bench')
-        self.assertEqual([line for line in told.stdout.splitlines() if 'words' in line],
-                         ['6 words, 8 clients, own', '6 words, 8 clients, one',
-                          '6 words, 64 clients, own'], told.stdout + told.stderr)
+        self.assertEqual(
+            [line for line in told.stdout.splitlines() if 'words' in line],
+            ['6 words, 8 clients, own', '6 words, 8 clients, one', '6 words, 64 clients, own'],
+            told.stdout + told.stderr,
+        )
         self.assertEqual(told.returncode, 0)
 
     def test_a_server_that_does_not_listen_is_told(self) -> None:
@@ -106,12 +118,13 @@ class Measure(InFolder):
 
 
 class States(Measure):
-
     @needed(shutil.which('cc') is not None, 'cc is not there')
     def test_states_are_measured_beside_a_c_program(self) -> None:
         self.program('crashfs', ['#!/bin/sh', f'exec {READING} "$@"'])
         told = self.measure('states').stdout
-        self.assertRegex(told, r'\n625 states, 295 of them tried, by \d+ jobs: [\d.]+ s, \d+ states')
+        self.assertRegex(
+            told, r'\n625 states, 295 of them tried, by \d+ jobs: [\d.]+ s, \d+ states'
+        )
         self.assertRegex(told, r'\nthe C program by one: \d+ a second\n')
         self.assertRegex(told, r'\na state beside the C program: [\d.]+ times, (within|past) ')
 
@@ -147,9 +160,18 @@ class Memory(InFolder):
 class Addresses(unittest.TestCase):
     def test_no_two_have_the_same_host(self) -> None:
         hosts = [free_address().partition(':')[0] for _ in range(9)]
-        ran = subprocess.run([sys.executable, '-c', 'from measuring.servers import free_address\n'
-                              'for _ in range(9): print(free_address().partition(":")[0])'],
-                             cwd=TOOLS, check=True, capture_output=True, text=True)
+        ran = subprocess.run(
+            [
+                sys.executable,
+                '-c',
+                'from measuring.servers import free_address\n'
+                'for _ in range(9): print(free_address().partition(":")[0])',
+            ],
+            cwd=TOOLS,
+            check=True,
+            capture_output=True,
+            text=True,
+        )
         self.assertEqual(len({*hosts, *ran.stdout.split()}), 18, ran.stdout)
 
 

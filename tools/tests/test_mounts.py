@@ -8,8 +8,8 @@ import re
 import signal
 import unittest
 
-from crashfs_tools.address import Address
-from crashfs_tools.check_options import address
+from crashfs_tools.checker.address import Address
+from crashfs_tools.checker.options import address
 
 from .support import FAKE, PATIENCE, PYTHON_FOLDER
 from .test_check_command import InStore
@@ -38,7 +38,6 @@ NEEDS = " (--serve needs root, the kernel's 9p, and a server with --client linux
 
 
 class InMounts(InStore):
-
     def setUp(self):
         super().setUp()
         os.mkdir(self.path('bin'))
@@ -48,8 +47,17 @@ class InMounts(InStore):
         self.search = f"{self.path('bin')}:{PYTHON_FOLDER}:{os.environ['PATH']}"
 
     def check(self, *words, command=None):
-        return self.run_tool('crashfs-check', '--crashfs', FAKE, '--serve', '127.0.0.1:5640',
-                             *words, '--', *(command or ['./recover.sh']), path=self.search)
+        return self.run_tool(
+            'crashfs-check',
+            '--crashfs',
+            FAKE,
+            '--serve',
+            '127.0.0.1:5640',
+            *words,
+            '--',
+            *(command or ['./recover.sh']),
+            path=self.search,
+        )
 
     def mount_trees(self):
         tree = TREE.format(fake=FAKE, trace=self.bad)
@@ -62,14 +70,15 @@ class InMounts(InStore):
 
 
 class Mounts(InMounts):
-
     def test_the_report_is_that_of_a_check_without_mounts(self):
         self.mount_trees()
         mounted = self.check(self.bad)
         # A server has the prefixes and holes of its own plan, so that no advice is tried.
         plain = InStore.check(self, '--quick', self.bad)
-        self.assertEqual((mounted.returncode, mounted.stdout, mounted.stderr),
-                         (1, re.sub(' *tried: .*\n', '', plain.stdout), ''))
+        self.assertEqual(
+            (mounted.returncode, mounted.stdout, mounted.stderr),
+            (1, re.sub(' *tried: .*\n', '', plain.stdout), ''),
+        )
         self.assert_nothing_left()
 
     def test_each_state_is_mounted_once_and_unmounted(self):
@@ -85,9 +94,12 @@ class Mounts(InMounts):
             self.check('--prefixes', *options, self.bad, command=['true'])
             line = self.read('mounts.log').splitlines()[0]
             os.unlink(self.log)
-            self.assertRegex(line, 'mount -t 9p -o trans=tcp,port=5640,version=9p2000,'
-                             f'uname={uname},aname=[0-9]+/check-[0-9a-f]{{16}},dfltuid={os.getuid()},'
-                             f'dfltgid={os.getgid()},cache=mmap 127.0.0.1 /.*/mounts/[0-9]+$')
+            self.assertRegex(
+                line,
+                'mount -t 9p -o trans=tcp,port=5640,version=9p2000,'
+                f'uname={uname},aname=[0-9]+/check-[0-9a-f]{{16}},dfltuid={os.getuid()},'
+                f'dfltgid={os.getgid()},cache=mmap 127.0.0.1 /.*/mounts/[0-9]+$',
+            )
             runs.add(line.partition('check-')[2].partition(',')[0])
         self.assertEqual(len(runs), 2)
 
@@ -102,9 +114,10 @@ class Mounts(InMounts):
         self.assertIn('state 20, hole 8 11, says 1: bad: lost: a=2 was told\n', ran.stdout)
         self.assertEqual(len(self.logged('mount')), 1)
         self.assertEqual(self.logged('mount'), self.logged('umount'))
-        folder, = os.listdir(self.temporary)
-        self.assertEqual(sorted(os.listdir(os.path.join(self.temporary, folder, '20'))),
-                         ['log', 'table', 'tmp'])
+        (folder,) = os.listdir(self.temporary)
+        self.assertEqual(
+            sorted(os.listdir(os.path.join(self.temporary, folder, '20'))), ['log', 'table', 'tmp']
+        )
 
     def test_what_is_in_use_is_unmounted_lazily(self):
         umount = self.read('bin/umount').replace('\nexec', '\ntest $1 = -l || exit 32\nexec')
@@ -119,16 +132,20 @@ class Mounts(InMounts):
         self.write('bin/mount', NO_MOUNT, 0o755)
         ran = self.check(self.bad)
         self.assertEqual((ran.returncode, ran.stdout), (2, ''))
-        self.assertRegex(ran.stderr, r"^crashfs-check: no mount of \d+/check-[0-9a-f]{16} from "
-                                     r"127\.0\.0\.1:5640: unknown filesystem type '9p' \(")
+        self.assertRegex(
+            ran.stderr,
+            r"^crashfs-check: no mount of \d+/check-[0-9a-f]{16} from "
+            r"127\.0\.0\.1:5640: unknown filesystem type '9p' \(",
+        )
         self.assertTrue(ran.stderr.endswith(NEEDS), ran.stderr)
         self.assertEqual(ran.stderr.count('\n'), 1)
         self.assert_nothing_left()
 
     def test_bad_input_is_told_in_one_line(self):
         for told, *words in [
-                ('--serve a..b: ', '--serve', 'a..b:5640', self.good),
-                ('--uname a,b: no mount can', '--uname', 'a,b', self.good)]:
+            ('--serve a..b: ', '--serve', 'a..b:5640', self.good),
+            ('--uname a,b: no mount can', '--uname', 'a,b', self.good),
+        ]:
             ran = self.check(*words)
             self.assertEqual((ran.returncode, ran.stdout), (2, ''))
             self.assertTrue(ran.stderr.startswith(f'crashfs-check: {told}'), ran.stderr)
@@ -145,11 +162,22 @@ class Mounts(InMounts):
 
 
 class Stops(InMounts):
-
     def begin(self):
-        child = self.start('crashfs-check', '--crashfs', FAKE, '--serve', '127.0.0.1:5640',
-                           '--jobs', '2', self.bad, '--', 'sh', '-c',
-                           f'echo > {self.path("begun")}; sleep {self.long}', path=self.search)
+        child = self.start(
+            'crashfs-check',
+            '--crashfs',
+            FAKE,
+            '--serve',
+            '127.0.0.1:5640',
+            '--jobs',
+            '2',
+            self.bad,
+            '--',
+            'sh',
+            '-c',
+            f'echo > {self.path("begun")}; sleep {self.long}',
+            path=self.search,
+        )
         self.wait_until(lambda: os.path.exists(self.path('begun')), 'a command has begun')
         return child
 
@@ -163,7 +191,7 @@ class Stops(InMounts):
         child.send_signal(signal.SIGINT)
         out, err = child.communicate(timeout=PATIENCE)
         self.assertEqual(child.returncode, 130)
-        self.assertIn(', 0 tried (stopped by SIGINT): none fails', out)
+        self.assertIn(': nothing was tried (stopped by SIGINT)\n', out)
         self.assertEqual(err, 'crashfs-check: stopped by SIGINT\n')
         self.assert_unmounted()
         self.assert_nothing_left()
@@ -173,7 +201,6 @@ class Stops(InMounts):
         child.kill()
         child.communicate(timeout=PATIENCE)
         self.wait_until(lambda: os.listdir(self.temporary) == [], 'nothing left')
-        self.assertIn('umount -l ', self.read('mounts.log'))
         self.assert_unmounted()
 
 

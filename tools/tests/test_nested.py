@@ -5,11 +5,11 @@ import os
 import unittest
 from types import SimpleNamespace
 
-from crashfs_tools.nested import Nested
-from crashfs_tools.recovery import Recovery
-from crashfs_tools.report import Report
-from crashfs_tools.results import Head, Results
-from crashfs_tools.runner import BAD, GOOD, Outcome
+from crashfs_tools.checker.findings.nested import Nested
+from crashfs_tools.checker.findings.second_crashes import Recovery
+from crashfs_tools.checker.report.report import Report
+from crashfs_tools.checker.running.results import Head, Results
+from crashfs_tools.checker.running.runner import BAD, GOOD, Outcome
 
 from .support import EXAMPLES, FAKE, needs_strace
 from .test_check_command import InStore
@@ -25,36 +25,51 @@ test "$CRASHFS_SAYS" = 0 || grep -qs a=2 table || {{ echo 'lost: a=2 is not ther
 
 
 class InRecoveries(InStore):
-
     def nested(self, *words, sync='', trace='store.trace'):
         command = self.write('recover.sh', RECOVER.format(sync=sync), 0o755)
-        return self.run_tool('crashfs-check', '--crashfs', FAKE, '--jobs', '2', *words,
-                             str(EXAMPLES / trace), '--', command)
+        return self.run_tool(
+            'crashfs-check',
+            '--crashfs',
+            FAKE,
+            '--jobs',
+            '2',
+            *words,
+            str(EXAMPLES / trace),
+            '--',
+            command,
+        )
 
 
 @needs_strace
 class Recoveries(InRecoveries):
-
     def test_a_recovery_that_is_not_safe_itself_is_found(self):
         ran = self.nested('--nested', '2', '--json', 'r.json')
         self.assertEqual((ran.returncode, ran.stderr), (1, ''), ran.stdout)
         lines = ran.stdout.splitlines()
         self.assertRegex(lines[0], ': none fails$')
-        self.assertRegex(lines[1], '  2 recoveries: [0-9]+ states of a second crash, [0-9]+ fail$')
+        self.assertRegex(
+            lines[1], '  2 recoveries: [0-9]+ different states of a second crash, [0-9]+ fail$'
+        )
         self.assertRegex(lines[2], '  lost: a=2 is not there +[0-9]+ states, e.g. --state [0-9]+/')
-        self.assertRegex(lines[3], '    state [0-9]+, then a crash at line [0-9]+ of its recovery '
-                                   r'\(truncate /log, 0 bytes\)')
+        self.assertRegex(
+            lines[3],
+            '    state [0-9]+, then a crash at line [0-9]+ of its recovery '
+            r'\(truncate /log, 0 bytes\)',
+        )
         self.assertIn('    fsync /table between them', lines)
         self.assert_nothing_left()
         one = json.loads(self.read('r.json'))['recoveries'][0]
         self.assertEqual(one['groups'][0]['text'][1], 'fsync /table between them')
-        self.assertEqual(f"--state {one['state']}/{one['groups'][0]['example']}",
-                         lines[2].partition('e.g. ')[2])
+        self.assertEqual(
+            f"--state {one['state']}/{one['groups'][0]['example']}", lines[2].partition('e.g. ')[2]
+        )
 
     def test_a_recovery_that_syncs_first_is_safe(self):
         ran = self.nested('--nested', '2', sync='sync table;')
         self.assertEqual((ran.returncode, ran.stderr), (0, ''), ran.stdout)
-        self.assertRegex(ran.stdout, '2 recoveries: [0-9]+ states of a second crash, none fails\n')
+        self.assertRegex(
+            ran.stdout, '2 recoveries: [0-9]+ different states of a second crash, none fails\n'
+        )
 
     def test_a_state_of_a_recovery_is_left_as_the_second_crash_left_it(self):
         ran = self.nested('--nested', '1')
@@ -62,7 +77,7 @@ class Recoveries(InRecoveries):
         ran = self.nested('--state', name)
         self.assertEqual((ran.returncode, ran.stderr), (1, ''))
         self.assertIn('bad: lost: a=2 is not there', ran.stdout)
-        folder, = os.listdir(self.temporary)
+        (folder,) = os.listdir(self.temporary)
         left = os.path.join(self.temporary, folder, name.partition('/')[2])
         self.assertEqual(os.path.getsize(os.path.join(left, 'log')), 0)
         ran = self.nested('--state', name.partition('/')[0] + '/999')
@@ -73,26 +88,31 @@ class Recoveries(InRecoveries):
         trace = self.write('lost.trace', text.replace('{"op":"fsync","path":"/log"}\n', ''))
         ran = self.nested('--nested', '3', sync='sync table;', trace=trace)
         self.assertEqual(ran.returncode, 1)
-        self.assertRegex(ran.stdout, ' fail .lost [0-9]+.\n')
-        self.assertRegex(ran.stdout, '[0-9]+ recoveries: [0-9]+ states of a second crash, none fai')
+        self.assertRegex(ran.stdout, ' fail .*: [0-9]+ lost\n')
+        self.assertRegex(
+            ran.stdout, '[0-9]+ recoveries: [0-9]+ different states of a second crash, none fai'
+        )
 
 
 class Counted(unittest.TestCase):
-
     def test_one_is_one(self):
         for recoveries, line in [
-                ([Recovery(7, 1)], '1 recovery: 1 state of a second crash, none fails'),
-                ([Recovery(7, 1), Recovery(8, 4, 1)],
-                 '2 recoveries: 5 states of a second crash, 1 fails'),
-                ([Recovery(7, 1), Recovery(8, 1_000, 2)],
-                 '2 recoveries: 1,001 states of a second crash, 2 fail')]:
+            ([Recovery(7, 1)], '1 recovery: 1 different state of a second crash, none fails'),
+            (
+                [Recovery(7, 1), Recovery(8, 4, 1)],
+                '2 recoveries: 5 different states of a second crash, 1 fails',
+            ),
+            (
+                [Recovery(7, 1), Recovery(8, 1_000, 2)],
+                '2 recoveries: 1,001 different states of a second crash, 2 fail',
+            ),
+        ]:
             report = Report(Head('a', '', []))
             report.recoveries = recoveries
             self.assertEqual(report.lines()[1:], ['  ' + line])
 
 
 class Chosen(unittest.TestCase):
-
     def test_each_cause_and_each_last_operation_is_met_before_others(self):
         plan = read_plan(LISTED)
         outcomes = {number: Outcome(GOOD) for number in (0, 1, 2, 3, 4, 5, 8, 9, 10)}
@@ -105,8 +125,12 @@ class Chosen(unittest.TestCase):
             self.assertEqual(len(chosen), len(set(chosen)))
             self.assertEqual(len(chosen), min(count, 9))
             if count >= 6:
-                self.assertEqual(nested.met, set().union(*(
-                    Nested.features(findings, plan.state(number)) for number in outcomes)))
+                self.assertEqual(
+                    nested.seen,
+                    set().union(
+                        *(Nested.features(findings, plan.state(number)) for number in outcomes)
+                    ),
+                )
             if count == 1:
                 self.assertEqual(chosen, [5])
 

@@ -6,7 +6,7 @@ import subprocess
 import unittest
 from typing import List, Sequence
 
-from crashfs_tools.trace_read import read_trace
+from crashfs_tools.common.trace_read import read_trace
 
 from .support import TOOLS, InFolder, needed, needs_strace, needs_version_3, short
 
@@ -18,40 +18,126 @@ WITH_FILE = ('msyncwrong', 'dsyncwrong', 'odsync2', 'mremap1')
 
 # The program, the status, and its operations.
 PROGRAMS = [
-    ('dsyncwrong', 0, ['write /f 0 row', 'write /f 4096 commit', 'fsyncrange /f 4096 6',
-                       'say row is stored']),
-    ('odsync2', 0, ['write /f 0 row', 'write /f 6291456 commit', 'fsyncrange /f 6291456 6',
-                    'say row is stored']),
-    ('devstdout', 0, CREAT + ['write /f 0 x', 'say by /dev/stdout', 'say by proc',
-                              'say by stdio']),
+    (
+        'dsyncwrong',
+        0,
+        ['write /f 0 row', 'write /f 4096 commit', 'fsyncrange /f 4096 6', 'say row is stored'],
+    ),
+    (
+        'odsync2',
+        0,
+        [
+            'write /f 0 row',
+            'write /f 6291456 commit',
+            'fsyncrange /f 6291456 6',
+            'say row is stored',
+        ],
+    ),
+    ('devstdout', 0, CREAT + ['write /f 0 x', 'say by /dev/stdout', 'say by proc', 'say by stdio']),
     ('whiteout', 3, ['creat /a', 'write /a 0 A', 'rename /a /w', 'say two']),
     ('xattr', 4, CREAT + ['write /f 0 x', 'say done']),
     ('preadv2', 0, DIGITS),
     ('sendout', 0, DIGITS),
     ('spliceout', 0, DIGITS),
-    ('pwritev2', 0, CREAT + [
-        'write /f 0 one two ', 'fsyncrange /f 0 8', 'write /f 100 one two ',
-        'fsyncrange /f 100 8', 'write /f 8 one ', 'write /f 108 one two ', 'write /f 50 one two ',
-        'write /f 12 one two ', 'write /f 116 one two ', 'write /f 124 one ', 'write /f 128 x',
-        'say done']),
-    ('unlinked', 0, CREAT + [
-        'write /f 0 a', 'unlink /f', 'creat /f', 'write /f 0 G', 'write /f 1 HH', 'truncate /f 2',
-        'chmod /f 600', 'say done']),
+    (
+        'pwritev2',
+        0,
+        CREAT
+        + [
+            'write /f 0 one two ',
+            'fsyncrange /f 0 8',
+            'write /f 100 one two ',
+            'fsyncrange /f 100 8',
+            'write /f 8 one ',
+            'write /f 108 one two ',
+            'write /f 50 one two ',
+            'write /f 12 one two ',
+            'write /f 116 one two ',
+            'write /f 124 one ',
+            'write /f 128 x',
+            'say done',
+        ],
+    ),
+    (
+        'unlinked',
+        0,
+        CREAT
+        + [
+            'write /f 0 a',
+            'unlink /f',
+            'creat /f',
+            'write /f 0 G',
+            'write /f 1 HH',
+            'truncate /f 2',
+            'chmod /f 600',
+            'say done',
+        ],
+    ),
 ]
 # The same of those that map files, with --mapped.
 MAPPED = [
     ('msyncwrong', 0, ['write /f 0 row', 'fsyncrange /f 4096 4096', 'say row is stored']),
-    ('mmapfork', 0, CREAT + ['truncate /f 8192', 'write /f 0 parent', 'fsyncrange /f 0 8192',
-                             'say stored']),
-    ('mapfix', 0, CREAT + ['creat /g', 'truncate /f 4096', 'truncate /g 4096', 'write /f 0 inf',
-                           'write /g 0 ing', 'fsyncrange /g 0 4096', 'say done']),
-    ('mapfailed', 0, CREAT + ['truncate /f 4096', 'write /f 0 one', 'fsyncrange /f 0 4096',
-                              'say one', 'write /f 8 two', 'fsyncrange /f 0 4096', 'say two']),
-    ('mremap1', 0, ['truncate /f 1048576', 'fsync /f', 'write /f 0 row', 'fsyncrange /f 0 4096',
-                    'say row is stored']),
-    ('mclosed', 0, ['creat /f.tmp', 'truncate /f.tmp 4096', 'rename /f.tmp /f', 'write /f 0 x',
-                    'fsyncrange /f 0 4096', 'say one', 'truncate /f 8192', 'write /f 5000 y',
-                    'fsyncrange /f 0 8192', 'say two', 'write /f 0 untold']),
+    (
+        'mmapfork',
+        0,
+        CREAT + ['truncate /f 8192', 'write /f 0 parent', 'fsyncrange /f 0 8192', 'say stored'],
+    ),
+    (
+        'mapfix',
+        0,
+        CREAT
+        + [
+            'creat /g',
+            'truncate /f 4096',
+            'truncate /g 4096',
+            'write /f 0 inf',
+            'write /g 0 ing',
+            'fsyncrange /g 0 4096',
+            'say done',
+        ],
+    ),
+    (
+        'mapfailed',
+        0,
+        CREAT
+        + [
+            'truncate /f 4096',
+            'write /f 0 one',
+            'fsyncrange /f 0 4096',
+            'say one',
+            'write /f 8 two',
+            'fsyncrange /f 0 4096',
+            'say two',
+        ],
+    ),
+    (
+        'mremap1',
+        0,
+        [
+            'truncate /f 1048576',
+            'fsync /f',
+            'write /f 0 row',
+            'fsyncrange /f 0 4096',
+            'say row is stored',
+        ],
+    ),
+    (
+        'mclosed',
+        0,
+        [
+            'creat /f.tmp',
+            'truncate /f.tmp 4096',
+            'rename /f.tmp /f',
+            'write /f 0 x',
+            'fsyncrange /f 0 4096',
+            'say one',
+            'truncate /f 8192',
+            'write /f 5000 y',
+            'fsyncrange /f 0 8192',
+            'say two',
+            'write /f 0 untold',
+        ],
+    ),
 ]
 # What several threads or processes do at once is right, or it is reported.
 AT_ONCE = [
@@ -75,12 +161,16 @@ needs_compiler = needed(shutil.which('cc') is not None, 'no C compiler is there'
 @needs_version_3
 @needs_compiler
 class Odd(InFolder):
-
-    def record(self, name: str, *options: str, flags: Sequence[str] = ('-pthread',)
-               ) -> subprocess.CompletedProcess:
+    def record(
+        self, name: str, *options: str, flags: Sequence[str] = ('-pthread',)
+    ) -> subprocess.CompletedProcess:
         program = self.path(name)
-        built = subprocess.run(['cc', '-w', *flags, '-o', program, str(ODD / f'{name}.c')],
-                               check=False, stderr=subprocess.PIPE, text=True)
+        built = subprocess.run(
+            ['cc', '-w', *flags, '-o', program, str(ODD / f'{name}.c')],
+            check=False,
+            stderr=subprocess.PIPE,
+            text=True,
+        )
         if built.returncode != 0:
             self.skipTest(f'{name}.c is not compiled: {built.stderr[:200]}')
         os.mkdir(self.path(name + '.d'))
@@ -116,9 +206,18 @@ class Odd(InFolder):
         if 'could not be started' in ran.stderr:
             self.skipTest('32-bit programs do not run here')
         self.assertEqual(ran.returncode, 0, ran.stderr)
-        self.assertEqual(self.operations(), CREAT + [
-            'write /f 0 0123456789', 'write /f 4 X', 'truncate /f 8', 'fsyncrange /f 0 4096',
-            'write /f 5 YY', 'say done'])
+        self.assertEqual(
+            self.operations(),
+            CREAT
+            + [
+                'write /f 0 0123456789',
+                'write /f 4 X',
+                'truncate /f 8',
+                'fsyncrange /f 0 4096',
+                'write /f 5 YY',
+                'say done',
+            ],
+        )
 
     def test_what_is_at_once_is_right_or_reported(self):
         for name, options, reported in AT_ONCE:

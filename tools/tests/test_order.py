@@ -2,7 +2,7 @@
 
 import unittest
 
-from crashfs_tools.trace import Start
+from crashfs_tools.common.trace import Start
 
 from .support import operations_of
 
@@ -15,51 +15,78 @@ OPENS = [
 
 # (what is shown, the log behind the opens, the operations)
 CASES = [
-    ('a change of another file that began before the sync had ended stands before it', [
-        '1 fsync(3</d/f> <unfinished ...>',
-        '2 pwrite64(4</d/g>, "a", 1, 0 <unfinished ...>',
-        '1 <... fsync resumed>) = 0',
-        '2 <... pwrite64 resumed>) = 1',
-    ], ['write /g 0 a', 'fsync /f']),
-    ('a change of the same file while the sync runs is not covered', [
-        '1 fsync(3</d/f> <unfinished ...>',
-        '2 pwrite64(3</d/f>, "a", 1, 0) = 1',
-        '1 <... fsync resumed>) = 0',
-    ], ['fsync /f', 'write /f 0 a']),
-    ('a change that was under way when the sync began is not covered', [
-        '2 pwrite64(3</d/f>, "a", 1, 0 <unfinished ...>',
-        '1 fsync(3</d/f>) = 0',
-        '2 <... pwrite64 resumed>) = 1',
-    ], ['fsync /f', 'write /f 0 a']),
-    ('a change that had ended is covered', [
-        '2 pwrite64(3</d/f>, "a", 1, 0) = 1',
-        '1 fsync(3</d/f> <unfinished ...>',
-        '2 pwrite64(4</d/g>, "b", 1, 0) = 1',
-        '1 <... fsync resumed>) = 0',
-    ], ['write /f 0 a', 'write /g 0 b', 'fsync /f']),
-    ('what is told while a sync runs didn\'t wait for it', [
-        '2 write(1<pipe:[7]>, "done\n", 5 <unfinished ...>',
-        '1 sync( <unfinished ...>',
-        '1 <... sync resumed>) = 0',
-        '2 <... write resumed>) = 5',
-    ], ['say done', 'sync']),
-    ('a mode that is set while the file is synced is not covered', [
-        '1 fsync(3</d/f> <unfinished ...>',
-        '2 fchmod(3</d/f>, 0600) = 0',
-        '2 fchmodat(AT_FDCWD</d>, "g", 0600) = 0',
-        '1 <... fsync resumed>) = 0',
-    ], ['fsync /f', 'chmod /f 600', 'chmod /g 600']),
-    ('an entry that comes while its directory is synced is not covered', [
-        '1 openat(AT_FDCWD</d>, ".", O_RDONLY) = 5</d>',
-        '1 fsync(5</d> <unfinished ...>',
-        '2 rename("/d/f", "/d/h") = 0',
-        '1 <... fsync resumed>) = 0',
-    ], ['fsync /', 'rename /f /h']),
+    (
+        'a change of another file that began before the sync had ended stands before it',
+        [
+            '1 fsync(3</d/f> <unfinished ...>',
+            '2 pwrite64(4</d/g>, "a", 1, 0 <unfinished ...>',
+            '1 <... fsync resumed>) = 0',
+            '2 <... pwrite64 resumed>) = 1',
+        ],
+        ['write /g 0 a', 'fsync /f'],
+    ),
+    (
+        'a change of the same file while the sync runs is not covered',
+        [
+            '1 fsync(3</d/f> <unfinished ...>',
+            '2 pwrite64(3</d/f>, "a", 1, 0) = 1',
+            '1 <... fsync resumed>) = 0',
+        ],
+        ['fsync /f', 'write /f 0 a'],
+    ),
+    (
+        'a change that was under way when the sync began is not covered',
+        [
+            '2 pwrite64(3</d/f>, "a", 1, 0 <unfinished ...>',
+            '1 fsync(3</d/f>) = 0',
+            '2 <... pwrite64 resumed>) = 1',
+        ],
+        ['fsync /f', 'write /f 0 a'],
+    ),
+    (
+        'a change that had ended is covered',
+        [
+            '2 pwrite64(3</d/f>, "a", 1, 0) = 1',
+            '1 fsync(3</d/f> <unfinished ...>',
+            '2 pwrite64(4</d/g>, "b", 1, 0) = 1',
+            '1 <... fsync resumed>) = 0',
+        ],
+        ['write /f 0 a', 'write /g 0 b', 'fsync /f'],
+    ),
+    (
+        'what is told while a sync runs didn\'t wait for it',
+        [
+            '2 write(1<pipe:[7]>, "done\n", 5 <unfinished ...>',
+            '1 sync( <unfinished ...>',
+            '1 <... sync resumed>) = 0',
+            '2 <... write resumed>) = 5',
+        ],
+        ['say done', 'sync'],
+    ),
+    (
+        'a mode that is set while the file is synced is not covered',
+        [
+            '1 fsync(3</d/f> <unfinished ...>',
+            '2 fchmod(3</d/f>, 0600) = 0',
+            '2 fchmodat(AT_FDCWD</d>, "g", 0600) = 0',
+            '1 <... fsync resumed>) = 0',
+        ],
+        ['fsync /f', 'chmod /f 600', 'chmod /g 600'],
+    ),
+    (
+        'an entry that comes while its directory is synced is not covered',
+        [
+            '1 openat(AT_FDCWD</d>, ".", O_RDONLY) = 5</d>',
+            '1 fsync(5</d> <unfinished ...>',
+            '2 rename("/d/f", "/d/h") = 0',
+            '1 <... fsync resumed>) = 0',
+        ],
+        ['fsync /', 'rename /f /h'],
+    ),
 ]
 
 
 class Order(unittest.TestCase):
-
     def test_a_sync_covers_what_had_ended_before_it_began(self):
         for shown, log, wanted in CASES:
             with self.subTest(shown):

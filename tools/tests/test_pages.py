@@ -1,155 +1,180 @@
-"""The report as a page and as JUnit XML."""
+"""The README: its commands do what it says, its figures are those of other pages, and pictures."""
 
-import json
+from __future__ import annotations
+
+import os
 import re
+import subprocess
 import unittest
-from xml.dom import minidom
+from html import unescape
+from pathlib import Path
+from typing import Dict, List, Tuple
 
-from crashfs_tools.drawing import drawing_of
-from crashfs_tools.entry import Entry
-from crashfs_tools.groups import Difference
-from crashfs_tools.junit import junit_lines
-from crashfs_tools.page import page
-from crashfs_tools.runner import BAD, GOOD, NO_ANSWER, Outcome
-from crashfs_tools.tree_diff import different_lines, nearest_good
+from .support import EXAMPLES, PATIENCE, TOOLS, InFolder, needs_strace
 
-from .test_groups import HEADER, findings_of, line, report_of, reported, write
-
-ODD = '/<b>&\\u0001'
-SIZE = 2_000_000
-
-
-def odd_findings():
-    """Of a store with an odd name, of which two of three lines are lost, and one state hangs."""
-    text = HEADER + line('creat', ODD) + line('say', text='one </script>')
-    text += write(ODD, 'row') + line('say', text='two')
-    findings = findings_of(text, lambda files, says: '' if len(files) >= min(says, 1)
-                           else 'lost: <file>\x01')
-    findings.groups[0].outcome = Outcome(BAD, 'lost: <file>\x01', 'first\n<last>\x01\n')
-    return findings
-
-
-def odd_report():
-    return reported(odd_findings())
-
-
-class Pages(unittest.TestCase):
-
-    def data(self, text):
-        return json.loads(re.search(r'const windows = (.*);\n', text)[1])
-
-    def test_what_is_shown_is_text(self):
-        text = ''.join(page(odd_report()))
-        self.assertEqual((text.count('<script>'), text.count('</script>')), (1, 1))
-        self.assertIn('&lt;b&gt;&amp;', text)
-        self.assertNotIn('<file>', text)
-        self.assertNotRegex(text, r'https?:|src=|href=')
-
-    def test_a_name_does_not_end_the_script(self):
-        text = HEADER + line('mkdir', '/<') + line('creat', '/</script>')
-        shown = ''.join(page(report_of(text, lambda files, says: '')))
-        self.assertEqual(shown.count('</script>'), 1)
-
-    def test_an_entry_has_its_sentence_its_lines_and_what_was_printed(self):
-        text = ''.join(page(odd_report()))
-        section = re.search('<section>.*?</section>', text, re.S)[0]
-        self.assertIn('fsync the directory / between them', section)
-        self.assertIn('first\n&lt;last&gt;', section)
-        self.assertEqual(section.count('class="creat pair"'), 1)
-        self.assertEqual(text.count('<section>'), len(odd_report().groups()))
-
-    def test_each_state_is_drawn_with_its_result(self):
-        findings = odd_findings()
-        hanging = next(iter(findings.plan.states)).number
-        findings.by_state[hanging] = Outcome(NO_ANSWER)
-        del findings.by_state[findings.plan.states[1].number]
-        data, = self.data(''.join(page(reported(findings))))
-        self.assertEqual(data, drawing_of(findings))
-        self.assertEqual(data['prefixes'][:2], 'n-')
-        signs = data['prefixes'] + ''.join(data['holes']) + ''.join(one for _, one in data['picks'])
-        self.assertEqual(len(signs.replace(' ', '')), len(findings.plan.states))
-        failing = sum(one.result == BAD for one in findings.by_state.values())
-        self.assertEqual(signs.count('b'), failing)
-        for row, numbers in zip(data['holes'], data['numbers']):
-            self.assertEqual(len(row.replace(' ', '')), len(numbers))
-
-    def test_a_page_of_thousands_of_states_is_small(self):
-        text = HEADER + ''.join(line('creat', f'/{number}') for number in range(100))
-        report = report_of(text, lambda files, says: 'lost: one' if len(files) == 7 else '')
-        self.assertGreater(report.states, 5_000)
-        self.assertLess(len(''.join(page(report))), SIZE)
+TOP = TOOLS.parent
+README = (TOP / 'README.md').read_text('utf-8')
+MOST_LINES = 130
+BLOCK = re.compile(r'(?<=\n\n)(?:    .*\n|\n+(?=    ))+')
+UNPROVED = re.compile(r'^unproved: .*\n', re.M)
+# Commands of the README that no test runs, with the reason.
+NOT_RUN = {
+    'apt-get install git python3 strace': 'it needs root and a network',
+    'tools/test': 'it runs these tests',
+    'tools/build': 'it needs the toolchain, and 150 minutes of processor time',
+    'PATH="$PWD/crates/crashfs/out:$PATH"': 'it needs the proved program',
+    'sleep infinity | crashfs serve examples/start.trace --users examples/users '
+    '--listen localhost:5640': 'it needs the proved program; crates/serve_bench runs such servers',
+}
+# What a reader has in the place of these two: here the store of the tutorial, and its check.
+PUTS = 'a=1 a=2 compact b=3'
+STAND_INS = {
+    'my-program': f'exec {EXAMPLES}/tutorial/kv.py {PUTS}',
+    'my-recovery': f'exec {EXAMPLES}/tutorial/check.py {EXAMPLES}/tutorial/kv.py 0 {PUTS}',
+}
+STORES = {
+    'LevelDB': 'LevelDB, `sync`',
+    'bbolt': 'the same, and the file is made by it',
+    'Redis': 'Redis, `appendfsync always`, in a directory that is there',
+    'LMDB': 'LMDB',
+}
+IMAGE = re.compile(r'!\[([^]]*)\]\(([^)]*)\)')
 
 
-class Differences(unittest.TestCase):
-
-    def test_each_path_that_differs_has_a_line(self):
-        def entry(data, mode=0o644):
-            return Entry('u', 'u', mode, None if data is None else bytearray(data))
-
-        failing = {'/a': entry(b'abcdefgh-old'), '/b': entry(b''), '/d': entry(None, 0o700),
-                   '/same': entry(b'x'), '/short': entry(b'ab')}
-        good = {'/a': entry(b'abcdefgh-new'), '/c': entry(b'12'), '/d': entry(None),
-                '/same': entry(b'x'), '/short': entry(b'abc')}
-        self.assertEqual(list(different_lines(failing, good)), [
-            '/a has 12 bytes, there 12 bytes; at byte 9 6f6c64, there 6e6577',
-            '/b (0 bytes) is only here',
-            '/c (2 bytes) is not here',
-            '/d is 700 u u, there 644 u u',
-            '/short has 2 bytes, there 3 bytes; at byte 2 its end, there 63'])
-
-    def test_the_nearest_good_state_lacks_or_has_the_least_beside(self):
-        findings = odd_findings()
-        group, kept = findings.groups[0], findings.plan.kept
-        good = nearest_good(findings, group)
-        self.assertEqual(findings.by_state[good.number].result, GOOD)
-        far = [bin(kept[state] ^ kept[group.example.number]).count('1')
-               for state, one in findings.by_state.items() if one.result == GOOD]
-        self.assertEqual(bin(kept[good.number] ^ kept[group.example.number]).count('1'), min(far))
-
-    def test_equal_files_are_said_to_be_so(self):
-        findings = odd_findings()
-        findings.groups[0].difference = Difference(3, [])
-        text = ''.join(page(reported(findings)))
-        self.assertIn('has the same files as state 3, which is good: other lines', text)
-        self.assertNotIn('<ul class="differences">', text)
-
-    def test_they_are_shown_as_text(self):
-        findings = odd_findings()
-        findings.groups[0].difference = Difference(3, ['/<b> is only here'])
-        report = reported(findings)
-        text = ''.join(page(report))
-        self.assertIn('and state 3, which is good', text)
-        self.assertIn('<li>/&lt;b&gt; is only here</li>', text)
-        fields = json.loads(''.join(report.json_pieces()))
-        self.assertEqual(fields['groups'][0]['differences'], ['/<b> is only here'])
+def blocks() -> List[str]:
+    """The README's indented blocks, without their indentation."""
+    return [re.sub('^    ', '', one, flags=re.M) for one in BLOCK.findall(README)]
 
 
-class JUnit(unittest.TestCase):
+def is_report(block: str) -> bool:
+    return re.match(r'\w+\.trace: ', block) is not None
 
-    def test_there_is_a_case_for_each_entry_and_one_for_the_others(self):
-        report = odd_report()
-        suite = minidom.parseString(''.join(junit_lines(report))).documentElement
-        cases = suite.getElementsByTagName('testcase')
-        self.assertEqual(len(cases), len(report.groups()) + 1)
-        self.assertEqual(int(suite.getAttribute('tests')), len(cases))
-        self.assertEqual(int(suite.getAttribute('failures')),
-                         len(suite.getElementsByTagName('failure')))
-        self.assertEqual(cases[0].getAttribute('name'), 'lost: <file>?')
-        failure, = cases[0].getElementsByTagName('failure')
-        self.assertIn('was not durable when', failure.getAttribute('message'))
-        self.assertIn('fsync the directory / between them', failure.firstChild.data)
-        output, = cases[0].getElementsByTagName('system-out')
-        self.assertEqual(output.firstChild.data, 'first\n<last>?\n')
-        self.assertRegex(cases[-1].getAttribute('name'), r'^all other states \(\d+\)$')
 
-    def test_a_state_without_an_answer_is_an_error(self):
-        findings = odd_findings()
-        for group in findings.groups:
-            group.outcome = Outcome(NO_ANSWER, group.cause)
-        report = reported(findings)
-        suite = minidom.parseString(''.join(junit_lines(report))).documentElement
-        self.assertEqual((suite.getAttribute('failures'), suite.getAttribute('errors')),
-                         ('0', str(len(report.groups()))))
+def commands() -> List[str]:
+    """The README's commands in their order, without the comments after them."""
+    lines = [line for block in blocks() if not is_report(block) for line in block.splitlines()]
+    return [line.partition('  #')[0].strip() for line in lines if line.strip()]
+
+
+def reports() -> Dict[str, str]:
+    """The reports of the README, by their trace."""
+    return {block.partition(':')[0]: block.rstrip('\n') for block in blocks() if is_report(block)}
+
+
+def rows_of(page: str) -> Dict[str, List[str]]:
+    """The rows of a page's tables, by their first cell."""
+    lines = (TOP / 'docs' / page).read_text('utf-8').splitlines()
+    rows = [[cell.strip() for cell in line.strip('|').split('|')] for line in lines if '|' in line]
+    return {cells[0]: cells[1:] for cells in rows}
+
+
+def headings(path: Path) -> List[str]:
+    """The anchors of a page."""
+    lines = path.read_text('utf-8').splitlines()
+    titles = [line.lstrip('#').strip().lower() for line in lines if line.startswith('#')]
+    return [re.sub(r'[^\w -]', '', title).replace(' ', '-') for title in titles]
+
+
+class Commands(InFolder):
+    def setUp(self) -> None:
+        super().setUp()
+        for name in ('tools', 'examples'):
+            os.symlink(TOP / name, self.path(name))
+        os.mkdir(self.path('bin'))
+        for name, line in STAND_INS.items():
+            self.write(f'bin/{name}', f'#!/bin/sh\n{line}\n', 0o755)
+
+    def printed(self, command: str) -> str:
+        """What a command prints on standard output, without the line on the second reading."""
+        environment = self.environment(f'{self.path("bin")}:{os.environ["PATH"]}')
+        ran = subprocess.run(
+            ['sh', '-c', command],
+            cwd=self.folder,
+            timeout=PATIENCE,
+            text=True,
+            stdin=subprocess.DEVNULL,
+            stdout=subprocess.PIPE,
+            check=False,
+            stderr=subprocess.PIPE,
+            env={**os.environ, **environment},
+        )
+        self.assertIn(ran.returncode, (0, 1), ran.stderr)
+        return UNPROVED.sub('', ran.stdout).rstrip('\n')
+
+    def test_a_report_of_an_example_is_what_the_check_prints(self) -> None:
+        (command,) = (it for it in commands() if 'config.trace' in it)
+        self.assertEqual(self.printed(command), reports()['config.trace'])
+
+    @needs_strace
+    def test_the_first_commands_record_and_check_a_program(self) -> None:
+        first = commands()[:3]
+        self.assertEqual(first[0], 'mkdir store')
+        last = [self.printed(command) for command in first][-1]
+        self.assertEqual(last, reports()['first.trace'].replace('first.trace', 'my.trace'))
+
+    def test_each_other_command_is_named_with_a_reason(self) -> None:
+        ran = {it for it in commands() if 'config.trace' in it} | set(commands()[:3])
+        self.assertEqual(set(commands()) - ran, set(NOT_RUN))
+
+
+class Figures(unittest.TestCase):
+    def test_the_readme_is_short(self) -> None:
+        self.assertLessEqual(len(README.splitlines()), MOST_LINES)
+
+    def test_the_figures_of_stores_are_those_of_their_table(self) -> None:
+        rows, text = rows_of('CHECKING.md'), ' '.join(README.split())
+        for store, row in STORES.items():
+            states, fail = rows[row][1], rows[row][3].partition(':')[0]
+            found = re.search(rf'{store}\b[^,;]*? in (none|\d+) of (\d+)', text)
+            self.assertIsNotNone(found, store)
+            self.assertEqual(
+                found and found.groups(), (fail.replace('0', 'none', fail == '0'), states), store
+            )
+
+    def test_the_figures_of_sqlite_are_those_of_its_reports(self) -> None:
+        extra = (EXAMPLES / 'sqlite' / 'extra.report').read_text()
+        (states,) = re.findall(r'(\d+) states, \d+ different: none fails', extra)
+        self.assertIn(f'none of {states} states fails', ' '.join(README.split()))
+
+    def test_the_times_of_builds_are_those_of_contributing(self) -> None:
+        cell = rows_of('CONTRIBUTING.md')['a first build by `tools/build`'][0]
+        self.assertEqual(cell, '150 processor minutes, 40 or more on four cores; 10 GB')
+        text = ' '.join(README.split())
+        for words in ('150 minutes of processor time', 'on four cores 40 or more', '10 GB'):
+            self.assertIn(words, text)
+
+
+class Links(unittest.TestCase):
+    def test_each_anchor_is_a_heading(self) -> None:
+        for page in [TOP / 'README.md', *sorted((TOP / 'docs').glob('*.md'))]:
+            for target in re.findall(r'\]\(([^)\s]*#[^)\s]*)\)', page.read_text('utf-8')):
+                path, _, anchor = target.partition('#')
+                if '://' not in target:
+                    place = (page.parent / path).resolve() if path else page
+                    self.assertIn(anchor, headings(place), f'{page.name}: {target}')
+
+
+def images() -> List[Tuple[Path, str, Path]]:
+    """Each picture of a page: the page, the text in its place, and its file."""
+    pages = [TOP / 'README.md', *sorted((TOP / 'docs').glob('*.md'))]
+    return [
+        (page, ' '.join(found[1].split()), (page.parent / found[2]).resolve())
+        for page in pages
+        for found in IMAGE.finditer(page.read_text('utf-8'))
+    ]
+
+
+class Images(unittest.TestCase):
+    def test_the_text_in_the_place_of_a_picture_says_what_it_shows(self) -> None:
+        self.assertGreaterEqual(len(images()), 2)
+        for page, text, path in images():
+            found = re.search('<desc[^>]*>(.*?)</desc>', path.read_text('utf-8'))
+            assert found is not None
+            self.assertEqual(text, unescape(found[1]), page.name)
+
+    def test_each_picture_is_on_a_page(self) -> None:
+        shown = {path for _, _, path in images()}
+        self.assertEqual(set((TOP / 'docs' / 'images').iterdir()), shown)
 
 
 if __name__ == '__main__':

@@ -4,7 +4,7 @@ import os
 import sys
 import unittest
 
-from crashfs_tools.program import BUILT, Crashfs, program_beside
+from crashfs_tools.common.program import BUILT, Crashfs, program_beside
 
 from .support import InFolder
 
@@ -27,7 +27,6 @@ sys.stdout.buffer.write(whole[10240:])
 
 
 class Archives(InFolder):
-
     def test_an_archive_is_read_to_its_end(self):
         program = self.write('crashfs', f'#!{sys.executable} -S\n{LATE}', 0o755)
         tree = Crashfs(program).tree('a.trace', 0)
@@ -35,7 +34,6 @@ class Archives(InFolder):
 
 
 class Places(InFolder):
-
     def test_an_installed_program_is_found_beside_its_library(self):
         library = self.path('usr', 'lib', 'crashfs')
         os.makedirs(library)
@@ -51,8 +49,11 @@ class Places(InFolder):
         os.makedirs(self.path('bin'))
         self.write('bin/crashfs', '#!/bin/sh\n', 0o755)
         built = BUILT if os.access(BUILT, os.X_OK) else None
-        for library in (self.path('clone', 'tools'), self.path('lib', 'tools'),
-                        self.path('src', 'crashfs')):
+        for library in (
+            self.path('clone', 'tools'),
+            self.path('lib', 'tools'),
+            self.path('src', 'crashfs'),
+        ):
             self.assertEqual(program_beside(library), built)
 
 

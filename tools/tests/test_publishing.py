@@ -11,7 +11,7 @@ import time
 from contextlib import contextmanager
 from typing import IO, Iterator, Tuple
 
-from crashfs_tools.program import Crashfs
+from crashfs_tools.common.program import Crashfs
 from measuring.client import Client, Refused, write
 
 from .support import PATIENCE, InFolder, needed
@@ -27,9 +27,12 @@ LAST = 1_275
 
 def trace() -> str:
     rights = '"owner":"ann","group":"ann","mode":"644"}\n'
-    return ('{"trace":1,"owner":"ann","group":"ann","mode":"755"}\n'
-            '{"start":"file","path":"/f","bytes":"68656c6c6f",' + rights
-            + ''.join(f'{{"op":"creat","path":"/{number}",' + rights for number in range(FILES)))
+    return (
+        '{"trace":1,"owner":"ann","group":"ann","mode":"755"}\n'
+        '{"start":"file","path":"/f","bytes":"68656c6c6f",'
+        + rights
+        + ''.join(f'{{"op":"creat","path":"/{number}",' + rights for number in range(FILES))
+    )
 
 
 def attached(client: Client, fid: int, name: str) -> None:
@@ -67,9 +70,23 @@ class Publishing(InFolder):
         with open(own, 'rb', 0) as printed, open(terminal, 'wb', 0):
             termios.tcflow(terminal, termios.TCOOFF)
             with subprocess.Popen(
-                    [FOUND.path, 'serve', self.write('t', trace()), '--holes', '--workers', '1',
-                     '--connections', '1', '--listen', '127.0.0.1:0', *words],
-                    stdin=subprocess.DEVNULL, stdout=subprocess.PIPE, stderr=terminal) as child:
+                [
+                    FOUND.path,
+                    'serve',
+                    self.write('t', trace()),
+                    '--holes',
+                    '--workers',
+                    '1',
+                    '--connections',
+                    '1',
+                    '--listen',
+                    '127.0.0.1:0',
+                    *words,
+                ],
+                stdin=subprocess.DEVNULL,
+                stdout=subprocess.PIPE,
+                stderr=terminal,
+            ) as child:
                 try:
                     yield child, printed, terminal
                 finally:
@@ -98,8 +115,10 @@ class Publishing(InFolder):
             attached(client, 2, f'{LAST}/x')
             client.end()
             out, _ = child.communicate(timeout=PATIENCE)
-            self.assertEqual((child.returncode, out), (0, b'run 0/x entries 5 audit ok\n'
-                                                          b'run 1275/x entries 1 audit ok\n'))
+            self.assertEqual(
+                (child.returncode, out),
+                (0, b'run 0/x entries 5 audit ok\n' b'run 1275/x entries 1 audit ok\n'),
+            )
 
     @needs_program
     def test_with_ready_it_listens_once_all_states_are_published(self) -> None:

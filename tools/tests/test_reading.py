@@ -7,7 +7,7 @@ import subprocess
 import unittest
 from pathlib import Path
 
-from crashfs_tools.program import Crashfs
+from crashfs_tools.common.program import Crashfs
 from crashfs_tools.reading import ReadingFault, count_states, plan_of, read
 from crashfs_tools.reading.listing import listing
 from crashfs_tools.reading.plan import different, file_sets, lost_sets, read_picks
@@ -18,19 +18,26 @@ from .support import EXAMPLES, FAKE, InFolder, needed
 ROWS = Path(__file__).with_name('data') / 'version-3'
 TRACES = 300
 ROOT = '"owner":"cat","group":"staff","mode":"775"'
-HEADERS = {1: f'{{"trace":1,{ROOT}}}\n', 2: f'{{"trace":2,"profile":"blocks",{ROOT}}}\n',
-           3: f'{{"trace":3,"profile":"blocks","block":4096,{ROOT}}}\n'}
+HEADERS = {
+    1: f'{{"trace":1,{ROOT}}}\n',
+    2: f'{{"trace":2,"profile":"blocks",{ROOT}}}\n',
+    3: f'{{"trace":3,"profile":"blocks","block":4096,{ROOT}}}\n',
+}
 RIGHTS = '"owner":"ann","group":"staff","mode":"644"'
 CREAT = f'{{"op":"creat","path":"%s",{RIGHTS}}}\n'
 A, B = CREAT % '/a', CREAT % '/b'
 
-NEEDS_LOST = HEADERS[3] + A + """\
+NEEDS_LOST = (
+    HEADERS[3]
+    + A
+    + """\
 {"op":"write","path":"/a","offset":0,"text":"aaaa"}
 {"op":"write","path":"/a","offset":4,"text":"bb"}
 {"op":"fsync_range","path":"/a","offset":4,"length":2}
 {"op":"say","text":"1"}
 {"op":"say","text":"2"}
 """
+)
 
 
 def row(name):
@@ -50,7 +57,6 @@ def fault_of(text):
 
 
 class Rows(unittest.TestCase):
-
     def test_the_rows_of_version_3_are_listed_byte_for_byte(self):
         for path in sorted(ROWS.glob('*.trace')):
             with self.subTest(path.name):
@@ -59,11 +65,16 @@ class Rows(unittest.TestCase):
     def test_as_version_1_a_session_has_states_that_lack_a_say_and_keep_what_follows(self):
         text = row('row43.trace').replace('"text":"hi"', '"bytes":"6869"')
         text = text.replace(',"note":"main (kv.py:85)"', '').replace(
-            '"trace":3,"profile":"blocks","block":4096', '"trace":1')
+            '"trace":3,"profile":"blocks","block":4096', '"trace":1'
+        )
         self.assertEqual(count_states(text), 25)
         plan = plan_of(read(text.encode()), True)
-        lacking = [name for name, places in plan.states
-                   for say in (3, 6) if not places >> say & 1 and places >> (say + 1)]
+        lacking = [
+            name
+            for name, places in plan.states
+            for say in (3, 6)
+            if not places >> say & 1 and places >> (say + 1)
+        ]
         self.assertEqual(len(set(lacking)), 4)
 
     def test_an_end_of_a_range_that_cuts_a_write_covers_nothing_of_it(self):
@@ -96,8 +107,9 @@ class Rows(unittest.TestCase):
         text = listed(row('row46.trace'), lines=True)
         self.assertIn('op 3 link_dir_entry /m 0 line 4\n', text)
         self.assertIn('op 6 write_block 0 0 1 1 line 7 /m\n', text)
-        renamed = row('row46.trace').replace('{"op":"unlink","path":"/t"}',
-                                             '{"op":"rename","from":"/t","to":"/z"}')
+        renamed = row('row46.trace').replace(
+            '{"op":"unlink","path":"/t"}', '{"op":"rename","from":"/t","to":"/z"}'
+        )
         self.assertIn(' line 7 /z\n', listed(renamed, lines=True))
         text = listed(row('row47.trace'), lines=True)
         self.assertIn('op 0 write_block 0 0 0 1 line 4 /f\n', text)
@@ -115,30 +127,40 @@ class Rows(unittest.TestCase):
     def test_a_sync_after_a_prefix_has_not_ended_in_it(self):
         text = HEADERS[3] + A + '{"op":"write","path":"/a","offset":0,"text":"row"}\n' + B
         text += '{"op":"fsync","path":"/a"}\n{"op":"say","text":"row"}\n'
-        self.assertEqual(list(different(file_sets(plan_of(read(text.encode()))))),
-                         [[0], [0, 3]])
+        self.assertEqual(list(different(file_sets(plan_of(read(text.encode()))))), [[0], [0, 3]])
 
 
 class Digests(unittest.TestCase):
-
     def test_states_have_the_same_digest_just_if_their_trees_are_equal(self):
         write = '{"op":"write","path":"/a","offset":%d,"text":"aaaa"}\n'
         hidden = HEADERS[3] + A + write % 0 + write % 4
         # Two files of the same bytes: of several blocks each, of which one shrinks on the way.
-        alike = HEADERS[3] + A + B + ''.join(
-            f'{{"op":"write","path":"/{name}","offset":0,"text":"{"x" * 5000}"}}\n'
-            for name in 'ab') + ('{"op":"truncate","path":"/b","length":100}\n'
-                                 '{"op":"truncate","path":"/b","length":5000}\n'
-                                 '{"op":"write","path":"/b","offset":100,"text":"'
-                                 + 'x' * 4900 + '"}\n{"op":"sync"}\n'
-                                 '{"op":"rename","from":"/b","to":"/a"}\n')
+        alike = (
+            HEADERS[3]
+            + A
+            + B
+            + ''.join(
+                f'{{"op":"write","path":"/{name}","offset":0,"text":"{"x" * 5000}"}}\n'
+                for name in 'ab'
+            )
+            + (
+                '{"op":"truncate","path":"/b","length":100}\n'
+                '{"op":"truncate","path":"/b","length":5000}\n'
+                '{"op":"write","path":"/b","offset":100,"text":"'
+                + 'x' * 4900
+                + '"}\n{"op":"sync"}\n'
+                '{"op":"rename","from":"/b","to":"/a"}\n'
+            )
+        )
         for text in [hidden, alike, *(RandomTrace(3, seed).text() for seed in range(60))]:
             try:
                 plan = plan_of(read(text.encode()), True)
             except ReadingFault:
                 continue
-            trees = [(plan.trees.digest(places), sorted(plan.trees.tree(places).items()))
-                     for _, places in plan.states]
+            trees = [
+                (plan.trees.digest(places), sorted(plan.trees.tree(places).items()))
+                for _, places in plan.states
+            ]
             first = {}
             for digest, tree in trees:
                 self.assertEqual(first.setdefault(digest, tree), tree)
@@ -146,62 +168,75 @@ class Digests(unittest.TestCase):
 
 
 class Faults(unittest.TestCase):
-
     def test_the_first_fault_of_a_line_counts(self):
         directory = '{"op":"mkdir","path":"/d",%s}\n' % RIGHTS
         for version, lines, wanted in [
-                (3, A + B + '{"op":"link","from":"/a","to":"/b"}', '4: Exists'),
-                (3, '{"op":"link","from":"/d","to":"/e"}', '2: Missing'),
-                (3, directory + '{"op":"link","from":"/d","to":"/e"}', '3: NotFile'),
-                (3, A + '{"op":"link","from":"/a","to":"/d/e"}', '3: NoParent'),
-                (3, A + '{"op":"link","from":"/a","to":"/a/b"}', '3: NotDir'),
-                (3, A + '{"op":"link","from":"/","to":"/b"}', '3: BadName'),
-                (3, A + '{"start":"link","from":"/a","path":"/b"}', '3: Syntax'),
-                (3, '{"start":"link","from":"/a","path":"/b"}', '2: Missing'),
-                (3, directory + '{"op":"fsync_range","path":"/d","offset":0,"length":0}',
-                 '3: NotFile'),
-                (3, A + '{"op":"fsync_range","path":"/","offset":0,"length":0}', '3: BadName'),
-                (3, A + '{"op":"fsync_range","path":"/a","offset":0}', '3: Syntax'),
-                (3, '{"op":"sync","note":1}', '2: Syntax'),
-                (3, '{"op":"synk","note":1}', '2: UnknownOp'),
-                (3, A + '{"op":"write","path":"/a","offset":0,"bytes":"","text":""}', '3: Syntax'),
-                (3, A + '{"op":"write","path":"/a","offset":0,"text":1}', '3: Syntax'),
-                (3, A + '{"op":"unlink","path":"/a","text":"a"}', '3: Syntax'),
-                (2, '{"op":"link"}', '2: UnknownOp'),
-                (2, '{"start":"link"}', '2: UnknownOp'),
-                (2, '{"op":"sync","note":""}', '2: Syntax'),
-                (1, '{"op":"chmod"}', '2: UnknownOp')]:
+            (3, A + B + '{"op":"link","from":"/a","to":"/b"}', '4: Exists'),
+            (3, '{"op":"link","from":"/d","to":"/e"}', '2: Missing'),
+            (3, directory + '{"op":"link","from":"/d","to":"/e"}', '3: NotFile'),
+            (3, A + '{"op":"link","from":"/a","to":"/d/e"}', '3: NoParent'),
+            (3, A + '{"op":"link","from":"/a","to":"/a/b"}', '3: NotDir'),
+            (3, A + '{"op":"link","from":"/","to":"/b"}', '3: BadName'),
+            (3, A + '{"start":"link","from":"/a","path":"/b"}', '3: Syntax'),
+            (3, '{"start":"link","from":"/a","path":"/b"}', '2: Missing'),
+            (3, directory + '{"op":"fsync_range","path":"/d","offset":0,"length":0}', '3: NotFile'),
+            (3, A + '{"op":"fsync_range","path":"/","offset":0,"length":0}', '3: BadName'),
+            (3, A + '{"op":"fsync_range","path":"/a","offset":0}', '3: Syntax'),
+            (3, '{"op":"sync","note":1}', '2: Syntax'),
+            (3, '{"op":"synk","note":1}', '2: UnknownOp'),
+            (3, A + '{"op":"write","path":"/a","offset":0,"bytes":"","text":""}', '3: Syntax'),
+            (3, A + '{"op":"write","path":"/a","offset":0,"text":1}', '3: Syntax'),
+            (3, A + '{"op":"unlink","path":"/a","text":"a"}', '3: Syntax'),
+            (2, '{"op":"link"}', '2: UnknownOp'),
+            (2, '{"start":"link"}', '2: UnknownOp'),
+            (2, '{"op":"sync","note":""}', '2: Syntax'),
+            (1, '{"op":"chmod"}', '2: UnknownOp'),
+        ]:
             with self.subTest(lines):
                 self.assertEqual(fault_of(HEADERS[version] + lines), wanted)
 
     def test_headers(self):
         third = HEADERS[3]
         for text, wanted in [
-                (third, None), (third.replace('4096', '512'), None),
-                (third.replace('{', '{"note":"a",'), None),
-                (third.replace('{', '{"note":1,'), '1: Syntax'),
-                (third.replace('4096', '8192'), '1: Syntax'),
-                (third.replace('4096', '4096.0'), '1: Syntax'),
-                (third.replace('4096', '"4096"'), '1: Syntax'),
-                (third.replace('"block":4096,', ''), '1: Syntax'),
-                (third.replace('"trace":3', '"trace":4'), '1: Syntax'),
-                (third.replace('"trace":3', '"trace":2'), '1: Syntax'),
-                (third.replace('cat', ''), '1: BadName'),
-                (third + third, '2: Syntax'), ('', '1: Syntax'), ('\n \r\n', '1: Syntax'),
-                ('\udcff', 'trace: NotText'), ('\ufeff' + third, '1: Syntax')]:
+            (third, None),
+            (third.replace('4096', '512'), None),
+            (third.replace('{', '{"note":"a",'), None),
+            (third.replace('{', '{"note":1,'), '1: Syntax'),
+            (third.replace('4096', '8192'), '1: Syntax'),
+            (third.replace('4096', '4096.0'), '1: Syntax'),
+            (third.replace('4096', '"4096"'), '1: Syntax'),
+            (third.replace('"block":4096,', ''), '1: Syntax'),
+            (third.replace('"trace":3', '"trace":4'), '1: Syntax'),
+            (third.replace('"trace":3', '"trace":2'), '1: Syntax'),
+            (third.replace('cat', ''), '1: BadName'),
+            (third + third, '2: Syntax'),
+            ('', '1: Syntax'),
+            ('\n \r\n', '1: Syntax'),
+            ('\udcff', 'trace: NotText'),
+            ('\ufeff' + third, '1: Syntax'),
+        ]:
             with self.subTest(text):
                 self.assertEqual(fault_of(text), wanted)
 
     def test_a_rename_onto_a_path_of_the_same_file_is_no_micro_operation(self):
-        text = HEADERS[3] + A + B + ('{"op":"link","from":"/a","to":"/c"}\n'
-                                     '{"op":"rename","from":"/a","to":"/c"}\n')
+        text = (
+            HEADERS[3]
+            + A
+            + B
+            + ('{"op":"link","from":"/a","to":"/c"}\n' '{"op":"rename","from":"/a","to":"/c"}\n')
+        )
         self.assertEqual(len(read(text.encode()).operations), 3)
 
     def test_json_is_read_as_strictly_as_the_program_reads_it(self):
         say = HEADERS[1] + '{"op":"say","text":%s}'
         for text, wanted in [
-                ('"a"', None), ('"\\ud83d\\ude00"', None), ('"\\ud83d"', '2: Syntax'),
-                ('"\t"', '2: Syntax'), ('NaN', '2: Syntax'), ('"a","text":"b"', None)]:
+            ('"a"', None),
+            ('"\\ud83d\\ude00"', None),
+            ('"\\ud83d"', '2: Syntax'),
+            ('"\t"', '2: Syntax'),
+            ('NaN', '2: Syntax'),
+            ('"a","text":"b"', None),
+        ]:
             with self.subTest(text):
                 self.assertEqual(fault_of(say % text), wanted)
         odd = HEADERS[1] + '{"op":"x","y":%s}'
@@ -209,9 +244,14 @@ class Faults(unittest.TestCase):
         self.assertEqual(fault_of(odd % ('[' * 127 + ']' * 127)), '2: Syntax')
         self.assertEqual(fault_of(odd % '1e400'), '2: Syntax')
         write = HEADERS[1] + A + '{"op":"truncate","path":"/a","length":%s}'
-        for number, wanted in [('7', None), ('-0', '3: Syntax'), ('7.0', '3: Syntax'),
-                               ('true', '3: Syntax'), ('18446744073709551615', '3: TooLarge'),
-                               ('18446744073709551616', '3: Syntax')]:
+        for number, wanted in [
+            ('7', None),
+            ('-0', '3: Syntax'),
+            ('7.0', '3: Syntax'),
+            ('true', '3: Syntax'),
+            ('18446744073709551615', '3: TooLarge'),
+            ('18446744073709551616', '3: Syntax'),
+        ]:
             self.assertEqual(fault_of(write % number), wanted, number)
 
     def test_a_plan_and_a_trace_may_be_too_large(self):
@@ -236,8 +276,12 @@ def program_of(version):
     if program is None:
         return None
     row_43 = str(ROWS / 'row43.trace')
-    ran = subprocess.run([program.path, 'list', '--trace', row_43], check=False,
-                         stdout=subprocess.DEVNULL, stderr=subprocess.DEVNULL)
+    ran = subprocess.run(
+        [program.path, 'list', '--trace', row_43],
+        check=False,
+        stdout=subprocess.DEVNULL,
+        stderr=subprocess.DEVNULL,
+    )
     return program.path if version < 3 or ran.returncode == 0 else None
 
 
@@ -249,14 +293,22 @@ class BesideTheProgram(InFolder):
         for seed, text in enumerate(texts + ([NEEDS_LOST] if version == 3 else [])):
             trace = self.write('random.trace', text)
             with self.subTest(version=version, seed=seed):
-                for words in (['list', '--holes', '--lines', '--same'], ['picks', '--lost'],
-                              ['picks', '--files']):
+                for words in (
+                    ['list', '--holes', '--lines', '--same'],
+                    ['picks', '--lost'],
+                    ['picks', '--files'],
+                ):
                     self.assertEqual(self.printed(program, words, trace), wanted(words, text))
 
     @staticmethod
     def printed(program, words, trace):
-        ran = subprocess.run([program, *words, '--trace', trace], stdout=subprocess.PIPE,
-                             stderr=subprocess.PIPE, text=True, check=False)
+        ran = subprocess.run(
+            [program, *words, '--trace', trace],
+            stdout=subprocess.PIPE,
+            stderr=subprocess.PIPE,
+            text=True,
+            check=False,
+        )
         return ran.stdout or ran.stderr.partition('\n')[0].replace('crashfs: ', '')
 
     @needed(program_of(1) is not None, 'crashfs is not built')
@@ -281,10 +333,15 @@ def wanted(words, text):
 
 
 class AsAProgram(InFolder):
-
     def run_reading(self, *words):
-        return subprocess.run([FAKE, *words], cwd=self.folder, stdout=subprocess.PIPE,
-                              stderr=subprocess.PIPE, text=True, check=False)
+        return subprocess.run(
+            [FAKE, *words],
+            cwd=self.folder,
+            stdout=subprocess.PIPE,
+            stderr=subprocess.PIPE,
+            text=True,
+            check=False,
+        )
 
     def test_random_traces_are_read_in_all_versions(self):
         for version, seed in itertools.product((1, 2, 3), range(20)):
@@ -297,16 +354,27 @@ class AsAProgram(InFolder):
         mode = HEADERS[1].replace('775', '0775')
         ran = self.run_reading('list', '--trace', self.write('mode.trace', mode))
         self.assertEqual((ran.returncode, ran.stdout), (1, ''))
-        self.assertEqual(ran.stderr.splitlines(), [
-            'crashfs: trace line 1: Syntax',
-            f'crashfs: {self.path("mode.trace")}:1: mode "0775" is not three octal digits'])
+        self.assertEqual(
+            ran.stderr.splitlines(),
+            [
+                'crashfs: trace line 1: Syntax',
+                f'crashfs: {self.path("mode.trace")}:1: mode "0775" is not three octal digits',
+            ],
+        )
         ran = self.run_reading('list', '--trace', 'none')
         self.assertEqual((ran.returncode, ran.stderr), (1, 'crashfs: none: cannot read\n'))
 
     def test_command_lines_that_the_program_refuses_are_refused(self):
-        for words in ([], ['serve'], ['list'], ['list', '--trace', 'a', '--lost'],
-                      *(['tar', '--trace', str(EXAMPLES / 'store.trace'), '--states', states]
-                        for states in ('', '3-1', '3-', 'x', '1,,2'))):
+        for words in (
+            [],
+            ['serve'],
+            ['list'],
+            ['list', '--trace', 'a', '--lost'],
+            *(
+                ['tar', '--trace', str(EXAMPLES / 'store.trace'), '--states', states]
+                for states in ('', '3-1', '3-', 'x', '1,,2')
+            ),
+        ):
             ran = self.run_reading(*words)
             self.assertEqual((ran.returncode, ran.stdout), (2, ''), words)
             self.assertTrue(ran.stderr.startswith('error: '), ran.stderr)
@@ -317,8 +385,12 @@ class AsAProgram(InFolder):
         reader, writer = os.pipe()
         os.close(reader)
         with os.fdopen(writer, 'w') as closed:
-            ran = subprocess.run([FAKE, 'list', '--trace', str(EXAMPLES / 'store.trace')],
-                                 stdout=closed, stderr=subprocess.PIPE, check=False)
+            ran = subprocess.run(
+                [FAKE, 'list', '--trace', str(EXAMPLES / 'store.trace')],
+                stdout=closed,
+                stderr=subprocess.PIPE,
+                check=False,
+            )
         self.assertEqual((ran.returncode, ran.stderr), (1, b''))
 
 

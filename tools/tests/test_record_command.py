@@ -22,7 +22,6 @@ os.write(1, b'told\\n')
 
 
 class InRecordings(InFolder):
-
     def setUp(self):
         super().setUp()
         os.umask(0o022)
@@ -35,16 +34,18 @@ class InRecordings(InFolder):
         return self.record_aloud(script, '--no-say', *options)
 
     def record_aloud(self, script, *options):
-        return self.run_tool('crashfs-record', *options, 'd', 'out.trace', '--',
-                             'sh', '-c', script)
+        return self.run_tool('crashfs-record', *options, 'd', 'out.trace', '--', 'sh', '-c', script)
 
     def operations(self):
         lines = self.read('out.trace').splitlines()
         return [line for line in lines if line.startswith('{"op"')]
 
     def pid_of(self, name, child):
-        self.wait_until(lambda: os.path.exists(self.path(name)) and self.read(name).strip() != '',
-                        'COMMAND has started', child)
+        self.wait_until(
+            lambda: os.path.exists(self.path(name)) and self.read(name).strip() != '',
+            'COMMAND has started',
+            child,
+        )
         return int(self.read(name))
 
     def make_other(self):
@@ -58,7 +59,6 @@ class InRecordings(InFolder):
 
 @needs_strace
 class Records(InRecordings):
-
     def test_a_session_of_a_shell_is_whole(self):
         ran = self.record('echo 2 > new; echo stored; mv new old; mkdir s; sync; echo 3 >> old')
         self.assertEqual((ran.returncode, ran.stdout), (0, 'stored\n'), ran.stderr)
@@ -75,14 +75,18 @@ class Records(InRecordings):
                 shutil.rmtree(self.path('d'))
                 os.makedirs(self.path('d', 's'))
                 self.write('d/a', 'old')
-                ran = self.run_tool('crashfs-record', 'd', 'out.trace', '--', sys.executable,
-                                    program, str(seed))
+                ran = self.run_tool(
+                    'crashfs-record', 'd', 'out.trace', '--', sys.executable, program, str(seed)
+                )
                 self.assertEqual(ran.returncode, 0, ran.stderr)
                 self.assertGreater(len(self.operations()), 40)
 
     def test_names_of_every_kind_go_through(self):
-        ran = self.record("""printf x > "$(printf 'a\nstate 9 b')"; echo x > 'q"\\ '; rm 'q"\\ '""",
-                          '--crashfs', FAKE)
+        ran = self.record(
+            """printf x > "$(printf 'a\nstate 9 b')"; echo x > 'q"\\ '; rm 'q"\\ '""",
+            '--crashfs',
+            FAKE,
+        )
         self.assertIn('(by crashfs tar)', ran.stderr)
         self.assertEqual(ran.returncode, 0, ran.stderr)
         self.assertIn('{"op":"creat","path":"/a\\nstate 9 b",', self.read('out.trace'))
@@ -95,11 +99,14 @@ class Records(InRecordings):
 
     def test_where_no_loss_could_be_seen_it_is_told(self):
         for script, told in [
-                ('echo 2 > new', 'no line was acknowledged: no loss can be seen; --no-say'),
-                ('echo 2 > new; echo no >&2',
-                 'no line was acknowledged, and 1 line on standard error: no loss can be seen '
-                 '(--say-fd 2 takes these)'),
-                ('printf "1\n2\n"; echo 2 > new', 'all 2 acknowledged lines came in one write')]:
+            ('echo 2 > new', 'no line was acknowledged: no loss can be seen; --no-say'),
+            (
+                'echo 2 > new; echo no >&2',
+                'no line was acknowledged, and 1 line on standard error: no loss can be seen '
+                '(--say-fd 2 takes these)',
+            ),
+            ('printf "1\n2\n"; echo 2 > new', 'all 2 acknowledged lines came in one write'),
+        ]:
             with self.subTest(script):
                 ran = self.record_aloud(script)
                 self.assertEqual(ran.returncode, 3)
@@ -112,9 +119,12 @@ class Records(InRecordings):
     @needs_version_3
     def test_the_last_line_counts_what_there_is(self):
         ran = self.record_aloud('echo 2 > new; echo one; rm old; echo two')
-        self.assertIn('1 start line, 5 operations, 6 micro-operations, 20 states, '
-                      '2 acknowledged lines (standard output); its last state equals the '
-                      'directory', ran.stderr)
+        self.assertIn(
+            '1 start line, 5 operations, 6 micro-operations, 20 states, '
+            '2 acknowledged lines (standard output); its last state equals the '
+            'directory',
+            ran.stderr,
+        )
 
     def test_what_is_only_noted_has_status_4(self):
         ran = self.record('mkdir s; chmod 2755 s')
@@ -131,8 +141,10 @@ class Records(InRecordings):
             self.assertEqual(ran.returncode, 0, ran.stderr)
             self.assertIn('what was not yet synced then counts as durable', ran.stderr)
             self.assertIn('"text":"2\\n"}', self.read('out.trace').splitlines()[1])
-            self.assertEqual(self.read('out.trace').splitlines()[2],
-                             '{"start":"link","path":"/old","from":"/new"}')
+            self.assertEqual(
+                self.read('out.trace').splitlines()[2],
+                '{"start":"link","path":"/old","from":"/new"}',
+            )
             names = [one.split('"')[3] for one in self.operations()]
             self.assertEqual(names, ['creat', 'write', 'say', 'unlink', 'say'])
         ran = self.record_aloud('rm -f new s; ' + script, '--begin-after', 'down')
@@ -140,8 +152,9 @@ class Records(InRecordings):
         self.assertIn('no acknowledged line is down', ran.stderr)
 
     def test_the_trace_may_be_standard_output_or_what_is_no_plain_file(self):
-        ran = self.run_tool('crashfs-record', '--no-say', 'd', '-', '--', 'sh', '-c',
-                            'echo 2 > new')
+        ran = self.run_tool(
+            'crashfs-record', '--no-say', 'd', '-', '--', 'sh', '-c', 'echo 2 > new'
+        )
         self.assertEqual(ran.returncode, 0, ran.stderr)
         self.assertEqual(len(ran.stdout.splitlines()), 4)
         os.mkfifo(self.path('pipe'))
@@ -185,13 +198,28 @@ class Records(InRecordings):
         self.assertEqual(len(self.operations()), 1)
 
     def test_ignored_files_stand_nowhere(self):
-        ran = self.record('mkdir -p s/log; echo 2 > s/log/a; echo 3 > b', '--ignore', 'lo*/',
-                          '--ignore', 's/', '--ignore', '!/b')
+        ran = self.record(
+            'mkdir -p s/log; echo 2 > s/log/a; echo 3 > b',
+            '--ignore',
+            'lo*/',
+            '--ignore',
+            's/',
+            '--ignore',
+            '!/b',
+        )
         self.assertEqual((ran.returncode, len(self.operations())), (0, 2), ran.stderr)
 
     def test_a_difference_at_the_end_is_told(self):
-        child = self.start('crashfs-record', '--no-say', 'd', 'out.trace', '--', 'sh', '-c',
-                           'echo $$ > ../pid; until test -e other; do sleep 0.05; done')
+        child = self.start(
+            'crashfs-record',
+            '--no-say',
+            'd',
+            'out.trace',
+            '--',
+            'sh',
+            '-c',
+            'echo $$ > ../pid; until test -e other; do sleep 0.05; done',
+        )
         self.pid_of('pid', child)
         self.make_other()
         _, err = child.communicate(timeout=PATIENCE)
@@ -201,8 +229,16 @@ class Records(InRecordings):
     def test_what_a_scan_sees_and_no_trace_says_is_reported(self):
         self.write('d/one', '1')
         self.write('d/two', '1')
-        child = self.start('crashfs-record', '--no-say', 'd', 'out.trace', '--', 'sh', '-c',
-                           'echo $$ > ../pid; until test -e other; do sleep 0.05; done; rm other')
+        child = self.start(
+            'crashfs-record',
+            '--no-say',
+            'd',
+            'out.trace',
+            '--',
+            'sh',
+            '-c',
+            'echo $$ > ../pid; until test -e other; do sleep 0.05; done; rm other',
+        )
         self.pid_of('pid', child)
         os.unlink(self.path('d', 'two'))
         os.link(self.path('d', 'one'), self.path('d', 'two'))
@@ -211,17 +247,18 @@ class Records(InRecordings):
         self.make_other()
         _, err = child.communicate(timeout=PATIENCE)
         self.assertEqual(child.returncode, 3)
-        for told in ['/two: it is a link to /one at the end, and not so in the trace',
-                     '/pipe: at the end it is a named pipe, which no trace has',
-                     '/old: its extended attributes differ, which no trace has']:
+        for told in [
+            '/two: it is a link to /one at the end, and not so in the trace',
+            '/pipe: at the end it is a named pipe, which no trace has',
+            '/old: its extended attributes differ, which no trace has',
+        ]:
             self.assertIn(told, err)
 
     def test_a_program_that_refuses_the_trace_compares_nothing(self):
         self.write('tmp/crashfs', '#!/bin/sh\necho "trace line 1: Syntax" >&2; exit 1\n', 0o755)
         ran = self.record('echo 2 > new', '--crashfs', self.path('tmp', 'crashfs'))
         self.assertEqual(ran.returncode, 0, ran.stderr)
-        self.assertIn("its last state equals the directory (by the recorder's replay)",
-                      ran.stderr)
+        self.assertIn("its last state equals the directory (by the recorder's replay)", ran.stderr)
 
     def test_a_log_is_converted_as_it_was_recorded(self):
         before = self.read('d/old')
@@ -230,8 +267,16 @@ class Records(InRecordings):
         recorded = self.read('out.trace')
         os.mkdir(self.path('copy'))
         self.write('copy/old', before)
-        ran = self.run_tool('crashfs-record', '--no-say', '--from-log', 'log', '--log-dir',
-                            self.path('d'), 'copy', 'second.trace')
+        ran = self.run_tool(
+            'crashfs-record',
+            '--no-say',
+            '--from-log',
+            'log',
+            '--log-dir',
+            self.path('d'),
+            'copy',
+            'second.trace',
+        )
         self.assertEqual(ran.returncode, 0, ran.stderr)
         self.assertEqual(self.read('second.trace'), recorded)
 
@@ -249,14 +294,17 @@ class Records(InRecordings):
         script = self.write('mapped.py', STORE_MAPPED)
         ran = self.record(f'{sys.executable} {script}', '--mapped')
         self.assertEqual(ran.returncode, 0, ran.stderr)
-        self.assertEqual([line.partition(',')[2] for line in self.operations()[1:]], [
-            '"path":"/map","length":8192}',
-            '"path":"/map","offset":5,"text":"hi"}',
-            '"path":"/map","offset":4096,"text":"x"}',
-            '"path":"/map","offset":0,"length":8192}',
-            '"path":"/map","offset":0,"text":"y"}',
-            '"text":"told"}',
-        ])
+        self.assertEqual(
+            [line.partition(',')[2] for line in self.operations()[1:]],
+            [
+                '"path":"/map","length":8192}',
+                '"path":"/map","offset":5,"text":"hi"}',
+                '"path":"/map","offset":4096,"text":"x"}',
+                '"path":"/map","offset":0,"length":8192}',
+                '"path":"/map","offset":0,"text":"y"}',
+                '"text":"told"}',
+            ],
+        )
         self.assert_nothing_left()
 
     def test_without_mapped_a_mapping_is_a_trouble(self):
@@ -268,14 +316,19 @@ class Records(InRecordings):
     def test_an_argument_that_is_not_in_the_directory_is_named(self):
         self.write('save.py', 'raise SystemExit(1)')
         self.write('d/here.py', 'raise SystemExit(1)')
-        ran = self.run_tool('crashfs-record', '--no-say', 'd', 'out.trace', '--',
-                            sys.executable, 'save.py')
+        ran = self.run_tool(
+            'crashfs-record', '--no-say', 'd', 'out.trace', '--', sys.executable, 'save.py'
+        )
         self.assertEqual(ran.returncode, 3)
-        self.assertIn(f'save.py is a relative path, but COMMAND runs in {self.path("d")}: use '
-                      f'{self.path("save.py")}\n', ran.stderr)
+        self.assertIn(
+            f'save.py is a relative path, but COMMAND runs in {self.path("d")}: use '
+            f'{self.path("save.py")}\n',
+            ran.stderr,
+        )
         self.assertIn('its last state equals the directory (by', ran.stderr)
-        ran = self.run_tool('crashfs-record', '--no-say', 'd', 'out.trace', '--',
-                            sys.executable, 'here.py')
+        ran = self.run_tool(
+            'crashfs-record', '--no-say', 'd', 'out.trace', '--', sys.executable, 'here.py'
+        )
         self.assertNotIn('a relative path', ran.stderr)
 
     def test_a_command_that_cannot_be_started_is_told(self):
@@ -289,81 +342,35 @@ class Records(InRecordings):
         os.system(f'cd {self.path("d")} && strace -f -y -o ../log sh -c "echo 2 > new"')
         ran = self.run_tool('crashfs-record', '--from-log', 'log', 'd', 'out.trace')
         self.assertEqual((ran.returncode, ran.stdout), (1, ''))
-        self.assertRegex(ran.stderr, '^crashfs-record: the log is not as strace -f -y -xx writes '
-                                     'it(, in line [0-9]+)?\n$')
+        self.assertRegex(
+            ran.stderr,
+            '^crashfs-record: the log is not as strace -f -y -xx writes '
+            'it(, in line [0-9]+)?\n$',
+        )
 
     def test_a_standard_output_that_takes_nothing_is_told(self):
-        ran = self.run_tool('crashfs-record', 'd', 'out.trace', '--', 'echo', 'stored',
-                            output='/dev/full')
+        ran = self.run_tool(
+            'crashfs-record', 'd', 'out.trace', '--', 'echo', 'stored', output='/dev/full'
+        )
         self.assertEqual(ran.returncode, 1)
-        self.assertEqual(ran.stderr, 'crashfs-record: standard output: No space left on device; '
-                                     'no trace is written\n')
+        self.assertEqual(
+            ran.stderr,
+            'crashfs-record: standard output: No space left on device; ' 'no trace is written\n',
+        )
 
     def test_what_has_no_room_is_not_there(self):
-        for keep, told in [((), 'out.trace: File too large; no trace is written'),
-                           (('--keep-log', 'log'), 'log: File too large; no trace is written')]:
-            ran = self.run_tool('crashfs-record', *keep, 'd', 'out.trace', '--', 'sh', '-c',
-                                'for i in 1 2 3 4 5; do echo $i > f$i; done', file_bytes=300)
-            self.assertEqual(ran.returncode, 1)
-            self.assertEqual(ran.stderr, f'crashfs-record: {told}\n')
-            self.assertEqual(sorted(os.listdir(self.folder)), ['d', *keep[1:], 'tmp'])
-            self.assert_nothing_left()
-
-
-class Refuses(InFolder):
-
-    def setUp(self):
-        super().setUp()
-        os.mkdir(self.path('d'))
-
-    def refusal(self, *words):
-        ran = self.run_tool('crashfs-record', *words)
-        self.assertEqual((ran.returncode, ran.stdout), (1, ''), ran.stderr)
-        self.assert_nothing_left()
-        self.assertEqual(sorted(os.listdir(self.folder)), ['d', 'tmp'])
-        return ran.stderr
-
-    def test_bad_input_is_told_in_one_line(self):
-        for told, *words in [
-                ('x is no directory', 'x', 'o', '--', 'true'),
-                ('no-such-command: command not found', 'd', 'o', '--', 'no-such-command'),
-                ('./d: not executable', 'd', 'o', '--', './d'),
-                ('x/o: its directory is not there', 'd', 'x/o', '--', 'true'),
-                ('d/o would be in ', 'd', 'd/o', '--', 'true'),
-                ('--crashfs /none: no such program', '--crashfs', '/none', 'd', 'o', '--',
-                 'true'),
-                ('tmp is a directory', 'd', 'tmp', '--', 'true'),
-                ('/dev/null has no call of any process', '--from-log', '/dev/null', 'd', 'o'),
-                ('none: No such file or directory', '--from-log', 'none', 'd', 'o')]:
-            with self.subTest(told):
-                err = self.refusal(*words)
-                self.assertTrue(err.startswith(f'crashfs-record: {told}'), err)
-                self.assertEqual(err.count('\n'), 1, err)
-
-    def test_without_strace_nothing_runs(self):
-        ran = self.run_tool('crashfs-record', 'd', 'o', '--', '/bin/sh', '-c', 'echo 1 > a',
-                            path=self.path('tmp'))
+        words = ['d', 'out.trace', '--', 'sh', '-c', 'for i in 1 2 3 4 5; do echo $i > f$i; done']
+        ran = self.run_tool('crashfs-record', *words, file_bytes=300)
         self.assertEqual(ran.returncode, 1)
-        self.assertIn('strace: command not found', ran.stderr)
-        self.assertEqual(os.listdir(self.path('d')), [])
-
-    def test_a_strace_that_is_old_or_may_not_trace_is_told(self):
-        os.mkdir(self.path('tmp', 'bin'))
-        for version, told in [('5.10', 'strace is 5.10; 5.18 or later is needed'),
-                              ('6.1', 'strace recorded nothing')]:
-            strace = self.write('tmp/bin/strace', f"""#!/bin/sh
-                test "$1" = -V && echo 'strace -- version {version}' && exit
-                exit 1""", 0o755)
-            ran = self.run_tool('crashfs-record', '--keep-log', 'log', 'd', 'o', '--', '/bin/true',
-                                path=os.path.dirname(strace))
-            self.assertEqual(ran.returncode, 1)
-            self.assertIn(told, ran.stderr)
-            self.assertFalse(os.path.exists(self.path('o')))
-
-    def test_the_command_line_is_refused_with_status_2(self):
-        for words in [('d',), ('d', 'o'), ('d', 'o', '--'),
-                      ('--from-log', 'l', 'd', 'o', '--', 'x')]:
-            self.assertEqual(self.run_tool('crashfs-record', *words).returncode, 2)
+        reason = 'out.trace: File too large; no trace is written'
+        self.assertEqual(ran.stderr, f'crashfs-record: {reason}\n')
+        self.assertEqual(sorted(os.listdir(self.folder)), ['d', 'tmp'])
+        self.assert_nothing_left()
+        ran = self.run_tool('crashfs-record', '--keep-log', 'log', *words, file_bytes=3000)
+        self.assertEqual(ran.returncode, 3, ran.stderr)
+        self.assertIn('not in the trace: log: its log is cut: File too large\n', ran.stderr)
+        self.assertIn('its last state equals the directory', ran.stderr)
+        self.assertEqual(len(self.operations()), 10)
 
 
 if __name__ == '__main__':

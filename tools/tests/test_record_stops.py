@@ -7,23 +7,25 @@ import signal
 import time
 import unittest
 
-from crashfs_tools import strace_run
+from crashfs_tools.recorder import strace_run
 
 from .support import PATIENCE, needs_strace
 from .test_record_command import InRecordings
 
 # The call that signals one thread.
 TGKILL = 234
+# A process of its own session that has nothing in its environment.
+UNMARKED = """setsid env -i sh -c 'echo $$ > ../pid; exec sleep 300'"""
 
 
 @needs_strace
 class Stops(InRecordings):
-
     def test_a_command_that_a_signal_ends_is_recorded(self):
         for name in ('KILL', 'TERM', 'SEGV'):
             with self.subTest(name):
-                ran = self.record_aloud(f'echo 2 > new; echo told; kill -{name} $$',
-                                        '--keep-log', 'log')
+                ran = self.record_aloud(
+                    f'echo 2 > new; echo told; kill -{name} $$', '--keep-log', 'log'
+                )
                 self.assertEqual((ran.returncode, ran.stdout), (3, 'told\n'))
                 self.assertIn(f'COMMAND was ended by SIG{name}\n', ran.stderr)
                 self.assertIn(f'+++ killed by SIG{name}', self.read('log'))
@@ -32,12 +34,19 @@ class Stops(InRecordings):
     def test_a_stop_ends_the_command_and_what_was_recorded_is_written(self):
         for number in (signal.SIGINT, signal.SIGTERM):
             with self.subTest(number):
-                child = self.start('crashfs-record', 'd', 'out.trace', '--', 'sh', '-c',
-                                   'echo $$ > ../pid; echo 2 > new; echo told; '
-                                   'echo 1 > ../after; sleep 60')
+                child = self.start(
+                    'crashfs-record',
+                    'd',
+                    'out.trace',
+                    '--',
+                    'sh',
+                    '-c',
+                    'echo $$ > ../pid; echo 2 > new; echo told; ' 'echo 1 > ../after; sleep 60',
+                )
                 pid = self.pid_of('pid', child)
-                self.wait_until(lambda: os.path.exists(self.path('after')), 'the line is told',
-                                child)
+                self.wait_until(
+                    lambda: os.path.exists(self.path('after')), 'the line is told', child
+                )
                 child.send_signal(number)
                 _, err = child.communicate(timeout=PATIENCE)
                 self.assertEqual(child.returncode, 0, err)
@@ -49,11 +58,20 @@ class Stops(InRecordings):
 
     @unittest.skipUnless(platform.machine() == 'x86_64', 'tgkill has another number')
     def test_a_stop_that_another_thread_takes_is_passed_on(self):
-        child = self.start('crashfs-record', '--no-say', 'd', 'out.trace', '--', 'sh', '-c',
-                           'echo $$ > ../pid; exec sleep 300')
+        child = self.start(
+            'crashfs-record',
+            '--no-say',
+            'd',
+            'out.trace',
+            '--',
+            'sh',
+            '-c',
+            'echo $$ > ../pid; exec sleep 300',
+        )
         pid = self.pid_of('pid', child)
-        other, = [int(one) for one in os.listdir(f'/proc/{child.pid}/task')
-                  if int(one) != child.pid]
+        (other,) = [
+            int(one) for one in os.listdir(f'/proc/{child.pid}/task') if int(one) != child.pid
+        ]
         time.sleep(0.5)  # The first thread waits by now for standard output.
         ctypes.CDLL(None).syscall(TGKILL, child.pid, other, signal.SIGTERM)
         _, err = child.communicate(timeout=PATIENCE)
@@ -65,8 +83,9 @@ class Stops(InRecordings):
         child = self.start('crashfs-record', '--no-say', 'd', 'out.trace', '--', 'sh', '-c', script)
         pid = self.pid_of('pid', child)
         child.terminate()
-        self.wait_until(lambda: os.path.exists(self.path('trapped')), 'COMMAND has the signal',
-                        child)
+        self.wait_until(
+            lambda: os.path.exists(self.path('trapped')), 'COMMAND has the signal', child
+        )
         time.sleep(strace_run.SAME_STOP)
         child.terminate()
         _, err = child.communicate(timeout=PATIENCE)
@@ -74,9 +93,30 @@ class Stops(InRecordings):
         self.assertIn('COMMAND was ended by SIGKILL', err)
         self.assert_gone(pid)
 
+    def test_a_stop_reaches_a_command_that_drops_its_environment(self):
+        child = self.start(
+            'crashfs-record', '--no-say', 'd', 'out.trace', '--', 'sh', '-c', f'exec {UNMARKED}'
+        )
+        pid = self.pid_of('pid', child)
+        child.terminate()
+        _, err = child.communicate(timeout=PATIENCE)
+        self.assertEqual(child.returncode, 0, err)
+        self.assertFalse(os.path.exists(f'/proc/{pid}'))
+
+    def test_what_strace_does_not_follow_is_ended_too(self):
+        script = f'{UNMARKED} & until test -s ../pid; do :; done; kill -9 $PPID; wait'
+        child = self.start('crashfs-record', '--no-say', 'd', 'out.trace', '--', 'sh', '-c', script)
+        pid = self.pid_of('pid', child)
+        _, err = child.communicate(timeout=PATIENCE)
+        self.assertEqual(child.returncode, 1, err)
+        self.assertIn("strace's log ends before COMMAND did", err)
+        self.assertFalse(os.path.exists(f'/proc/{pid}'))
+        self.assert_nothing_left()
+
     def test_a_kill_leaves_nothing(self):
-        child = self.start('crashfs-record', 'd', 'out.trace', '--', 'sh', '-c',
-                           'echo $$ > ../pid; sleep 60')
+        child = self.start(
+            'crashfs-record', 'd', 'out.trace', '--', 'sh', '-c', 'echo $$ > ../pid; sleep 60'
+        )
         pid = self.pid_of('pid', child)
         child.kill()
         child.communicate(timeout=PATIENCE)

@@ -3,7 +3,6 @@
 from __future__ import annotations
 
 import hashlib
-import importlib.util
 import json
 import os
 import posixpath
@@ -14,21 +13,38 @@ import sys
 import tarfile
 import unittest
 from functools import lru_cache
-from importlib.machinery import SourceFileLoader
 from pathlib import Path
-from typing import Any, Dict, List, Set, Tuple
+from typing import Dict, Set
 
+from building.order import libraries
 from crashfs_tools import VERSION
 from releasing.archives import control_of, for_debian, write_package, write_tarball
 from releasing.layout import TOP, Item, Items, items_with
-from releasing.statements import (BUILT, GIVEN, NOT_RUN, Made, attestation, built_module, checksums,
-                                  last_line_of_gate, linked_by, spdx)
+from releasing.statements import (
+    BUILT,
+    GIVEN,
+    NOT_RUN,
+    Made,
+    attestation,
+    built_module,
+    checksums,
+    linked_by,
+    spdx,
+)
 
 from .support import InFolder, needed
 
 SECONDS = 1_700_000_000
-MADE = Made('1.2.3', 'c0ffee', 'kit-1 logic ab', SECONDS, '9 passed, 0 failed', GIVEN, 'gcc 12.2.0',
-            'glibc 2.36')
+MADE = Made(
+    '1.2.3',
+    'c0ffee',
+    'kit-1 logic ab',
+    SECONDS,
+    '9 passed, 0 failed',
+    GIVEN,
+    'gcc 12.2.0',
+    'glibc 2.36',
+)
 PROGRAM = b'\x7fELF program'
 LINK = re.compile(r'\]\(([^)#\s]+)(?:#[^)]*)?\)')
 
@@ -36,21 +52,15 @@ needs_git = needed((TOP / '.git').exists(), 'this is no clone')
 needs_dpkg = needed(shutil.which('dpkg-deb') is not None, 'dpkg-deb is not there')
 
 
-def module_of(command: str) -> Any:
-    """A command of tools/ as a module."""
-    loader = SourceFileLoader(f'{command}_command', str(TOP / 'tools' / command))
-    spec = importlib.util.spec_from_loader(loader.name, loader)
-    assert spec is not None
-    module = importlib.util.module_from_spec(spec)
-    sys.modules[loader.name] = module
-    loader.exec_module(module)
-    return module
-
-
 def tracked_modes(folder: str) -> Dict[str, int]:
     """The files below a folder of tools/ as git has them, each with its mode."""
-    said = subprocess.run(['git', 'ls-files', '-s', '-z', '--', folder], cwd=TOP / 'tools',
-                          check=True, capture_output=True, text=True).stdout
+    said = subprocess.run(
+        ['git', 'ls-files', '-s', '-z', '--', folder],
+        cwd=TOP / 'tools',
+        check=True,
+        capture_output=True,
+        text=True,
+    ).stdout
     rows = (row.split('\t') for row in said.split('\0') if row)
     return {path: int(row.split()[0], 8) & 0o777 for row, path in rows}
 
@@ -60,56 +70,83 @@ def packages_of(text: str) -> Dict[str, str]:
 
 
 class Statements(InFolder):
-
-    def test_the_gate_s_last_count_is_taken(self) -> None:
-        rows: List[Tuple[str, str]] = [
-            ('1 passed, 1 failed\nrt: ok\n3 passed, 0 failed\n', '3 passed, 0 failed'),
-            ('  12 passed, 0 failed (4 kept)  \n\n', '12 passed, 0 failed (4 kept)'),
-            ('3 passed, 0 failed\nthen 4 passed, 0 failed\n', '3 passed, 0 failed'),
-        ]
-        for said, line in rows:
-            self.assertEqual(last_line_of_gate(said), line)
-        for said in ('', 'rt: ok\n', 'no 3 passed, 0 failed\n'):
-            with self.assertRaisesRegex(ValueError, 'no line "N passed, M failed"'):
-                last_line_of_gate(said)
-
     def test_the_attestation_has_the_checksums_of_what_was_linked(self) -> None:
         text = attestation(MADE, b'object', PROGRAM)
         fields = dict(line.split(': ', 1) for line in text.splitlines())
-        self.assertEqual(fields, {
-            'version': '1.2.3', 'commit': 'c0ffee', 'kit': 'kit-1 logic ab',
-            'gate': '9 passed, 0 failed', 'object': GIVEN,
-            'object-sha256': hashlib.sha256(b'object').hexdigest(),
-            'linked': 'statically, outside the kit, by gcc 12.2.0 with glibc 2.36',
-            'program-sha256': hashlib.sha256(PROGRAM).hexdigest()})
+        self.assertEqual(
+            fields,
+            {
+                'version': '1.2.3',
+                'commit': 'c0ffee',
+                'kit': 'kit-1 logic ab',
+                'gate': '9 passed, 0 failed',
+                'object': GIVEN,
+                'object-sha256': hashlib.sha256(b'object').hexdigest(),
+                'linked': 'statically, outside the kit, by gcc 12.2.0 with glibc 2.36',
+                'program-sha256': hashlib.sha256(PROGRAM).hexdigest(),
+            },
+        )
         plain = Made('1', 'c', 'k', SECONDS)
         self.assertEqual((plain.gate, plain.objects), (NOT_RUN, BUILT))
 
     def test_the_checksums_are_checked_by_sha256sum(self) -> None:
         paths = [Path(self.write(name, name)) for name in ('b', 'a')]
         self.write('sums', checksums(paths))
-        ran = subprocess.run(['sha256sum', '--check', '--strict', 'sums'], cwd=self.folder,
-                             capture_output=True, text=True, check=True)
+        ran = subprocess.run(
+            ['sha256sum', '--check', '--strict', 'sums'],
+            cwd=self.folder,
+            capture_output=True,
+            text=True,
+            check=True,
+        )
         self.assertEqual(ran.stdout, 'a: OK\nb: OK\n')
 
     def test_the_tools_of_a_release_print_its_commit_and_its_kit(self) -> None:
-        shutil.copytree(TOP / 'tools' / 'crashfs_tools', self.path('crashfs_tools'),
-                        ignore=shutil.ignore_patterns('__pycache__'))
+        shutil.copytree(
+            TOP / 'tools' / 'crashfs_tools',
+            self.path('crashfs_tools'),
+            ignore=shutil.ignore_patterns('__pycache__'),
+        )
         self.write('crashfs_tools/built.py', built_module(MADE))
         for command in ('crashfs-check', 'crashfs-record'):
             shutil.copy2(TOP / 'tools' / command, self.path(command))
-            ran = subprocess.run([sys.executable, '-S', command, '--version'], cwd=self.folder,
-                                 capture_output=True, text=True, check=True)
-            self.assertRegex(ran.stdout,
-                             rf'^{command} [\d.]+ \(commit c0ffee, kit kit-1 logic ab\)\n$')
+            ran = subprocess.run(
+                [sys.executable, '-S', command, '--version'],
+                cwd=self.folder,
+                capture_output=True,
+                text=True,
+                check=True,
+            )
+            self.assertRegex(
+                ran.stdout, rf'^{command} [\d.]+ \(commit c0ffee, kit kit-1 logic ab\)\n$'
+            )
+
+
+class Installed(InFolder):
+    def test_installed_tools_name_no_file_that_only_a_clone_has(self) -> None:
+        ignored = shutil.ignore_patterns('__pycache__')
+        shutil.copytree(TOP / 'tools' / 'crashfs_tools', self.path('crashfs_tools'), ignore=ignored)
+        shutil.copy2(TOP / 'tools' / 'crashfs-check', self.path('crashfs-check'))
+        config = TOP / 'examples' / 'config'
+        for command, named in ((TOP / 'tools' / 'crashfs-check', True), ('crashfs-check', False)):
+            words = ['--unproved', config / 'config.trace', '--', config / 'check.sh']
+            ran = subprocess.run(
+                [sys.executable, '-S', command, *words],
+                cwd=self.folder,
+                capture_output=True,
+                text=True,
+                check=False,
+            )
+            first = ran.stdout.splitlines()[0]
+            self.assertTrue(first.startswith('unproved: '), first)
+            self.assertEqual('tools/build' in first, named, first)
 
 
 class Linked(unittest.TestCase):
-
     def test_the_list_has_each_library_of_the_program_and_no_other(self) -> None:
         crates = (TOP / 'crates.txt').read_text()
         found = packages_of(spdx(MADE, crates))
-        own = set(module_of('build').libraries()) - {'crashfs'}
+        own = set(libraries()) - {'crashfs'}
         of_kit = {'rattle-standard-library', 'glibc', 'libgcc'}
         self.assertTrue(own < set(found))
         for name, version in found.items():
@@ -123,16 +160,18 @@ class Linked(unittest.TestCase):
         self.assertEqual([name for name in found if 'test' in name or 'bench' in name], [])
 
     def test_the_libraries_of_libraries_are_linked(self) -> None:
-        crates = ('low: k # a comment\nmid: low\n# none: low\nprogram: mid l\n'
-                  'tests: program t\n')
+        crates = 'low: k # a comment\nmid: low\n# none: low\nprogram: mid l\n' 'tests: program t\n'
         self.assertEqual(linked_by('program', crates), {'mid', 'low', 'k', 'l'})
 
     def test_each_is_related_to_the_program(self) -> None:
         document = json.loads(spdx(MADE, 'crashfs: a\na: b_c\n'))
         names = {it['SPDXID'] for it in document['packages']}
         self.assertLessEqual({'SPDXRef-a', 'SPDXRef-b-c', 'SPDXRef-crashfs'}, names)
-        linked = {it['relatedSpdxElement'] for it in document['relationships']
-                  if it['relationshipType'] == 'STATIC_LINK'}
+        linked = {
+            it['relatedSpdxElement']
+            for it in document['relationships']
+            if it['relationshipType'] == 'STATIC_LINK'
+        }
         self.assertEqual(linked, names - {'SPDXRef-crashfs'})
         self.assertEqual(document['creationInfo']['created'], '2023-11-14T22:13:20Z')
 
@@ -145,21 +184,27 @@ def released() -> Items:
 
 @needs_git
 class Layout(unittest.TestCase):
-
     def setUp(self) -> None:
         self.items = released()
 
     def test_each_file_of_the_tools_is_there_with_its_mode(self) -> None:
-        modes = {**tracked_modes('crashfs_tools'), **tracked_modes('crashfs-check'),
-                 **tracked_modes('crashfs-record'), 'crashfs_tools/built.py': 0o644}
+        modes = {
+            **tracked_modes('crashfs_tools'),
+            **tracked_modes('crashfs-check'),
+            **tracked_modes('crashfs-record'),
+            'crashfs_tools/built.py': 0o644,
+        }
         below = 'lib/crashfs/'
-        found = {path[len(below):]: item.mode for path, item in self.items.items()
-                 if path.startswith(below)}
+        found = {
+            path[len(below) :]: item.mode
+            for path, item in self.items.items()
+            if path.startswith(below)
+        }
         self.assertEqual(found, modes)
         self.assertGreater(len(modes), 50)
         for path, item in self.items.items():
             if path.startswith(below) and not path.endswith('built.py'):
-                source = TOP / 'tools' / path[len(below):]
+                source = TOP / 'tools' / path[len(below) :]
                 self.assertEqual(item.content, source.read_bytes(), path)
 
     def test_the_program_is_there_and_no_test_is(self) -> None:
@@ -167,8 +212,11 @@ class Layout(unittest.TestCase):
         self.assertEqual([path for path in self.items if re.search(r'\btests?\b|test_', path)], [])
 
     def test_links_lead_to_programs(self) -> None:
-        links = {path: posixpath.normpath(posixpath.join(posixpath.dirname(path), item.target))
-                 for path, item in self.items.items() if item.target}
+        links = {
+            path: posixpath.normpath(posixpath.join(posixpath.dirname(path), item.target))
+            for path, item in self.items.items()
+            if item.target
+        }
         self.assertEqual(set(links), {'bin/crashfs-check', 'bin/crashfs-record'})
         for target in links.values():
             self.assertEqual(self.items[target].mode, 0o755)
@@ -180,8 +228,9 @@ class Layout(unittest.TestCase):
         for page in pages:
             for target in LINK.findall(self.items[page].content.decode()):
                 path = posixpath.normpath(posixpath.join(posixpath.dirname(page), target))
-                if '://' not in target and not any(it == path or it.startswith(f'{path}/')
-                                                   for it in self.items):
+                if '://' not in target and not any(
+                    it == path or it.startswith(f'{path}/') for it in self.items
+                ):
                     missing.add(f'{page}: {target}')
         self.assertEqual(sorted(missing), [])
 
@@ -192,17 +241,19 @@ class Layout(unittest.TestCase):
         wanted |= {f'share/bash-completion/completions/{name}' for name in commands}
         wanted |= {f'share/zsh/vendor-completions/_{name}' for name in commands}
         wanted |= {f'share/fish/vendor_completions.d/{name}.fish' for name in commands}
-        shared = {path for path in self.items
-                  if path.startswith('share/') and not path.startswith('share/doc/')}
+        shared = {
+            path
+            for path in self.items
+            if path.startswith('share/') and not path.startswith('share/doc/')
+        }
         self.assertEqual(shared, wanted)
 
 
 class Names(unittest.TestCase):
-
     def test_files_of_a_release_are_named_by_the_version(self) -> None:
-        readme = (TOP / 'README.md').read_text('utf-8')
+        page = (TOP / 'docs' / 'CONTRIBUTING.md').read_text('utf-8')
         for name in (f'crashfs_{VERSION}_amd64.deb', f'crashfs-{VERSION}-linux-x86_64.tar.gz'):
-            self.assertIn(name, readme)
+            self.assertIn(name, page)
         image = (TOP / 'Dockerfile').read_text('utf-8')
         self.assertIn(f'\nARG VERSION={VERSION}\n', image)
         self.assertIn('\nCOPY dist/crashfs-${VERSION}-linux-x86_64.tar.gz ', image)
@@ -223,10 +274,12 @@ class Names(unittest.TestCase):
 
 
 class Archives(InFolder):
-    items: Items = {'bin/crashfs': Item(PROGRAM, is_program=True),
-                    'bin/crashfs-check': Item(target='../lib/crashfs/crashfs-check'),
-                    'lib/crashfs/crashfs-check': Item(b'#!/bin/sh\n', is_program=True),
-                    'share/doc/crashfs/README.md': Item(b'read\n')}
+    items: Items = {
+        'bin/crashfs': Item(PROGRAM, is_program=True),
+        'bin/crashfs-check': Item(target='../lib/crashfs/crashfs-check'),
+        'lib/crashfs/crashfs-check': Item(b'#!/bin/sh\n', is_program=True),
+        'share/doc/crashfs/README.md': Item(b'read\n'),
+    }
 
     def test_the_tarball_has_each_file_below_one_folder(self) -> None:
         path = Path(self.path('crashfs-1-linux-x86_64.tar.gz'))
@@ -244,12 +297,14 @@ class Archives(InFolder):
             self.assertEqual(members[name].linkname, item.target)
             self.assertEqual(members[name].mode, 0o777 if item.target else item.mode)
         for member in members.values():
-            self.assertEqual((member.uid, member.gid, member.uname, member.mtime),
-                             (0, 0, 'root', SECONDS))
+            self.assertEqual(
+                (member.uid, member.gid, member.uname, member.mtime), (0, 0, 'root', SECONDS)
+            )
             self.assertTrue(member.isdir() or member.name in names, member.name)
         order = list(members)
-        self.assertTrue(all(order.index(posixpath.dirname(name)) < order.index(name)
-                            for name in order[1:]))
+        self.assertTrue(
+            all(order.index(posixpath.dirname(name)) < order.index(name) for name in order[1:])
+        )
 
     def write_both(self, name: str) -> Dict[str, bytes]:
         """Both archives, as made in another folder with another umask."""
@@ -274,15 +329,20 @@ class Archives(InFolder):
     def test_the_package_has_its_fields_and_its_files(self) -> None:
         path = Path(self.path('crashfs_1_amd64.deb'))
         write_package(path, '1', self.items, SECONDS)
-        fields = subprocess.run(['dpkg-deb', '--field', str(path)], check=True, capture_output=True,
-                                text=True).stdout
+        fields = subprocess.run(
+            ['dpkg-deb', '--field', str(path)], check=True, capture_output=True, text=True
+        ).stdout
         self.assertIn('Depends: python3 (>= 3.9)\nRecommends: strace (>= 5.18)\n', fields)
         subprocess.run(['dpkg-deb', '--raw-extract', str(path), self.path('root')], check=True)
-        found = {str(it.relative_to(self.path('root', 'usr')))
-                 for it in Path(self.path('root', 'usr')).rglob('*') if not it.is_dir()}
+        found = {
+            str(it.relative_to(self.path('root', 'usr')))
+            for it in Path(self.path('root', 'usr')).rglob('*')
+            if not it.is_dir()
+        }
         self.assertEqual(found, set(for_debian(self.items, '1', SECONDS)))
-        subprocess.run(['md5sum', '--quiet', '--check', 'DEBIAN/md5sums'], cwd=self.path('root'),
-                       check=True)
+        subprocess.run(
+            ['md5sum', '--quiet', '--check', 'DEBIAN/md5sums'], cwd=self.path('root'), check=True
+        )
         self.assertEqual(len(self.read('root/DEBIAN/md5sums').splitlines()), len(found) - 1)
 
     def test_the_installed_size_counts_whole_units(self) -> None:

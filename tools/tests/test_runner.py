@@ -7,38 +7,61 @@ import threading
 import unittest
 from unittest import mock
 
-from crashfs_tools.runner import BAD, GOOD, NO_ANSWER, Checker, Over, Says
+from crashfs_tools.checker.running.runner import BAD, GOOD, NO_ANSWER, Checker, Over, Says
 
 from .support import FAKE, PATIENCE, TOOLS, InFolder
 from .test_check_command import InStore
 
 
-class Runs(InFolder):
+FLOOD = 'it printed more than 16 MB'
 
+
+class InRuns(InFolder):
     def checker(self, script: str, **more) -> Checker:
         os.makedirs(self.path('state'), exist_ok=True)
         says = Says(['one', 'zwölf', 'three'], self.temporary)
-        return Checker(['/bin/sh', '-c', script], more.pop('timeout', PATIENCE),
-                       dict(os.environ), says, **more)
+        return Checker(
+            ['/bin/sh', '-c', script], more.pop('timeout', PATIENCE), dict(os.environ), says, **more
+        )
 
     def run_once(self, script: str, says: int = 0, **more):
         return self.checker(script, **more).run(7, says, self.path('state'))
 
+
+class Runs(InRuns):
     def test_lines_are_those_of_the_state_in_one_file(self):
         checker = self.checker('printf "%s:" "$CRASHFS_SAYS"; cat | tr "\\n" ,; exit 1')
-        for says, lines in [(2, 'one,zwölf,'), (3, 'one,zwölf,three,'), (0, ''), (1, 'one,'),
-                            (1, 'one,')]:
+        for says, lines in [
+            (2, 'one,zwölf,'),
+            (3, 'one,zwölf,three,'),
+            (0, ''),
+            (1, 'one,'),
+            (1, 'one,'),
+        ]:
             self.assertEqual(checker.run(7, says, self.path('state')).cause, f'{says}:{lines}')
         self.assertEqual(len(os.listdir(self.temporary)), 1)
 
     def test_outcomes_are_of_statuses_and_signals(self):
         for script, result, cause in [
-                ('exit 0', GOOD, ''), ('exit 7', BAD, 'status 7'),
-                ('echo a; echo b >&2; exit 1', BAD, 'b'), ('pwd; exit 1', BAD, '.'),
-                ('test $CRASHFS_STATE = 7 && kill -9 $$', BAD, 'ended by SIGKILL')]:
+            ('exit 0', GOOD, ''),
+            ('exit 7', BAD, 'status 7'),
+            ('echo a; echo b >&2; exit 1', BAD, 'b'),
+            ('pwd; exit 1', BAD, '.'),
+            ('test $CRASHFS_STATE = 7 && kill -9 $$', BAD, 'ended by SIGKILL'),
+        ]:
             outcome = self.run_once(script)
             self.assertEqual((outcome.result, outcome.cause), (result, cause), script)
         self.assertEqual(sorted(os.listdir(self.folder)), ['state', 'tmp'])
+
+    def test_what_is_printed_has_a_limit_and_its_end_is_kept(self):
+        for script, outcome in [
+            ('yes | head -c 16777216; echo; echo end; exit 1', (NO_ANSWER, FLOOD)),
+            ('yes', (NO_ANSWER, FLOOD)),
+            ('yes | head -c 3000000; echo; echo end; exit 1', (BAD, 'end')),
+            ('exec >&- 2>&-; sleep 0.1; exit 7', (BAD, 'status 7')),
+        ]:
+            with self.subTest(script):
+                self.assertEqual(self.run_once(script)[:2], outcome)
 
     def test_without_descriptors_of_processes_it_is_the_same(self):
         with mock.patch('os.pidfd_open', side_effect=OSError):
@@ -48,8 +71,9 @@ class Runs(InFolder):
     def test_a_slow_command_is_noticed_once_and_ended_in_time(self):
         for seconds in (0.3, 3, 30, 300):
             slow = []
-            outcome = self.run_once('echo begun; sleep 900', timeout=seconds,
-                                    when_slow=lambda: slow.append(1))
+            outcome = self.run_once(
+                'echo begun; sleep 900', timeout=seconds, when_slow=lambda: slow.append(1)
+            )
             self.assertEqual((outcome.result, slow), (NO_ANSWER, [1]))
             if outcome.output:  # On a machine that is loaded it may not have begun in time.
                 break
@@ -59,8 +83,11 @@ class Runs(InFolder):
         for has_descriptors in (True, False):
             life, alive = os.pipe()
             threading.Timer(0.2, os.close, [alive]).start()
-            with mock.patch('os.pidfd_open', side_effect=None if has_descriptors else OSError,
-                            wraps=os.pidfd_open):
+            with mock.patch(
+                'os.pidfd_open',
+                side_effect=None if has_descriptors else OSError,
+                wraps=os.pidfd_open,
+            ):
                 with self.assertRaises(Over):
                     self.run_once('sleep 60', life=life)
             os.close(life)
@@ -72,15 +99,30 @@ class Runs(InFolder):
 
 
 class Starts(InStore):
-
     def check_command(self, script: str, more: str = '') -> None:
         """COMMAND is good in a check that a shell started."""
         words = f'exec "$@" -- sh -c \'{script}\' {more}'
         ran = subprocess.run(
-            ['sh', '-c', words, 'sh', sys.executable, '-S', str(TOOLS / 'crashfs-check'),
-             '--crashfs', FAKE, '--prefixes', self.good], cwd=self.folder, check=False,
-            stdout=subprocess.PIPE, stderr=subprocess.STDOUT, text=True,
-            env={**os.environ, **self.environment(None)})
+            [
+                'sh',
+                '-c',
+                words,
+                'sh',
+                sys.executable,
+                '-S',
+                str(TOOLS / 'crashfs-check'),
+                '--crashfs',
+                FAKE,
+                '--prefixes',
+                self.good,
+            ],
+            cwd=self.folder,
+            check=False,
+            stdout=subprocess.PIPE,
+            stderr=subprocess.STDOUT,
+            text=True,
+            env={**os.environ, **self.environment(None)},
+        )
         self.assertEqual(ran.returncode, 0, ran.stdout)
 
     def test_no_descriptor_of_the_check_is_passed_on(self):

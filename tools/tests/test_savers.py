@@ -5,7 +5,7 @@ import os
 import sys
 import unittest
 
-from .support import FAKE, InFolder, needs_strace, needs_version_3
+from .support import FAKE, TOOLS, InFolder, needs_strace, needs_version_3
 
 
 def text_of(version):
@@ -15,7 +15,9 @@ def text_of(version):
 
 TEXT_OF = inspect.getsource(text_of)
 # Stores three versions, and tells each. The first word says how.
-SAVER = TEXT_OF + """
+SAVER = (
+    TEXT_OF
+    + """
 import os, sys
 def sync(path):
     file = os.open(path, os.O_RDONLY)
@@ -34,8 +36,11 @@ for version in (1, 2, 3):
         sync('.')
     os.write(1, b'version %d is saved\\n' % version)
 """
+)
 # The file has a version, whole, which isn't older than what was told.
-CHECK = TEXT_OF + """
+CHECK = (
+    TEXT_OF
+    + """
 import os, sys
 with open('config') as file:
     text = file.read()
@@ -45,30 +50,64 @@ if not whole:
 if whole[0] < int(os.environ['CRASHFS_SAYS']):
     sys.exit('lost: an older version')
 """
+)
 
-# The way, its micro-operations, states, different trees, and states that fail.
+# Two reports that the tools' own saver writes, and what must be found of them.
+OWN_SAVER = f"""
+import os, sys
+sys.path.insert(0, {str(TOOLS)!r})
+from crashfs_tools.common.command import write_whole
+for version in (1, 2):
+    write_whole('r.json', (f'version {{version}}, line {{line}}\\n' for line in range(900)))
+    os.write(1, b'written\\n')
+"""
+OWN_CHECK = """
+import os, sys
+lines = open('r.json').readlines() if os.path.exists('r.json') else []
+if lines and lines != [f'version {lines[0][8]}, line {line}\\n' for line in range(900)]:
+    sys.exit('corrupt: the report is not whole')
+if int(lines[0][8] if lines else 0) < int(os.environ['CRASHFS_SAYS']):
+    sys.exit('lost: a report that was written')
+"""
+
+# The way, its micro-operations, states, and different ones, and how many of these and of all fail.
 WAYS = [
-    ('in place', 15, 34, 25, 24),
-    ('by a rename', 18, 177, 74, 98),
-    ('synced before it', 18, 73, 34, 34),
-    ('with both syncs', 18, 43, 22, 0),
+    ('in place', 15, 34, 25, 18, 24),
+    ('by a rename', 18, 177, 74, 52, 98),
+    ('synced before it', 18, 73, 34, 12, 34),
+    ('with both syncs', 18, 43, 22, 0, 0),
 ]
 
 
 @needs_strace
 @needs_version_3
 class Savers(InFolder):
-
     def first_line(self, way: str) -> str:
         """What crashfs-check tells of the saver that saves in that way."""
         os.mkdir(self.path(way))
         self.write(f'{way}/config', text_of(0))
-        ran = self.run_tool('crashfs-record', way, 'out.trace', '--',
-                            sys.executable, '-S', self.path('saver.py'), way)
+        ran = self.run_tool(
+            'crashfs-record',
+            way,
+            'out.trace',
+            '--',
+            sys.executable,
+            '-S',
+            self.path('saver.py'),
+            way,
+        )
         self.assertEqual(ran.returncode, 0, ran.stderr)
         self.assertIn('its last state equals the directory', ran.stderr)
-        ran = self.run_tool('crashfs-check', '--crashfs', FAKE, 'out.trace', '--',
-                            sys.executable, '-S', self.path('check.py'))
+        ran = self.run_tool(
+            'crashfs-check',
+            '--crashfs',
+            FAKE,
+            'out.trace',
+            '--',
+            sys.executable,
+            '-S',
+            self.path('check.py'),
+        )
         self.assertEqual(ran.stderr, '')
         return ran.stdout.splitlines()[0]
 
@@ -76,12 +115,24 @@ class Savers(InFolder):
         os.umask(0o022)
         self.write('saver.py', SAVER)
         self.write('check.py', CHECK)
-        for way, operations, states, different, failing in WAYS:
+        for way, operations, states, different, failing, of_all in WAYS:
+            fail = f'{failing} fail ({of_all} of all {states} states): '
             with self.subTest(way):
-                self.assertRegex(
-                    self.first_line(way),
-                    f'^out.trace: {operations} micro-operations, {states} states, '
-                    f'{different} different: {failing or "none"} fails?')
+                line = self.first_line(way)
+                begin = f'out.trace: {operations} micro-operations, {states} states, '
+                begin += f'{different} different: {fail if failing else "none fails"}'
+                self.assertEqual(line[: len(begin)], begin)
+
+    def test_no_state_fails_of_the_tools_own_files(self):
+        os.mkdir(self.path('own'))
+        for name, text in [('saver.py', OWN_SAVER), ('check.py', OWN_CHECK)]:
+            self.write(name, text)
+        saver = [sys.executable, '-S', self.path('saver.py')]
+        ran = self.run_tool('crashfs-record', 'own', 'own.trace', '--', *saver)
+        self.assertEqual(ran.returncode, 0, ran.stderr)
+        check = [sys.executable, '-S', self.path('check.py')]
+        ran = self.run_tool('crashfs-check', '--crashfs', FAKE, 'own.trace', '--', *check)
+        self.assertEqual((ran.returncode, ran.stderr), (0, ''), ran.stdout)
 
 
 if __name__ == '__main__':

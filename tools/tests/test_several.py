@@ -14,7 +14,6 @@ def samples(folder):
     """Tests that a test runs: `unittest discover` finds no class that is made in a function."""
 
     class Samples(unittest.TestCase):
-
         def mark(self, name):
             with open(os.path.join(folder, name), 'w', encoding='ascii'):
                 pass
@@ -57,7 +56,6 @@ def samples(folder):
 
 
 class Several(InFolder):
-
     def setUp(self):
         super().setUp()
         self.addCleanup(os.chdir, os.getcwd())
@@ -76,11 +74,17 @@ class Several(InFolder):
     def test_what_came_of_each_is_told_in_their_order(self):
         told, result = self.run_all(3)
         self.assertEqual(told, 'abcdef')
-        self.assertEqual([(letter(test), test.shortDescription(), last_line(text))
-                          for test, text in result.failures + result.errors], [
-            ('c', 'What it says.', 'AssertionError: no'),
-            ('c', 'What it says.', 'OSError: odd'),
-            ('e', None, several.__name__ + '.Broken: the process of the test ended')])
+        self.assertEqual(
+            [
+                (letter(test), test.shortDescription(), last_line(text))
+                for test, text in result.failures + result.errors
+            ],
+            [
+                ('c', 'What it says.', 'AssertionError: no'),
+                ('c', 'What it says.', 'OSError: odd'),
+                ('e', None, several.__name__ + '.Broken: the process of the test ended'),
+            ],
+        )
         self.assertIn('(part=1)', str(result.failures[0][0]))
         self.assertEqual([reason for _, reason in result.skipped], ['so'])
 

@@ -2,6 +2,7 @@
 
 import io
 import os
+import shutil
 import subprocess
 import sys
 import time
@@ -9,26 +10,44 @@ import unittest
 from typing import Dict
 from unittest import mock
 
-from crashfs_tools import frames
-from crashfs_tools.strace_log import read_log
-from crashfs_tools.trace_read import read_trace
-from crashfs_tools.while_running import Progress
+from crashfs_tools.common.trace import Header, Sync, Trace
+from crashfs_tools.common.trace_read import read_trace
+from crashfs_tools.recorder import stacks, summary
+from crashfs_tools.recorder.progress import CallProgress
+from crashfs_tools.recorder.strace_log import read_log
 
-from .support import PATIENCE, InFolder, as_strace, needs_strace, needs_version_3, short
+from .support import (
+    PATIENCE,
+    TOOLS,
+    InFolder,
+    as_strace,
+    needed,
+    needs_strace,
+    needs_version_3,
+    short,
+)
 from .test_odd import needs_compiler
 
-PROGRAM = """\
-#include <fcntl.h>
-#include <unistd.h>
-void store(int f) {
-  write(f, "x", 1);
-}
-int main(void) {
-  int f = open("f", O_RDWR | O_CREAT, 0644);
-  store(f);
-  return fsync(f);
-}
-"""
+PROGRAMS = TOOLS / 'tests' / 'data' / 'stacks'
+# A program's source, how it is compiled, and the note of its write.
+IN_C = 'kv.c:4 store < kv.c:8 main'
+IN_CC = (
+    r'kv.cc:8 kv::Log::append\(std::.*\) < kv.cc:12 kv::put\(kv::Log&, std::.*\) < kv.cc:17 main'
+)
+COMPILED = [
+    ('kv.c', ['cc', '-w', '-g', '-O0', '-fPIE', '-pie'], IN_C),
+    ('kv.c', ['cc', '-w', '-g', '-O0', '-no-pie'], IN_C),
+    ('kv.c', ['clang', '-w', '-g', '-O0', '-fuse-ld=lld'], IN_C),
+    ('kv.cc', ['g++', '-w', '-g', '-O0'], IN_CC),
+    ('kv.cc', ['g++', '-w', '-g', '-O2'], IN_CC),
+    ('kv.rs', ['rustc', '-g', '-O'], 'kv.rs:8 .*kv::Log.*::append.* < kv.rs:13 kv::main.*'),
+    ('kv.go', ['go', 'build'], r'kv.go:8 main.* < kv.go:14 main.main'),
+    (
+        'kv.go',
+        ['go', 'build', '-gcflags=-l'],
+        r'kv.go:8 main.\(\*Log\).append < kv.go:14 main.main',
+    ),
+]
 SCRIPT = """\
 import os
 def store(f):
@@ -42,74 +61,147 @@ main()
 """
 
 
-class Frames(unittest.TestCase):
+needs_addr2line = needed(shutil.which('addr2line') is not None, 'addr2line is not there')
 
+
+class Frames(unittest.TestCase):
     def test_the_system_s_frames_are_left_out(self):
-        shown = [' > /usr/lib/x86_64-linux-gnu/libc.so.6(__write+0x10) [0xf8350]'[3:],
-                 '/opt/a b/store(put+0x24) [0x119d]', '/opt/a b/store() [0x11bf]',
-                 '/opt/a b/store(_start+0x21) [0x10b1]', '/usr/lib/libkv.so.2(kv_put+0x1) [0x1]']
-        self.assertEqual([text for text, _ in frames.own_frames(shown)],
-                         ['put (store)', 'store+0x11bf', 'kv_put (libkv.so.2)'])
-        self.assertEqual(len(frames.own_frames(4 * shown)), frames.SHOWN)
+        shown = [
+            ' > /usr/lib/x86_64-linux-gnu/libc.so.6(__write+0x10) [0xf8350]'[3:],
+            '/opt/a b/store(put+0x24) [0x119d]',
+            '/opt/a b/store() [0x11bf]',
+            '/opt/a b/store(_start+0x21) [0x10b1]',
+            '/usr/lib/libkv.so.2(kv_put+0x1) [0x1]',
+        ]
+        frames = stacks.program_frames(shown)
+        wanted = 'put (store) < store+0x11bf < kv_put (libkv.so.2)'
+        self.assertEqual(stacks.note_of(frames, {}), wanted)
+        self.assertEqual(stacks.note_of(4 * frames, {}), wanted)
+
+    def test_the_runtime_s_functions_are_left_out(self):
+        for shown, is_own in [
+            ('main.(*Log).append', True),
+            ('github.com/a/kv.(*Log).append', True),
+            ('main.main', True),
+            ('os.(*File).Write', False),
+            ('internal/poll.(*FD).Write', False),
+            ('runtime/internal/syscall.Syscall6', False),
+            ('runtime.main', False),
+            ('kv::Log::append(std::string const&)', True),
+            ('kv::osd.put', True),
+            ('std::io::Write::write_all', False),
+            ('<std::fs::File as std::io::Write>::write', False),
+            ('<kv::Log as std::io::Write>::write', False),
+            ('<kv::Log>::append', True),
+            ('std::ostream::flush()', False),
+            ('_start', False),
+        ]:
+            self.assertEqual(stacks.is_own(shown), is_own, shown)
+        (frame,) = stacks.program_frames(['/a/lsm(os.(*File).Write+0x5) [0xc22a9]'])
+        self.assertEqual(frame, ('os.(*File).Write', ('/a/lsm', 0xC22A9)))
+
+    def test_operations_without_a_note_are_counted(self):
+        trace = Trace(Header('u', 'u', 0o755), operations=[Sync(), Sync()], notes={0: 'a.c:1 f'})
+        (line,) = summary.without_stack(trace)
+        self.assertIn('1 operation without a note', line)
+        trace.notes[1] = 'a.c:2 f'
+        self.assertEqual(summary.without_stack(trace), [])
 
     def test_the_frames_of_a_signal_are_no_call_s(self):
         frame = ' > /opt/store(put+0x24) [0x119d]'
-        call, = read_log(['1 fsync(3) = 0', frame, '1 --- SIGSTOP {si_signo=SIGSTOP} ---', frame,
-                          '1 --- stopped by SIGSTOP ---', frame]).calls
+        (call,) = read_log(
+            [
+                '1 fsync(3) = 0',
+                frame,
+                '1 --- SIGSTOP {si_signo=SIGSTOP} ---',
+                frame,
+                '1 --- stopped by SIGSTOP ---',
+                frame,
+            ]
+        ).calls
         self.assertEqual(call.frames, [frame[3:]])
 
     def test_a_mark_of_the_hook_counts_for_its_thread_until_the_next(self):
-        calls = read_log(map(as_strace, [
-            '1 access("/proc/crashfs-frame/a.py:3 put", F_OK) = -1 ENOENT (No such file)',
-            '1 write(3</d/f>, "x", 1) = 1',
-            '2 write(3</d/f>, "x", 1) = 1',
-            ' > /opt/store(put+0x24) [0x119d]',
-            '1 access("/etc/x", F_OK) = 0',
-            '1 fsync(3</d/f>) = 0',
-            '1 execve("/bin/x", ["x"], 0x7ffc /* 3 vars */) = 0',
-            '1 fsync(3</d/f>) = 0'])).calls
-        frames.note_all(calls)
-        self.assertEqual([call.note for call in calls], [
-            'a.py:3 put', 'a.py:3 put', 'put (store)', 'a.py:3 put', 'a.py:3 put', '', ''])
+        calls = read_log(
+            map(
+                as_strace,
+                [
+                    '1 access("/proc/crashfs-frame/a.py:3 put", F_OK) = -1 ENOENT (No such file)',
+                    '1 write(3</d/f>, "x", 1) = 1',
+                    '2 write(3</d/f>, "x", 1) = 1',
+                    ' > /opt/store(put+0x24) [0x119d]',
+                    '1 access("/etc/x", F_OK) = 0',
+                    '1 fsync(3</d/f>) = 0',
+                    '1 execve("/bin/x", ["x"], 0x7ffc /* 3 vars */) = 0',
+                    '1 fsync(3</d/f>) = 0',
+                ],
+            )
+        ).calls
+        stacks.note_all(calls)
+        self.assertEqual(
+            [call.note for call in calls],
+            ['a.py:3 put', 'a.py:3 put', 'put (store)', 'a.py:3 put', 'a.py:3 put', '', ''],
+        )
 
 
 @needs_strace
 @needs_version_3
 class Stacks(InFolder):
-
     def notes(self, *command: str) -> Dict[str, str]:
         """The note of each operation."""
+        shutil.rmtree(self.path('d'), ignore_errors=True)
         os.mkdir(self.path('d'))
-        ran = self.run_tool('crashfs-record', '--no-say', '--stacks', 'd', 'out.trace', '--',
-                            *command)
+        ran = self.run_tool(
+            'crashfs-record', '--no-say', '--stacks', 'd', 'out.trace', '--', *command
+        )
         self.assertEqual(ran.returncode, 0, ran.stderr)
+        self.printed = [line for line in ran.stderr.splitlines() if '--stacks' in line]
         trace = read_trace(self.read('out.trace'))
-        return {short(one): trace.notes.get(place, '')
-                for place, one in enumerate(trace.operations)}
+        return {
+            short(one): trace.notes.get(place, '') for place, one in enumerate(trace.operations)
+        }
 
     def test_python_s_lines(self):
         notes = self.notes(sys.executable, self.write('kv.py', SCRIPT))
-        self.assertEqual(notes, {
-            'creat /f': 'kv.py:6 main < kv.py:9 <module>',
-            'write /f 0 x': 'kv.py:4 store < kv.py:7 main < kv.py:9 <module>',
-            'rename /f /g': 'kv.py:8 main < kv.py:9 <module>'})
+        self.assertEqual(
+            notes,
+            {
+                'creat /f': 'kv.py:6 main < kv.py:9 <module>',
+                'write /f 0 x': 'kv.py:4 store < kv.py:7 main < kv.py:9 <module>',
+                'rename /f /g': 'kv.py:8 main < kv.py:9 <module>',
+            },
+        )
+
+    @needs_addr2line
+    def test_the_lines_of_compiled_programs(self):
+        environment = {**os.environ, 'GOCACHE': self.path('go'), 'GO111MODULE': 'off'}
+        for source, command, wanted in COMPILED:
+            if shutil.which(command[0]) is None:
+                continue
+            with self.subTest(command):
+                program = self.path(f'program-{len(os.listdir(self.folder))}')
+                line = [*command, '-o', program, str(PROGRAMS / source)]
+                subprocess.run(line, check=True, env=environment)
+                notes = self.notes(program)
+                self.assertRegex(notes['write /f 0 x'], f'^{wanted}')
+                self.assertNotIn('no source line', ''.join(self.printed))
 
     @needs_compiler
-    def test_a_program_s_functions(self):
-        subprocess.run(['cc', '-w', '-g', '-O0', '-o', self.path('kv'),
-                        self.write('kv.c', PROGRAM)], check=True)
-        notes = self.notes(self.path('kv'))
-        self.assertRegex(notes['write /f 0 x'],
-                         r'^(kv\.c:4 store < kv\.c:8 main|store \(kv\) < main \(kv\))')
-        self.assertRegex(notes['fsync /f'], r'^(kv\.c:9 main|main \(kv\))')
+    def test_what_has_no_source_line_is_reported(self):
+        program = self.path('kv')
+        line = ['cc', '-w', '-O0', '-s', '-o', program, str(PROGRAMS / 'kv.c')]
+        subprocess.run(line, check=True)
+        notes = self.notes(program)
+        self.assertRegex(notes['write /f 0 x'], '^kv\\+0x')
+        (printed,) = self.printed
+        self.assertIn(f'--stacks: no source line of {program} is known', printed)
 
 
 class WhileItRuns(unittest.TestCase):
-
     def printed(self, is_terminal: bool) -> str:
         with mock.patch('sys.stderr', io.StringIO()) as out:
             out.isatty = lambda: is_terminal
-            with Progress('crashfs-record', lambda: 1204, 0.01):
+            with CallProgress('crashfs-record', lambda: 1204, 0.01):
                 deadline = time.monotonic() + (PATIENCE if is_terminal else 0.1)
                 while not out.getvalue() and time.monotonic() < deadline:
                     time.sleep(0.01)

@@ -3,14 +3,11 @@
 import unittest
 from typing import List, Sequence
 
-from crashfs_tools.directory import Scan
-from crashfs_tools.mapped import Copies, Copy
-from crashfs_tools.session import Beginning, Session
-from crashfs_tools.strace_log import read_log
-from crashfs_tools.trace import Header, Start
-from crashfs_tools.translate import Translator
+from crashfs_tools.common.trace import Start
+from crashfs_tools.recorder.mapped_files import FileCopies, FileCopy
+from crashfs_tools.recorder.recording import Recording
 
-from .support import as_strace, short
+from .support import recording_of, short
 
 START = [Start('/f', 'u', 'u', 0o644, bytes(8)), Start('/g', 'u', 'u', 0o644, bytes(8))]
 MAP = 'mmap(NULL, 8, PROT_READ|PROT_WRITE, MAP_SHARED'
@@ -34,54 +31,68 @@ FAILED = LOG[:1] + [
 ]
 
 
-def session_of(copies: List[Copy], log: Sequence[str] = tuple(LOG)) -> Session:
-    numbers = {place: 'fg'.index(line[line.index('/d/') + 3])
-               for place, line in enumerate(log, 1) if MAP in line}
-    session = Session(Beginning('/d', 0o022, 'u', 'u'), Scan(Header('u', 'u', 0o755), list(START)),
-                      lambda path: False)
-    Translator(session, read_log(map(as_strace, log)), Copies(copies, numbers)).run()
-    return session
+def after_copies(copies: List[FileCopy], log: Sequence[str] = tuple(LOG)) -> Recording:
+    numbers = {
+        place: 'fg'.index(line[line.index('/d/') + 3])
+        for place, line in enumerate(log, 1)
+        if MAP in line
+    }
+    return recording_of(list(log), START, copies=FileCopies(copies, numbers))
 
 
 class Stores(unittest.TestCase):
-
     def test_a_copy_before_the_mapping_s_place_is_after_the_mapping(self):
         # The child's call, of which the copy was taken, is before the parent's in the trace.
-        session = session_of([Copy(7, 2, True, {0: b'parent\0\0', 1: b'child\0\0\0'}, {0, 1})])
-        self.assertEqual([short(one) for one in session.trace.operations], [
-            'write /g 0 child', 'write /f 0 parent', 'fsyncrange /f 0 4096'])
-        troubles = session.troubles.values()
+        recording = after_copies(
+            [FileCopy(7, 2, True, {0: b'parent\0\0', 1: b'child\0\0\0'}, {0, 1})]
+        )
+        self.assertEqual(
+            [short(one) for one in recording.trace.operations],
+            ['write /g 0 child', 'write /f 0 parent', 'fsyncrange /f 0 4096'],
+        )
+        troubles = recording.troubles.values()
         self.assertEqual({trouble.where for trouble in troubles}, {'/f', '/g'})
         for trouble in troubles:
             self.assertIn('while other threads or processes ran', str(trouble))
 
     def test_a_copy_is_after_its_process_s_last_call(self):
         # The parent was copied from between the child's call and the child's stop.
-        session = session_of([Copy(6, 1, True, {}), Copy(7, 2, True, {0: b'parent\0\0'}, {0})])
-        self.assertEqual([short(one) for one in session.trace.operations],
-                         ['write /f 0 parent', 'fsyncrange /f 0 4096'])
-        self.assertEqual(len(session.troubles.values()), 1)
+        recording = after_copies(
+            [FileCopy(6, 1, True, {}), FileCopy(7, 2, True, {0: b'parent\0\0'}, {0})]
+        )
+        self.assertEqual(
+            [short(one) for one in recording.trace.operations],
+            ['write /f 0 parent', 'fsyncrange /f 0 4096'],
+        )
+        self.assertEqual(len(recording.troubles.values()), 1)
 
     def test_an_older_copy_doesn_t_undo_a_newer_one(self):
         # The parent's copy comes first, but the parent's call is after the child's in the trace.
         for older in (bytes(8), b'old\0\0\0\0\0'):
-            session = session_of([Copy(6, 1, True, {0: older}),
-                                  Copy(7, 2, True, {0: b'parent\0\0'}, {0})])
-            self.assertEqual([short(one) for one in session.trace.operations],
-                             ['write /f 0 parent', 'fsyncrange /f 0 4096'])
-            self.assertEqual(len(session.troubles.values()), 1)
+            recording = after_copies(
+                [FileCopy(6, 1, True, {0: older}), FileCopy(7, 2, True, {0: b'parent\0\0'}, {0})]
+            )
+            self.assertEqual(
+                [short(one) for one in recording.trace.operations],
+                ['write /f 0 parent', 'fsyncrange /f 0 4096'],
+            )
+            self.assertEqual(len(recording.troubles.values()), 1)
 
     def test_a_copy_after_a_call_that_failed_counts(self):
-        session = session_of([Copy(3, 1, True, {0: b'row' + bytes(5)})], FAILED)
-        self.assertEqual([short(one) for one in session.trace.operations],
-                         ['write /f 0 row', 'fsyncrange /f 0 4096'])
-        self.assertEqual(session.troubles.values(), [])
+        recording = after_copies([FileCopy(3, 1, True, {0: b'row' + bytes(5)})], FAILED)
+        self.assertEqual(
+            [short(one) for one in recording.trace.operations],
+            ['write /f 0 row', 'fsyncrange /f 0 4096'],
+        )
+        self.assertEqual(recording.troubles.values(), [])
 
     def test_a_sure_copy_is_before_its_call(self):
-        session = session_of([Copy(8, 1, True, {0: b'parent\0\0'})])
-        self.assertEqual([short(one) for one in session.trace.operations],
-                         ['write /f 0 parent', 'fsyncrange /f 0 4096'])
-        self.assertEqual(session.troubles.values(), [])
+        recording = after_copies([FileCopy(8, 1, True, {0: b'parent\0\0'})])
+        self.assertEqual(
+            [short(one) for one in recording.trace.operations],
+            ['write /f 0 parent', 'fsyncrange /f 0 4096'],
+        )
+        self.assertEqual(recording.troubles.values(), [])
 
 
 if __name__ == '__main__':

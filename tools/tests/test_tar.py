@@ -6,10 +6,10 @@ import shutil
 import subprocess
 import unittest
 
-from crashfs_tools import limits
-from crashfs_tools.directory import scan
-from crashfs_tools.program import Crashfs
+from crashfs_tools.common import limits
+from crashfs_tools.common.program import Crashfs
 from crashfs_tools.reading import plan_of, read
+from crashfs_tools.recorder.directory import scan
 
 from .support import EXAMPLES, FAKE, InFolder, needed
 
@@ -35,7 +35,8 @@ DEEP += file(('/' + LONG) * limits.PATH_NAMES, '6465657021')
 # Names that are as long as a name may be in 64 directories, UTF-8, nothing, and the largest file.
 WIDE = HEADER + ''.join(
     directory(f'/{place:02d}{LONG[2:]}') + file(f'/{place:02d}{LONG[2:]}/{LONG}', f'{place:02x}')
-    for place in range(64))
+    for place in range(64)
+)
 WIDE += directory('/ä ö') + file('/\U0001f600') + file('/empty')
 WIDE += f'''\
 {{"op":"creat","path":"/large",{RIGHTS}}}
@@ -67,8 +68,10 @@ class Wanted:
     def entries(self, number):
         """(kind, mode, owner, group, bytes) by path, the root's among them."""
         tree = self.plan.trees.tree(self.plan.states[number][1])
-        return {path: ('d' if data is None else '-', int(mode, 8), owner, group, data or b'')
-                for path, ((owner, group, mode), data) in tree.items()}
+        return {
+            path: ('d' if data is None else '-', int(mode, 8), owner, group, data or b'')
+            for path, ((owner, group, mode), data) in tree.items()
+        }
 
 
 @needs_tar
@@ -87,8 +90,13 @@ class Archives(InFolder):
 
     @staticmethod
     def tar(*words):
-        ran = subprocess.run(['tar', *words], stdout=subprocess.PIPE, stderr=subprocess.PIPE,
-                             check=True, env={**os.environ, 'TZ': 'UTC', 'LC_ALL': 'C.UTF-8'})
+        ran = subprocess.run(
+            ['tar', *words],
+            stdout=subprocess.PIPE,
+            stderr=subprocess.PIPE,
+            check=True,
+            env={**os.environ, 'TZ': 'UTC', 'LC_ALL': 'C.UTF-8'},
+        )
         assert ran.stderr == b'', ran.stderr
         return ran.stdout
 
@@ -99,7 +107,7 @@ class Archives(InFolder):
         for line in lines:
             kind, mode, owner, group, size, name = ENTRY.fullmatch(line).groups()
             bits = int(''.join('0' if one == '-' else '1' for one in mode), 2)
-            found[name] = kind, bits, owner, group, data[at:at + int(size)]
+            found[name] = kind, bits, owner, group, data[at : at + int(size)]
             at += int(size)
         self.assertEqual((len(found), at), (len(lines), len(data)))
         return found
@@ -146,13 +154,24 @@ class Archives(InFolder):
         last = len(wanted.plan.reading.operations)
         os.mkdir(self.path('out'))
         with open(self.path('archive'), 'wb') as out:
-            subprocess.run([self.program, 'tar', '--trace', trace, '--state', str(last)],
-                           stdout=out, check=True)
+            subprocess.run(
+                [self.program, 'tar', '--trace', trace, '--state', str(last)],
+                stdout=out,
+                check=True,
+            )
         self.tar('-x', '-p', '--no-same-owner', '-f', self.path('archive'), '-C', self.path('out'))
-        found = {one.path: (one.mode, one.data or b'')
-                 for one in scan(self.path('out'), lambda path: False).entries}
-        self.assertEqual(found, {path: (mode, data) for path, (_, mode, _, _, data)
-                                 in wanted.entries(last).items() if path != '/'})
+        found = {
+            one.path: (one.mode, one.data or b'')
+            for one in scan(self.path('out'), lambda path: False).entries
+        }
+        self.assertEqual(
+            found,
+            {
+                path: (mode, data)
+                for path, (_, mode, _, _, data) in wanted.entries(last).items()
+                if path != '/'
+            },
+        )
 
 
 @needs_built
@@ -164,8 +183,11 @@ class OfTheProgram(Archives):
 
 def below(entries, top):
     """The entries below a name, by their paths from there; the top itself is not among them."""
-    found = {name[len(top):].rstrip('/'): entry for name, entry in entries.items()
-             if name.startswith(top)}
+    found = {
+        name[len(top) :].rstrip('/'): entry
+        for name, entry in entries.items()
+        if name.startswith(top)
+    }
     return {name: entry for name, entry in found.items() if name not in ('', '.')}
 
 

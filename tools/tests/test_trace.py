@@ -3,11 +3,9 @@
 import subprocess
 import unittest
 
-from crashfs_tools import limits
-from crashfs_tools.compare import ByProgram, Replayed, differences
-from crashfs_tools.directory import Scan
-from crashfs_tools.program import Crashfs
-from crashfs_tools.trace import (
+from crashfs_tools.common import limits
+from crashfs_tools.common.program import Crashfs
+from crashfs_tools.common.trace import (
     Chmod,
     Chown,
     Creat,
@@ -25,20 +23,26 @@ from crashfs_tools.trace import (
     Unlink,
     Write,
 )
-from crashfs_tools.trace_read import read_trace, replay
-from crashfs_tools.tree import Tree
+from crashfs_tools.common.trace_read import read_trace, replay
+from crashfs_tools.common.trace_text import read_text
+from crashfs_tools.common.tree import Tree
+from crashfs_tools.recorder.comparison import ByProgram, Replayed, differences
+from crashfs_tools.recorder.directory import Scan
 
 from .support import EXAMPLES, FAKE, InFolder
 
 EXAMPLE_TRACES = [path.name for path in sorted(EXAMPLES.glob('*.trace'))]
 HEADER_2 = '{"trace":2,"profile":"blocks","owner":"cat","group":"staff","mode":"775"}\n'
 # A file that gets its mode and its owner before it is renamed into place.
-RIGHTS = HEADER_2 + """\
+RIGHTS = (
+    HEADER_2
+    + """\
 {"op":"creat","path":"/a","owner":"ann","group":"staff","mode":"644"}
 {"op":"chmod","path":"/a","mode":"600"}
 {"op":"chown","path":"/a","owner":"bob","group":"staff"}
 {"op":"rename","from":"/a","to":"/b"}
 """
+)
 # The states of it, and of it with a sync of the file before the rename, by the definition alone.
 RIGHTS_LIST = """\
 op 0 create_dir_entry /a file
@@ -57,7 +61,9 @@ state 8 hole 2 4 says 0
 """
 HEADER_3 = HEADER_2.replace('2', '3', 1).replace('"owner"', '"block":4096,"owner"', 1)
 # All that version 3 has and version 2 has not.
-LINKED = HEADER_3 + """\
+LINKED = (
+    HEADER_3
+    + """\
 {"start":"dir","path":"/d","owner":"ann","group":"staff","mode":"755"}
 {"start":"file","path":"/d/f","owner":"ann","group":"staff","mode":"644","text":"x"}
 {"start":"link","path":"/g","from":"/d/f"}
@@ -69,6 +75,7 @@ LINKED = HEADER_3 + """\
 {"op":"unlink","path":"/g"}
 {"op":"rename","from":"/h","to":"/d/f"}
 """
+)
 TWO_FILES = """\
 {"op":"creat","path":"/a","owner":"ann","group":"staff","mode":"644"}
 {"op":"creat","path":"/b","owner":"ann","group":"staff","mode":"644"}
@@ -80,7 +87,6 @@ def example(name: str) -> str:
 
 
 class Traces(unittest.TestCase):
-
     def test_a_trace_is_written_as_it_was_read(self):
         for name in EXAMPLE_TRACES:
             lines = [line for line in example(name).split('\n') if line]
@@ -99,30 +105,46 @@ class Traces(unittest.TestCase):
         self.assertEqual(small.micro_operations, 8)
 
     def test_bytes_are_a_text_where_people_can_read_them(self):
-        for data, shown in [(b'a b\n', '"text":"a b\\n"'), (b'', '"bytes":""'),
-                            (b'\xff', '"bytes":"ff"'), (b'a\0', '"bytes":"6100"'),
-                            ('\u00e4'.encode(), '"text":"\u00e4"'), (b'a\r', '"bytes":"610d"')]:
+        for data, shown in [
+            (b'a b\n', '"text":"a b\\n"'),
+            (b'', '"bytes":""'),
+            (b'\xff', '"bytes":"ff"'),
+            (b'a\0', '"bytes":"6100"'),
+            ('\u00e4'.encode(), '"text":"\u00e4"'),
+            (b'a\r', '"bytes":"610d"'),
+        ]:
             trace = Trace(Header('u', 'u', 0o755), operations=[Write('/f', 0, data)], version=3)
             self.assertIn(shown, list(trace.lines())[1])
             trace.version = 2
             self.assertIn(f'"bytes":"{data.hex()}"', list(trace.lines())[1])
 
+    def test_a_sync_of_all_bytes_is_shown_as_such(self):
+        line = '{"op":"fsync_range","path":"/a","offset":%d,"length":%d}'
+        for offset, length, shown in [
+            (0, limits.FILE_BYTES, 'fsync_range /a, all bytes'),
+            (1, limits.FILE_BYTES, 'fsync_range /a, 16,777,216 bytes at 1'),
+            (0, 4096, 'fsync_range /a, 4,096 bytes at 0'),
+        ]:
+            (found,) = read_text(line % (offset, length)).operations.values()
+            self.assertEqual(found.text, shown)
+
     def test_what_is_no_trace_is_refused_with_its_line(self):
         header = '{"trace":1,"owner":"u","group":"u","mode":"755"}\n'
         for text, told in [
-                ('', 'it has no header'),
-                (header + '\n{"op":"chown","path":"/a"}', 'line 3 '),
-                (header + '{"op":"write","path":"/a","offset":0,"bytes":"4"}', 'line 2 '),
-                (header.replace('1', '3', 1), 'line 1 '),
-                (header.replace('1', '4', 1), 'line 1 '),
-                (HEADER_3.replace('4096', '8192'), 'line 1 '),
-                (HEADER_2 + '{"op":"link","from":"/a","to":"/b"}', 'line 2 '),
-                (HEADER_2 + '{"op":"write","path":"/a","offset":0,"text":"4"}', 'line 2 '),
-                (header + '{"op":"chmod","path":"/","mode":"700"}', 'line 2 '),
-                (header.replace('1,', '1,"profile":"blocks",'), 'line 1 '),
-                (header.replace('1', '2', 1), 'line 1 '),
-                (HEADER_2.replace('blocks', 'some'), 'line 1 '),
-                ('[]', 'line 1 ')]:
+            ('', 'it has no header'),
+            (header + '\n{"op":"chown","path":"/a"}', 'line 3 '),
+            (header + '{"op":"write","path":"/a","offset":0,"bytes":"4"}', 'line 2 '),
+            (header.replace('1', '3', 1), 'line 1 '),
+            (header.replace('1', '4', 1), 'line 1 '),
+            (HEADER_3.replace('4096', '8192'), 'line 1 '),
+            (HEADER_2 + '{"op":"link","from":"/a","to":"/b"}', 'line 2 '),
+            (HEADER_2 + '{"op":"write","path":"/a","offset":0,"text":"4"}', 'line 2 '),
+            (header + '{"op":"chmod","path":"/","mode":"700"}', 'line 2 '),
+            (header.replace('1,', '1,"profile":"blocks",'), 'line 1 '),
+            (header.replace('1', '2', 1), 'line 1 '),
+            (HEADER_2.replace('blocks', 'some'), 'line 1 '),
+            ('[]', 'line 1 '),
+        ]:
             with self.subTest(text), self.assertRaises(TraceError) as caught:
                 read_trace(text)
             self.assertTrue(str(caught.exception).startswith(told), caught.exception)
@@ -157,25 +179,26 @@ class Traces(unittest.TestCase):
         tree.start(StartLink('/d/g', '/d/f'))
         deep = '/d' * (limits.PATH_NAMES + 1)
         for operation, told in [
-                (Creat('/d/f', 'u', 'u', 0), 'there already'),
-                (Creat('/x/f', 'u', 'u', 0), 'no directory'),
-                (Mkdir('/d/f/g', 'u', 'u', 0), 'no directory'),
-                (Creat('/d/' + 'n' * 256, 'u', 'u', 0), 'more than 255 bytes'),
-                (Creat('/d/\udcff', 'u', 'u', 0), 'not UTF-8'),
-                (Chmod('/x', 0), 'not there'),
-                (Chown('/x', 'u', 'u'), 'not there'),
-                (Link('/x', '/y'), 'not there'),
-                (Link('/d', '/y'), 'is a directory'),
-                (Link('/d/f', '/x/y'), 'no directory'),
-                (Link('/d/f', '/d/f'), 'there already'),
-                (FsyncRange('/d', 0, 1), 'is a directory'),
-                (Unlink('/d'), 'is a directory'),
-                (Unlink('/x'), 'not there'),
-                (Rmdir('/d'), 'has entries'),
-                (Rename('/d', '/e'), 'is a directory'),
-                (Rename('/d/f', '/d'), 'is a directory'),
-                (Write('/d/f', limits.FILE_BYTES, b'x'), 'more than 16777216 bytes'),
-                (Truncate('/d/f', limits.FILE_BYTES + 1), 'more than 16777216 bytes')]:
+            (Creat('/d/f', 'u', 'u', 0), 'there already'),
+            (Creat('/x/f', 'u', 'u', 0), 'no directory'),
+            (Mkdir('/d/f/g', 'u', 'u', 0), 'no directory'),
+            (Creat('/d/' + 'n' * 256, 'u', 'u', 0), 'more than 255 bytes'),
+            (Creat('/d/\udcff', 'u', 'u', 0), 'not UTF-8'),
+            (Chmod('/x', 0), 'not there'),
+            (Chown('/x', 'u', 'u'), 'not there'),
+            (Link('/x', '/y'), 'not there'),
+            (Link('/d', '/y'), 'is a directory'),
+            (Link('/d/f', '/x/y'), 'no directory'),
+            (Link('/d/f', '/d/f'), 'there already'),
+            (FsyncRange('/d', 0, 1), 'is a directory'),
+            (Unlink('/d'), 'is a directory'),
+            (Unlink('/x'), 'not there'),
+            (Rmdir('/d'), 'has entries'),
+            (Rename('/d', '/e'), 'is a directory'),
+            (Rename('/d/f', '/d'), 'is a directory'),
+            (Write('/d/f', limits.FILE_BYTES, b'x'), 'more than 16777216 bytes'),
+            (Truncate('/d/f', limits.FILE_BYTES + 1), 'more than 16777216 bytes'),
+        ]:
             with self.subTest(operation):
                 self.assertIn(told, tree.fault(operation) or 'no fault')
         self.assertIsNone(tree.fault(Write('/d/f', limits.FILE_BYTES - 1, b'x')))
@@ -191,19 +214,23 @@ class Traces(unittest.TestCase):
         table = Start('/table', 'kv', 'kv', 0o640, b'a=2\n')
         self.assertEqual(differences(scan(log, table), last, []), [])
         self.assertEqual(len(differences(scan(log), last, [])), 1)
-        self.assertEqual(len(differences(scan(log, table, Start('/x', 'u', 'u', 0, b'')), last,
-                                         [])), 1)
+        self.assertEqual(
+            len(differences(scan(log, table, Start('/x', 'u', 'u', 0, b'')), last, [])), 1
+        )
         other = Start('/table', 'u', 'kv', 0o600, b'a=3\n')
         self.assertEqual(len(differences(scan(log, other), last, [])), 3)
         self.assertEqual(differences(scan(log, other), last, ['/table']), [])
 
 
 class Fake(InFolder):
-
     def listed(self, text, *options):
         trace = self.write('a.trace', text)
-        ran = subprocess.run([FAKE, 'list', '--trace', trace, *options], stdout=subprocess.PIPE,
-                             text=True, check=True)
+        ran = subprocess.run(
+            [FAKE, 'list', '--trace', trace, *options],
+            stdout=subprocess.PIPE,
+            text=True,
+            check=True,
+        )
         return ran.stdout
 
     def test_the_fake_lists_modes_and_owners_as_they_are_defined(self):
@@ -214,16 +241,21 @@ class Fake(InFolder):
 
     def test_the_fake_s_trees_have_the_modes_and_owners_of_their_sets(self):
         trace = self.write('a.trace', RIGHTS)
-        for state, wanted in [(4, {'b': ('bob', 0o600)}), (6, {}), (7, {'b': ('ann', 0o644)}),
-                              (8, {'b': ('ann', 0o600)})]:
+        for state, wanted in [
+            (4, {'b': ('bob', 0o600)}),
+            (6, {}),
+            (7, {'b': ('ann', 0o644)}),
+            (8, {'b': ('ann', 0o600)}),
+        ]:
             words = ['--trace', trace, '--holes', '--state', str(state)]
             with self.subTest(state), Crashfs(FAKE).archive(words) as members:
-                found = {one.path: (one.owner, one.mode) for one in members if one.path}
+                found = {path: (one.owner, one.mode) for path, one in members if path}
                 self.assertEqual(found, wanted)
 
     def test_ordered_takes_states_away(self):
-        self.assertTrue(self.listed(HEADER_2 + TWO_FILES, '--holes').endswith(
-            'state 3 hole 0 2 says 0\n'))
+        self.assertTrue(
+            self.listed(HEADER_2 + TWO_FILES, '--holes').endswith('state 3 hole 0 2 says 0\n')
+        )
         ordered = HEADER_2.replace('blocks', 'ordered') + TWO_FILES
         self.assertTrue(self.listed(ordered, '--holes').endswith('state 2 prefix 2 says 0\n'))
 

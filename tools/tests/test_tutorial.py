@@ -6,7 +6,7 @@ import subprocess
 import unittest
 from typing import List, Tuple
 
-from crashfs_tools.trace_read import read_trace
+from crashfs_tools.common.trace_read import read_trace
 
 from .support import EXAMPLES, PATIENCE, PROGRESS, TOOLS, InFolder, strace_works
 
@@ -42,19 +42,25 @@ def unfolded(text: str) -> str:
 def without_recorder(shown: List[Tuple[str, str]]) -> List[Tuple[str, str]]:
     """The commands for a reader without strace: they take the traces that are kept."""
     copied = next(place for place, (command, _) in enumerate(shown) if command.startswith('cp '))
-    shown = [*shown[:copied + 1], ('cp "$TUTORIAL"/*.trace .', ''), *shown[copied + 1:]]
+    shown = [*shown[: copied + 1], ('cp "$TUTORIAL"/*.trace .', ''), *shown[copied + 1 :]]
     return [one for one in shown if not one[0].startswith((RECORDER, 'head '))]
 
 
 class Tutorial(InFolder):
-
     def run_all(self, lines: List[str]) -> List[str]:
         """What each command prints, in one shell that begins in the clone."""
         script = ''.join(f'{line}\necho "{END}"\n' for line in lines)
-        ran = subprocess.run(['bash', '-c', 'umask 022\n' + script], cwd=TOOLS.parent, text=True,
-                             stdout=subprocess.PIPE, stderr=subprocess.STDOUT, timeout=PATIENCE,
-                             stdin=subprocess.DEVNULL, check=False,
-                             env={**os.environ, **self.environment(None)})
+        ran = subprocess.run(
+            ['bash', '-c', 'umask 022\n' + script],
+            cwd=TOOLS.parent,
+            text=True,
+            stdout=subprocess.PIPE,
+            stderr=subprocess.STDOUT,
+            timeout=PATIENCE,
+            stdin=subprocess.DEVNULL,
+            check=False,
+            env={**os.environ, **self.environment(None)},
+        )
         return ran.stdout.split(END + '\n')[:-1]
 
     def assert_page(self, shown: List[Tuple[str, str]]) -> None:
@@ -69,8 +75,10 @@ class Tutorial(InFolder):
         """The traces that are kept are those that were recorded now."""
         for kept in FILES.glob('*.trace'):
             with self.subTest(kept.name):
-                found, wanted = (read_trace(OWNERS.sub(NOBODY, text)) for text in (
-                    self.read(f'toy/{kept.name}'), kept.read_text(encoding='utf-8')))
+                found, wanted = (
+                    read_trace(OWNERS.sub(NOBODY, text))
+                    for text in (self.read(f'toy/{kept.name}'), kept.read_text(encoding='utf-8'))
+                )
                 self.assertEqual((found.start, found.operations), (wanted.start, wanted.operations))
 
     def test_the_commands_print_what_the_page_shows(self):
@@ -89,8 +97,10 @@ class Tutorial(InFolder):
             self.assertIn(one, code)
 
     def test_the_page_has_each_trace(self):
-        self.assertEqual({one.name for one in FILES.glob('*.trace')},
-                         set(re.findall(r'\w+\.trace', ' '.join(one for one, _ in commands()))))
+        self.assertEqual(
+            {one.name for one in FILES.glob('*.trace')},
+            set(re.findall(r'\w+\.trace', ' '.join(one for one, _ in commands()))),
+        )
 
 
 if __name__ == '__main__':

@@ -2,82 +2,155 @@
 
 import unittest
 
-from .support import session_of
-from .test_translate import FILE, IN_DIRECTORY, OPEN_F, TWO_FILES
+from .support import recording_of
+from .translated_calls import FILE, IN_DIRECTORY, OPEN_F, TWO_FILES
 
 # (what is told, the start tree, the log)
 TROUBLES = [
     ('/s: a directory was renamed to /t', IN_DIRECTORY, ['1 rename("s", "t") = 0']),
-    ('/f: a file of O_TMPFILE that was synced before it had this name', [], [
-        '1 openat(AT_FDCWD</d>, ".", O_RDWR|O_TMPFILE, 0644) = 3</d/#7>(deleted)',
-        '1 write(3</d/#7>(deleted), "ab", 2) = 2',
-        '1 fsync(3</d/#7>(deleted)) = 0',
-        '1 linkat(3</d/#7>(deleted), "", AT_FDCWD</d>, "f", AT_EMPTY_PATH) = 0']),
-    ('/f: RENAME_WHITEOUT left a device', FILE,
-     ['1 renameat2(AT_FDCWD</d>, "f", AT_FDCWD</d>, "g", RENAME_WHITEOUT) = 0']),
-    ('/f: two calls changed it at once', FILE, [
-        '1 openat(AT_FDCWD</d>, "f", O_WRONLY|O_APPEND) = 3</d/f>',
-        '1 clone(child_stack=NULL, flags=SIGCHLD) = 2',
-        '1 write(3</d/f>, "a", 1 <unfinished ...>',
-        '2 write(3</d/f>, "b", 1) = 1',
-        '1 <... write resumed>) = 1']),
-    ('/f: two calls changed it at once', FILE, [
-        OPEN_F,
-        '1 clone(child_stack=NULL, flags=CLONE_VM|CLONE_FILES|CLONE_THREAD) = 2',
-        '1 write(3</d/f>, "aa", 2 <unfinished ...>',
-        '2 write(3</d/f>, "b", 1) = 1',
-        '1 <... write resumed>) = 2']),
-    ('/f: two calls changed it at once', FILE, [
-        OPEN_F,
-        '1 clone(child_stack=NULL, flags=SIGCHLD) = 2',
-        '1 pwrite64(3</d/f>, "aa", 2, 1 <unfinished ...>',
-        '2 pwrite64(3</d/f>, "b", 1, 2) = 1',
-        '1 <... pwrite64 resumed>) = 2']),
-    ('/f: pwrite64 was cut by the end of its thread', FILE,
-     [OPEN_F, '1 pwrite64(3</d/f>, "aa", 2, 1 <unfinished ...>) = ?']),
-    ('standard output: splice: its bytes come from a file that is not followed', FILE,
-     ['1 splice(3<pipe:[4]>, NULL, 1<pipe:[7]>, NULL, 4, 0) = 4']),
+    (
+        '/f: a file of O_TMPFILE that was synced before it had this name',
+        [],
+        [
+            '1 openat(AT_FDCWD</d>, ".", O_RDWR|O_TMPFILE, 0644) = 3</d/#7>(deleted)',
+            '1 write(3</d/#7>(deleted), "ab", 2) = 2',
+            '1 fsync(3</d/#7>(deleted)) = 0',
+            '1 linkat(3</d/#7>(deleted), "", AT_FDCWD</d>, "f", AT_EMPTY_PATH) = 0',
+        ],
+    ),
+    (
+        '/s: fdatasync of a directory whose mode or owner was changed',
+        IN_DIRECTORY,
+        [
+            '1 openat(AT_FDCWD</d>, "s", O_RDONLY|O_DIRECTORY) = 4</d/s>',
+            '1 fchmod(4</d/s>, 0700) = 0',
+            '1 fdatasync(4</d/s>) = 0',
+        ],
+    ),
+    (
+        '/f: RENAME_WHITEOUT left a device',
+        FILE,
+        ['1 renameat2(AT_FDCWD</d>, "f", AT_FDCWD</d>, "g", RENAME_WHITEOUT) = 0'],
+    ),
+    (
+        '/f: two calls changed it at once',
+        FILE,
+        [
+            '1 openat(AT_FDCWD</d>, "f", O_WRONLY|O_APPEND) = 3</d/f>',
+            '1 clone(child_stack=NULL, flags=SIGCHLD) = 2',
+            '1 write(3</d/f>, "a", 1 <unfinished ...>',
+            '2 write(3</d/f>, "b", 1) = 1',
+            '1 <... write resumed>) = 1',
+        ],
+    ),
+    (
+        '/f: two calls changed it at once',
+        FILE,
+        [
+            OPEN_F,
+            '1 clone(child_stack=NULL, flags=CLONE_VM|CLONE_FILES|CLONE_THREAD) = 2',
+            '1 write(3</d/f>, "aa", 2 <unfinished ...>',
+            '2 write(3</d/f>, "b", 1) = 1',
+            '1 <... write resumed>) = 2',
+        ],
+    ),
+    (
+        '/f: two calls changed it at once',
+        FILE,
+        [
+            OPEN_F,
+            '1 clone(child_stack=NULL, flags=SIGCHLD) = 2',
+            '1 pwrite64(3</d/f>, "aa", 2, 1 <unfinished ...>',
+            '2 pwrite64(3</d/f>, "b", 1, 2) = 1',
+            '1 <... pwrite64 resumed>) = 2',
+        ],
+    ),
+    (
+        '/f: pwrite64 was cut by the end of its thread',
+        FILE,
+        [OPEN_F, '1 pwrite64(3</d/f>, "aa", 2, 1 <unfinished ...>) = ?'],
+    ),
+    (
+        'standard output: splice: its bytes come from a file that is not followed',
+        FILE,
+        ['1 splice(3<pipe:[4]>, NULL, 1<pipe:[7]>, NULL, 4, 0) = 4'],
+    ),
     ('/l: a symbolic link was made', [], ['1 symlink("f", "l") = 0']),
     ('/f: renamed to from outside the directory', FILE, ['1 rename("/etc/a", "f") = 0']),
-    ('/f: exchanged with /g', TWO_FILES,
-     ['1 renameat2(AT_FDCWD</d>, "f", AT_FDCWD</d>, "g", RENAME_EXCHANGE) = 0']),
-    ('/f: fchmod by a descriptor that was opened by something', FILE,
-     ['1 fchmod(7</d/f>, 0600) = 0']),
-    ('/f: write by a descriptor that was opened by something', FILE,
-     ['1 write(7</d/f>, "x", 1) = 1']),
-    ('/f: mapped for writing', FILE,
-     [OPEN_F, '1 mmap(NULL, 5, PROT_READ|PROT_WRITE, MAP_SHARED, 3</d/f>, 0) = 0x7000']),
-    ('/f: fallocate with FALLOC_FL_COLLAPSE_RANGE; its later', FILE,
-     [OPEN_F, '1 fallocate(3</d/f>, FALLOC_FL_COLLAPSE_RANGE, 0, 4096) = 0']),
-    ('/f: ftruncate is left out: a file of more than 16777216 bytes', FILE,
-     [OPEN_F, '1 ftruncate(3</d/f>, 99999999999) = 0']),
+    (
+        '/f: exchanged with /g',
+        TWO_FILES,
+        ['1 renameat2(AT_FDCWD</d>, "f", AT_FDCWD</d>, "g", RENAME_EXCHANGE) = 0'],
+    ),
+    (
+        '/f: fchmod by a descriptor that was opened by something',
+        FILE,
+        ['1 fchmod(7</d/f>, 0600) = 0'],
+    ),
+    (
+        '/f: write by a descriptor that was opened by something',
+        FILE,
+        ['1 write(7</d/f>, "x", 1) = 1'],
+    ),
+    (
+        '/f: mapped for writing',
+        FILE,
+        [OPEN_F, '1 mmap(NULL, 5, PROT_READ|PROT_WRITE, MAP_SHARED, 3</d/f>, 0) = 0x7000'],
+    ),
+    (
+        '/f: fallocate with FALLOC_FL_COLLAPSE_RANGE; its later',
+        FILE,
+        [OPEN_F, '1 fallocate(3</d/f>, FALLOC_FL_COLLAPSE_RANGE, 0, 4096) = 0'],
+    ),
+    (
+        '/f: ftruncate is left out: a file of more than 16777216 bytes',
+        FILE,
+        [OPEN_F, '1 ftruncate(3</d/f>, 99999999999) = 0'],
+    ),
+    (
+        '/f: ioctl BTRFS_IOC_CLONE or FICLONE: its bytes are not in the log; its later',
+        TWO_FILES,
+        [OPEN_F, '1 ioctl(3</d/f>, BTRFS_IOC_CLONE or FICLONE, 4</d/g>) = 0'],
+    ),
     ('/: io_uring_setup: what is done by it', [], ['1 io_uring_setup(8, {}) = 3']),
-    ('/s: a socket was bound', [],
-     ['1 bind(3<socket:[5]>, {sa_family=AF_UNIX, sun_path="s"}, 4) = 0']),
-    ('/a: opened, and it was made by something', [],
-     ['1 openat(AT_FDCWD</d>, "a", O_RDONLY) = 3</d/a>']),
+    (
+        '/s: a socket was bound',
+        [],
+        ['1 bind(3<socket:[5]>, {sa_family=AF_UNIX, sun_path="s"}, 4) = 0'],
+    ),
+    (
+        '/a: opened, and it was made by something',
+        [],
+        ['1 openat(AT_FDCWD</d>, "a", O_RDONLY) = 3</d/a>'],
+    ),
 ]
 
 
 # What is only noted.
 NOTES = [
+    (
+        '/f: sync_file_range: it promises nothing of a crash',
+        FILE,
+        [OPEN_F, '1 sync_file_range2(3</d/f>, SYNC_FILE_RANGE_WRITE, 0, 0) = 0'],
+    ),
     ('/f: it gets the mode bits 4000, beyond 777', FILE, ['1 chmod("f", 04644) = 0']),
-    ('/f: sync_file_range: it promises nothing of a crash, and is left out (after line 2, 2 times)',
-     FILE, [OPEN_F, *2 * ['1 sync_file_range(3</d/f>, 0, 0, SYNC_FILE_RANGE_WRITE) = 0']]),
-    ('/f: its extended attributes change', FILE,
-     ['1 setxattr("f", "user.a", "1", 1, 0) = 0']),
-    ('/f: its extended attributes change', FILE,
-     [OPEN_F, '1 fremovexattr(3</d/f>, "user.a") = 0']),
+    (
+        '/f: sync_file_range: it promises nothing of a crash, and is left out (after line 2, '
+        '2 times)',
+        FILE,
+        [OPEN_F, *2 * ['1 sync_file_range(3</d/f>, 0, 0, SYNC_FILE_RANGE_WRITE) = 0']],
+    ),
+    ('/f: its extended attributes change', FILE, ['1 setxattr("f", "user.a", "1", 1, 0) = 0']),
+    ('/f: its extended attributes change', FILE, [OPEN_F, '1 fremovexattr(3</d/f>, "user.a") = 0']),
 ]
 
 
 class Troubles(unittest.TestCase):
-
     def test_what_no_trace_can_say_is_told_with_its_place(self):
         for are_notes, rows in [(False, TROUBLES), (True, NOTES)]:
             for wanted, start, log in rows:
                 with self.subTest(wanted):
-                    told = session_of(log, start).troubles.values()
+                    told = recording_of(log, start).troubles.values()
                     self.assertEqual(len(told), 1, told)
                     self.assertTrue(str(told[0]).startswith(wanted), str(told[0]))
                     self.assertEqual(told[0].is_note, are_notes)

@@ -1,26 +1,24 @@
 """Sessions in windows: all that is tried is of the session, and all in a window is tried."""
 
-import json
 import os
-import re
 import unittest
 from types import SimpleNamespace
 from unittest import mock
 
-from crashfs_tools import limits
-from crashfs_tools.entry import Entry
-from crashfs_tools.plan import Before, Planned, places_of, read_plan
-from crashfs_tools.planning import Planner
-from crashfs_tools.program import ProgramFault
+from crashfs_tools.checker.report.report import Report
+from crashfs_tools.checker.running.results import Head, Results, known_states
+from crashfs_tools.checker.states.plan import Before, Planned, places_of, read_plan
+from crashfs_tools.checker.states.planning import Planner
+from crashfs_tools.checker.states.steps import Session, Steps
+from crashfs_tools.checker.states.windows import Windows
+from crashfs_tools.common import limits
+from crashfs_tools.common.entry import Entry
+from crashfs_tools.common.program import ProgramFault
+from crashfs_tools.common.trace_text import read_text
 from crashfs_tools.reading import ReadingFault, plan_of, read
 from crashfs_tools.reading.listing import json_listing
 from crashfs_tools.reading.main import read_options
 from crashfs_tools.reading.plan import different, file_sets, lost_sets, read_picks
-from crashfs_tools.report import Report
-from crashfs_tools.results import Head, Results, known_states
-from crashfs_tools.steps import Session, Steps
-from crashfs_tools.trace_lines import operation_lines
-from crashfs_tools.windows import Windows
 
 from .random_traces import RandomTrace
 from .support import EXAMPLES, FAKE
@@ -29,8 +27,12 @@ from .test_check_command import InStore
 RIGHTS = '"owner":"u","group":"u","mode":"644"'
 HEADER = '{"trace":3,"profile":"blocks","block":4096,"owner":"u","group":"u","mode":"755"}\n'
 # Prints the tree that it runs in, and how many lines were acknowledged.
-SHOW = ['sh', '-c', 'echo "$CRASHFS_SAYS $(find . -type f | sort | xargs -d "\\n" -r sha256sum) '
-                    '$(find . -printf "%P %y %m\\n" | sort)" | sha256sum >> "$0"']
+SHOW = [
+    'sh',
+    '-c',
+    'echo "$CRASHFS_SAYS $(find . -type f | sort | xargs -d "\\n" -r sha256sum) '
+    '$(find . -printf "%P %y %m\\n" | sort)" | sha256sum >> "$0"',
+]
 
 
 def creat(path):
@@ -86,15 +88,17 @@ class Reader:
         options = read_options(['tar', *words])
         plan = self.plan(options)
         tree = plan.trees.tree(plan.states[int(options['--state'])][1])
-        return {path: Entry(owner, group, int(mode, 8), None if data is None else bytearray(data))
-                for path, ((owner, group, mode), data) in tree.items()}
+        return {
+            path: Entry(owner, group, int(mode, 8), None if data is None else bytearray(data))
+            for path, ((owner, group, mode), data) in tree.items()
+        }
 
 
 class InWindows(InStore):
-
     def made(self, text, size, quick=False):
-        options = SimpleNamespace(prefixes=False, has_lost=not quick, has_files=not quick,
-                                  serve=None)
+        options = SimpleNamespace(
+            prefixes=False, has_lost=not quick, has_files=not quick, serve=None
+        )
         guard = SimpleNamespace(directory=self.temporary, environment={})
         return Windows(Planner(options, Reader(), guard), Session('w', text), size)
 
@@ -136,8 +140,10 @@ class Tried(InWindows):
                 tried = set()
                 for one in results:
                     self.assert_same_operations(one.plan, whole)
-                    tried |= {one.plan.kept[state.number] << one.plan.begin
-                              | (1 << one.plan.begin) - 1 for state in one.own}
+                    tried |= {
+                        one.plan.kept[state.number] << one.plan.begin | (1 << one.plan.begin) - 1
+                        for state in one.own
+                    }
                     self.assert_all_within(one.plan, whole)
                 self.assertLessEqual(tried, {whole.kept[state.number] for state in whole.states})
                 ends = [one.plan.begin + len(one.plan.operations) for one in results]
@@ -146,17 +152,21 @@ class Tried(InWindows):
 
     def assert_same_operations(self, part, whole):
         """But for the numbers of files, which texts of files don't have."""
-        same = whole.operations[part.begin:part.begin + len(part.operations)]
+        same = whole.operations[part.begin : part.begin + len(part.operations)]
         if part.operations:
-            self.assertEqual([(one.place, one.kind, one.path, one.line)
-                              for one in part.operations],
-                             [(one.place, one.kind, one.path, one.line) for one in same])
+            self.assertEqual(
+                [(one.place, one.kind, one.path, one.line) for one in part.operations],
+                [(one.place, one.kind, one.path, one.line) for one in same],
+            )
 
     def assert_all_within(self, part, whole):
         """Each prefix and hole of the whole that lies within a window is in it."""
         begin, end = part.begin, part.begin + len(part.operations)
-        wanted = {tuple(number - begin for number in state.numbers) for state in whole.states
-                  if state.numbers[0] >= begin and state.numbers[-1] <= end}
+        wanted = {
+            tuple(number - begin for number in state.numbers)
+            for state in whole.states
+            if state.numbers[0] >= begin and state.numbers[-1] <= end
+        }
         self.assertEqual({state.numbers for state in part.states}, wanted)
 
     def test_picks_are_allowed_sets_of_the_session(self):
@@ -184,20 +194,26 @@ class Tried(InWindows):
 
     def test_no_state_is_tried_twice(self):
         _, results = self.windows(log_of(12), 9)
-        sets = [one.plan.kept[state.number] << one.plan.begin | (1 << one.plan.begin) - 1
-                for one in results for state in one.own
-                if state.family != 'pick']
+        sets = [
+            one.plan.kept[state.number] << one.plan.begin | (1 << one.plan.begin) - 1
+            for one in results
+            for state in one.own
+            if state.family != 'pick'
+        ]
         self.assertEqual(len(sets), len(set(sets)))
         self.assertTrue(any(one.known for one in results[1:]))
 
 
 class Cuts(InWindows):
-
     def test_the_next_window_begins_at_the_first_pending_operation(self):
         """Each row is two writes, of two micro-operations each, a sync and a line."""
-        text = log_of(12).replace(sync('/log') + '{"op":"say"', write('/log', 4096, 4096)
-                                  + '{"op":"truncate","path":"/log","length":5000}\n'
-                                  + sync('/log') + '{"op":"say"')
+        text = log_of(12).replace(
+            sync('/log') + '{"op":"say"',
+            write('/log', 4096, 4096)
+            + '{"op":"truncate","path":"/log","length":5000}\n'
+            + sync('/log')
+            + '{"op":"say"',
+        )
         windows, results = self.windows(text, 9)
         begins = [(one.plan.begin, len(one.plan.operations)) for one in results]
         self.assertEqual(begins[:3], [(0, 8), (7, 9), (16, 9)])
@@ -207,12 +223,19 @@ class Cuts(InWindows):
         text = HEADER + ''.join(creat(f'/{number}') for number in range(20))
         windows, results = self.windows(text, 8)
         self.assertEqual([one.plan.begin for one in results], [0, 4, 8, 12])
-        self.assertEqual([(one.line, one.tried) for one in windows.cut_off[:5]],
-                         [(2, 7), (3, 6), (4, 5), (5, 4), (6, 7)])
-        report = Report(Head('a', '', [], lines=operation_lines(text), cut_off=[(2, 7), (3, 6)]))
-        self.assertEqual(report.lines()[1:], [
-            '  the loss of line 2 (creat /0) was tried for 7 later micro-operations only, and so '
-            'with 1 more line'])
+        self.assertEqual(
+            [(one.line, one.tried) for one in windows.cut_off[:5]],
+            [(2, 7), (3, 6), (4, 5), (5, 4), (6, 7)],
+        )
+        lines = read_text(text).operations
+        report = Report(Head('a', '', [], lines=lines, cut_off=[(2, 7), (3, 6)]))
+        self.assertEqual(
+            report.lines()[1:],
+            [
+                '  the loss of line 2 (creat /0) was tried for 7 later micro-operations only, '
+                'and so with 1 more line'
+            ],
+        )
 
     def test_only_the_last_window_has_files(self):
         text = HEADER + ''.join(creat(f'/{number}') for number in range(20))
@@ -226,12 +249,14 @@ class Cuts(InWindows):
     def test_each_window_is_planned_once(self):
         """Also the second: from half a window on the long write after the first has 94 states with
         what is before it, so that with fewer it would end where the first does."""
-        text = log_of(4).replace(sync('/'), creat('/never') + creat('/big') + sync('/')
-                                 + write('/never', 3), 1)
+        text = log_of(4).replace(
+            sync('/'), creat('/never') + creat('/big') + sync('/') + write('/never', 3), 1
+        )
         text += 3 * (write('/big', 40_960) + sync('/big')) + log_of(4).partition(sync('/'))[2]
         for states, begins in ((93, [0, 17, 28, 38]), (94, [0, 10, 28, 38])):
             with mock.patch.object(limits, 'STATES', states), mock.patch.object(
-                    Reader, 'text', autospec=True, side_effect=Reader.text) as asked:
+                Reader, 'text', autospec=True, side_effect=Reader.text
+            ) as asked:
                 _, results = self.windows(text, 60)
             plans = [call for call in asked.mock_calls if '--holes' in call.args[1]]
             self.assertEqual([one.plan.begin for one in results], begins)
@@ -251,32 +276,39 @@ class Cuts(InWindows):
         whole = read_plan(''.join(json_listing(plan_of(read(text.encode())))))
         cut, lines = Steps(session).trace(len(session.steps))
         plan = read_plan(''.join(json_listing(plan_of(read(cut.encode())))))
-        self.assertEqual([(one.text, lines[one.line - 1]) for one in plan.operations],
-                         [(one.text, one.line) for one in whole.operations])
+        self.assertEqual(
+            [(one.text, lines[one.line - 1]) for one in plan.operations],
+            [(one.text, one.line) for one in whole.operations],
+        )
         self.assertEqual(plan.needs.masks, whole.needs.masks)
         self.assertEqual(session.places[-1], len(whole.operations))
         self.assertLess(max(one.size for one in session.steps), 66)
 
 
 class Shown(InWindows):
-
     def test_progress_says_which_part_of_the_session_it_is(self):
         _, results = self.windows(log_of(12), 9)
-        planned = [Planned('', [], one.plan, Before(operations=one.plan.begin), is_last)
-                   for one, is_last in ((results[0], False), (results[1], True))]
-        self.assertEqual([one.part() for one in planned],
-                         ['micro-operations 0 to 8: ', 'micro-operations 9 to 17: '])
+        planned = [
+            Planned('', [], one.plan, Before(operations=one.plan.begin), is_last)
+            for one, is_last in ((results[0], False), (results[1], True))
+        ]
+        self.assertEqual(
+            [one.part() for one in planned],
+            ['micro-operations 0 to 8: ', 'micro-operations 9 to 17: '],
+        )
         self.assertEqual(Planned('', [], results[0].plan).part(), '')
 
 
 class Limits(InWindows):
-
     def test_a_session_of_more_micro_operations_is_checked_in_windows(self):
         trace = self.write('long.trace', log_of(400))
         ran = self.run_tool('crashfs-check', '--crashfs', FAKE, '--prefixes', trace, '--', 'true')
         self.assertEqual((ran.returncode, ran.stderr), (0, ''))
-        self.assertEqual(ran.stdout, 'long.trace: 1,201 micro-operations in 2 windows, 1,202 '
-                                     'states, 1,202 different: none fails\n')
+        self.assertEqual(
+            ran.stdout,
+            'long.trace: 1,201 micro-operations in 2 windows, 1,202 '
+            'states, 1,202 different: none fails\n',
+        )
 
     def test_a_window_has_no_more_states_than_a_plan_takes(self):
         text = HEADER + ''.join(creat(f'/{number}') for number in range(200))
@@ -289,90 +321,10 @@ class Limits(InWindows):
     def test_a_fault_of_a_later_line_is_reported_with_it(self):
         trace = self.write('bad.trace', log_of(400) + creat('/log'))
         ran = self.run_tool('crashfs-check', '--crashfs', FAKE, trace, '--', 'true')
-        self.assertEqual((ran.returncode, ran.stdout, ran.stderr), (
-            2, '', f'crashfs-check: crashfs: {trace}:1204: /log is there already\n'))
-
-
-LOSING = """\
-#!/bin/sh
-test "$CRASHFS_SAYS" = "$(grep -c row)" || { echo "texts: not those told"; exit 1; }
-size=$(stat -c %s log 2> /dev/null || echo 0)
-test "$size" -ge $((8 * CRASHFS_SAYS)) && exit 0
-echo "lost: row $((size / 8)) of $CRASHFS_SAYS"
-exit 1
-"""
-
-
-class Reports(InWindows):
-    """A log that two of its rows are not synced in, each in another window."""
-
-    def setUp(self):
-        super().setUp()
-        text = log_of(12)
-        for row in (2, 9):
-            text = text.replace(sync('/log') + said(f'row {row}'), said(f'row {row}'))
-        self.trace = self.write('log.trace', text)
-        self.command = self.write('losing.sh', LOSING, 0o755)
-
-    def check(self, *words, command=None):
-        return self.run_tool('crashfs-check', '--crashfs', FAKE, *words, '--',
-                             *(command or [self.command]))
-
-    def test_what_fails_in_several_windows_is_one_entry_with_one_advice(self):
-        whole, cut = self.check(self.trace), self.check('--window', '12', self.trace)
-        for ran in (whole, cut):
-            self.assertEqual(ran.returncode, 1, ran.stderr)
-            lines = [line.strip() for line in ran.stdout.splitlines()]
-            self.assertIn('fsync /log between them (and at 1 more place)', lines)
-            self.assertRegex(ran.stdout, 'tried: with those 2 syncs 0 of these [0-9]+ states are '
-                                         'left, and no other fails')
-        self.assertIn(' in 4 windows, ', cut.stdout)
-        first = re.search('line (.*) was not durable', whole.stdout)[0]
-        self.assertIn(first, cut.stdout)
-
-    def test_a_state_of_a_later_window_is_found_by_its_number(self):
-        self.check('--window', '12', '--json', 'r.json', self.trace)
-        report = json.loads(self.read('r.json'))
-        number = max(report['groups'][0]['states'])
-        self.assertGreaterEqual(number, report['windows'][2]['first'])
-        ran = self.check('--window', '12', '--state', str(number), self.trace)
-        self.assertEqual(ran.returncode, 1, ran.stderr)
-        self.assertRegex(ran.stdout, f'state {number}, [a-z0-9 ]+, says 1[0-2]: bad: lost: row 9')
-        total = report['windows'][-1]['first'] + len(report['windows'][-1]['states'])
-        ran = self.check('--window', '12', '--state', str(total), self.trace)
-        self.assertEqual(ran.stderr, f'crashfs-check: no such state: {total} (there are {total})\n')
-
-    def test_shards_are_merged_into_the_whole(self):
-        whole = self.check('--window', '12', self.trace)
-        for part in (1, 2):
-            self.check('--window', '12', '--shard', f'{part}/2', '--json', f'{part}.json',
-                       self.trace)
-        ran = self.run_tool('crashfs-check', '--merge', '2.json', '1.json')
-        self.assertEqual(ran.returncode, 1, ran.stderr)
-        untried = re.sub(' *tried: .*\n', '', whole.stdout)
-        self.assertEqual(ran.stdout, untried)
-
-    def test_a_stopped_check_goes_on_in_its_window(self):
-        whole = self.check('--window', '12', self.trace)
-        ran = self.check('--window', '12', '--fail-fast', '--json', 'r.json', self.trace)
-        self.assertIn('(stopped by the first failure)', ran.stdout)
-        ran = self.check('--window', '12', '--resume', 'r.json', self.trace)
-        self.assertEqual((ran.returncode, ran.stdout), (1, whole.stdout), ran.stderr)
-
-    def test_the_page_draws_the_windows_in_which_states_fail(self):
-        self.check('--window', '12', '--html', 'r.html', '--junit', 'r.xml', self.trace)
-        page = self.read('r.html')
-        drawn = json.loads(re.search(r'const windows = (.*);\n', page)[1])
-        self.assertEqual(len(drawn), 2)
-        self.assertIn('of 4 windows', page)
-        self.assertIn('<testcase', self.read('r.xml'))
-
-    def test_a_command_that_fails_at_the_end_is_refused_before_anything(self):
-        ran = self.check('--window', '12', self.trace,
-                         command=['sh', '-c', 'test $CRASHFS_SAYS != 12'])
-        self.assertEqual((ran.returncode, ran.stdout), (2, ''))
-        self.assertIn("COMMAND fails in the tree at the session's end, where nothing is lost "
-                      '(says 12): status 1', ran.stderr)
+        self.assertEqual(
+            (ran.returncode, ran.stdout, ran.stderr),
+            (2, '', f'crashfs-check: crashfs: {trace}:1204: /log is there already\n'),
+        )
 
 
 if __name__ == '__main__':

@@ -1,17 +1,14 @@
 """Command lines that are wrong: each has its lines on standard error and its status."""
 
 import os
-import signal
 import socket
-import struct
 import subprocess
 import sys
 import unittest
-from contextlib import contextmanager
-from typing import Dict, Iterator, List, Tuple
+from typing import Dict, List, Tuple
 
 from crashfs_tools import VERSION
-from crashfs_tools.program import Crashfs
+from crashfs_tools.common.program import Crashfs
 
 from .support import EXAMPLES, FAKE, PATIENCE, TOOLS, InFolder, needed
 
@@ -70,7 +67,7 @@ CHECK: List[Tuple[str, int, str]] = [
     ('--merge a -- true', 2, 'error: --merge goes with no COMMAND'),
     ('--merge none', 2, 'none: No such file or directory'),
     ('none -- true', 2, 'none: No such file or directory'),
-    ('tmp -- true', 2, 'tmp: Is a directory'),
+    ('tmp -- true', 2, 'tmp is no file'),
     ('TRACE -- no-such', 2, 'no-such: command not found'),
     ('TRACE -- /etc/passwd', 2, '/etc/passwd: not executable'),
     ('--json none/r TRACE -- true', 2, 'none/r: its directory is not there'),
@@ -108,12 +105,18 @@ SERVE = 'serve STORE --users users --workers 1 --connections 1 --listen'
 PROGRAM: List[Tuple[str, int, List[str]]] = [
     (f'{SERVE} localhost', 1, ['cannot listen', 'localhost: invalid socket address']),
     (f'{SERVE} 5640', 1, ['cannot listen', '5640: invalid socket address']),
-    ('serve STORE --users users-crlf --listen 5640', 1,
-     ['cannot listen', '5640: invalid socket address']),
+    (
+        'serve STORE --users users-crlf --listen 5640',
+        1,
+        ['cannot listen', '5640: invalid socket address'],
+    ),
     (f'{SERVE} localhost:99999', 1, ['cannot listen', 'localhost:99999: invalid port value']),
     (f'{SERVE} unix:/tmp/x', 1, ['cannot listen', 'unix:/tmp/x: invalid port value']),
-    (f'{SERVE} 192.0.2.1:5640', 1,
-     ['cannot listen', '192.0.2.1:5640: Cannot assign requested address']),
+    (
+        f'{SERVE} 192.0.2.1:5640',
+        1,
+        ['cannot listen', '192.0.2.1:5640: Cannot assign requested address'],
+    ),
     (f'{SERVE} nosuch.invalid:5640', 1, ['cannot listen', 'nosuch.invalid:5640: ']),
     (f'{SERVE} 127.0.0.1:PORT', 1, ['cannot listen', '127.0.0.1:PORT: Address already in use']),
     ('list none', 1, ['none: cannot read', 'none: No such file or directory']),
@@ -122,8 +125,11 @@ PROGRAM: List[Tuple[str, int, List[str]]] = [
     ('list empty', 1, ['trace line 1: Syntax', 'empty:1: the file has no line']),
     ('list bom', 1, ['trace line 1: Syntax', 'bom:1: it starts with a byte order mark']),
     ('list version', 1, ['trace line 1: Syntax', 'version:1: version 4 is not known (1, 2, 3)']),
-    ('list long-mode', 1,
-     ['trace line 1: Syntax', 'long-mode:1: mode "0755" is not three octal digits']),
+    (
+        'list long-mode',
+        1,
+        ['trace line 1: Syntax', 'long-mode:1: mode "0755" is not three octal digits'],
+    ),
     ('list mode', 1, ['trace line 1: Syntax', 'mode:1: mode 755 is not three octal digits']),
     ('list key', 1, ['trace line 1: Syntax', 'key:1: unknown key "comment"']),
     ('list odd', 1, ['trace line 3: Syntax', 'odd:3: bytes has an odd number of digits']),
@@ -134,14 +140,26 @@ PROGRAM: List[Tuple[str, int, List[str]]] = [
     ('tar STORE --state 13', 1, ['no such state', 'there are 12 states; with --holes 19']),
     ('tar STORE --states 0,13-14 --holes', 0, []),
     ('tar STORE --states 19 --holes', 1, ['no such state', 'there are 19 states']),
-    ('list many --holes', 1, ['plan too large', 'a plan has at most 16384 states: this trace has 201 '
-                              'without holes, and 19900 holes; ']),
-    ('list STORE --picks pick', 1,
-     ['pick 0 not allowed', 'pick 0: its operations do not ascend']),
-    ('list STORE --picks far', 1,
-     ['pick 0 not allowed', 'pick 0: there are 11 operations, and no 99']),
-    ('list STORE --picks alone', 1,
-     ['pick 1 not allowed', 'pick 1: operation 5 needs operation 0']),
+    (
+        'list many --holes',
+        1,
+        [
+            'plan too large',
+            'a plan has at most 16384 states: this trace has 201 '
+            'without holes, and 19900 holes; ',
+        ],
+    ),
+    ('list STORE --picks pick', 1, ['pick 0 not allowed', 'pick 0: its operations do not ascend']),
+    (
+        'list STORE --picks far',
+        1,
+        ['pick 0 not allowed', 'pick 0: there are 11 operations, and no 99'],
+    ),
+    (
+        'list STORE --picks alone',
+        1,
+        ['pick 1 not allowed', 'pick 1: operation 5 needs operation 0'],
+    ),
     ('tar STORE --states 13 --changes', 1, ['no such state', 'there are 12 states; with ']),
     ('tar STORE --state 11 --changes', 0, []),
     ('list many', 0, []),
@@ -151,10 +169,16 @@ PROGRAM: List[Tuple[str, int, List[str]]] = [
 # The same for the second reading, whose reasons are more.
 READING: List[Tuple[str, int, List[str]]] = [
     ('list --trace empty', 1, ['trace line 1: Syntax', 'empty:1: the trace is empty']),
-    ('list --trace version', 1,
-     ['trace line 1: Syntax', 'version:1: version 4 is not known (1, 2, 3)']),
-    ('list --trace long-mode', 1,
-     ['trace line 1: Syntax', 'long-mode:1: mode "0755" is not three octal digits']),
+    (
+        'list --trace version',
+        1,
+        ['trace line 1: Syntax', 'version:1: version 4 is not known (1, 2, 3)'],
+    ),
+    (
+        'list --trace long-mode',
+        1,
+        ['trace line 1: Syntax', 'long-mode:1: mode "0755" is not three octal digits'],
+    ),
     ('list --trace key', 1, ['trace line 1: Syntax', 'key:1: unknown key "comment"']),
     ('list --trace odd', 1, ['trace line 3: Syntax', 'odd:3: bytes ']),
     ('list --trace word', 1, ['trace line 2: UnknownOp', 'word:2: unknown op "wirte"']),
@@ -165,7 +189,6 @@ READING: List[Tuple[str, int, List[str]]] = [
 
 
 class WrongUsages(InFolder):
-
     def setUp(self) -> None:
         super().setUp()
         os.mkdir(self.path('d'))
@@ -187,34 +210,47 @@ class WrongUsages(InFolder):
         self.check_rows('crashfs-record', RECORD)
 
     def test_of_the_check(self) -> None:
-        self.write('killed', '#!/bin/sh\n[ $1 = tar ] && printf x && kill -9 $$\n'
-                             f'exec python3 {EXAMPLES.parent}/tools/crashfs_tools/reading "$@"\n',
-                   0o755)
+        self.write(
+            'killed',
+            '#!/bin/sh\n[ $1 = tar ] && printf x && kill -9 $$\n'
+            f'exec python3 {EXAMPLES.parent}/tools/crashfs_tools/reading "$@"\n',
+            0o755,
+        )
         self.check_rows('crashfs-check', CHECK)
 
     def test_the_version_is_printed(self) -> None:
         for command in ('crashfs-record', 'crashfs-check'):
             ran = self.run_tool(command, '--version')
-            self.assertEqual((ran.returncode, ran.stdout, ran.stderr),
-                             (0, f'{command} {VERSION} (not a release)\n', ''))
-
+            self.assertEqual(
+                (ran.returncode, ran.stdout, ran.stderr),
+                (0, f'{command} {VERSION} (not a release)\n', ''),
+            )
 
     def test_a_help_that_cannot_be_printed_is_a_fault(self) -> None:
         for command in ('crashfs-record', 'crashfs-check'):
             for words in (['-S'], ['-S', '-u']):
                 with open('/dev/full', 'w', encoding='utf-8') as full:
-                    ran = subprocess.run([sys.executable, *words, str(TOOLS / command), '--help'],
-                                         stdout=full, stderr=subprocess.PIPE, text=True)
-                self.assertEqual((ran.returncode, ran.stderr), (
-                    3, f'{command}: standard output: No space left on device\n'))
+                    ran = subprocess.run(
+                        [sys.executable, *words, str(TOOLS / command), '--help'],
+                        stdout=full,
+                        stderr=subprocess.PIPE,
+                        text=True,
+                    )
+                self.assertEqual(
+                    (ran.returncode, ran.stderr),
+                    (3, f'{command}: standard output: No space left on device\n'),
+                )
 
     def test_a_help_that_nobody_reads_is_none(self) -> None:
         for words in (['-S'], ['-S', '-u']):
             reader, writer = os.pipe()
             os.close(reader)
             with os.fdopen(writer, 'wb') as out:
-                ran = subprocess.run([sys.executable, *words, str(TOOLS / 'crashfs-check'),
-                                      '--help'], stdout=out, stderr=subprocess.PIPE)
+                ran = subprocess.run(
+                    [sys.executable, *words, str(TOOLS / 'crashfs-check'), '--help'],
+                    stdout=out,
+                    stderr=subprocess.PIPE,
+                )
             self.assertEqual((ran.returncode, ran.stderr), (0, b''))
 
 
@@ -232,8 +268,14 @@ class Programs(InFolder):
             for line, status, told in rows:
                 with self.subTest(line):
                     words = line.replace('STORE', STORE).replace('PORT', port).split()
-                    ran = subprocess.run([*start, *words], cwd=self.folder, capture_output=True,
-                                         text=True, stdin=subprocess.DEVNULL, timeout=PATIENCE)
+                    ran = subprocess.run(
+                        [*start, *words],
+                        cwd=self.folder,
+                        capture_output=True,
+                        text=True,
+                        stdin=subprocess.DEVNULL,
+                        timeout=PATIENCE,
+                    )
                     lines = ran.stderr.splitlines()
                     self.assertEqual((ran.returncode, len(lines)), (status, len(told)), ran.stderr)
                     for had, begin in zip(lines, told):
@@ -272,8 +314,9 @@ class Programs(InFolder):
             reader, writer = os.pipe()
             os.close(reader)
             with os.fdopen(writer, 'wb') as out:
-                ran = subprocess.run([FOUND.path, words[0], STORE, *words[1:]], stdout=out,
-                                     stderr=subprocess.PIPE)
+                ran = subprocess.run(
+                    [FOUND.path, words[0], STORE, *words[1:]], stdout=out, stderr=subprocess.PIPE
+                )
             self.assertEqual((ran.stderr, ran.returncode), (b'', 1), words)
 
     @needs_program
@@ -281,73 +324,23 @@ class Programs(InFolder):
         assert FOUND is not None
         for words in (['tar', '--states', '0-11'], ['list'], ['picks', '--lost']):
             with open('/dev/full', 'w', encoding='utf-8') as full:
-                ran = subprocess.run([FOUND.path, words[0], STORE, *words[1:]], stdout=full,
-                                     stderr=subprocess.PIPE, text=True)
-            self.assertEqual((ran.returncode, ran.stderr.splitlines()), (1, [
-                'crashfs: output failed',
-                'crashfs: standard output: No space left on device (os error 28)']), words)
-
-
-class Served(InFolder):
-    """The command `serve` of the program."""
-
-    @contextmanager
-    def serving(self, *words: str) -> Iterator[Tuple[subprocess.Popen[str], int]]:
-        """A server of the store's trace, and its port. It ends with its standard input."""
-        assert FOUND is not None
-        with subprocess.Popen([FOUND.path, 'serve', STORE, '--again', '--ready', '--listen',
-                               '127.0.0.1:0', *words], stdin=subprocess.PIPE, text=True,
-                              stdout=subprocess.PIPE, stderr=subprocess.PIPE) as child:
-            assert child.stdout is not None and child.stdin is not None
-            yield child, int(child.stdout.readline().rpartition(':')[2])
-            child.stdin.close()
-            child.wait(PATIENCE)
-
-    @staticmethod
-    def replies(port: int, *requests: bytes) -> List[int]:
-        """The type of the reply to each request."""
-        with socket.create_connection(('127.0.0.1', port), PATIENCE) as client:
-            found = []
-            for request in requests:
-                client.sendall(struct.pack('<I', len(request) + 4) + request)
-                size = struct.unpack('<I', client.recv(4, socket.MSG_WAITALL))[0]
-                found.append(client.recv(size - 4, socket.MSG_WAITALL)[0])
-            return found
-
-    @needs_program
-    def test_serve_ends_with_its_input_and_has_defaults(self) -> None:
-        with self.serving() as (child, _):
-            pass
-        assert child.stderr is not None
-        self.assertEqual(child.returncode, 0)
-
-    @needs_program
-    def test_without_users_the_owners_of_the_trace_attach(self) -> None:
-        version = b'\x64\xff\xff' + struct.pack('<IH', 8192, 6) + b'9P2000'
-        with self.serving() as (_, port):
-            for user, reply in ((b'kv', 105), (b'nobody', 107)):
-                attach = (b'\x68\0\0' + struct.pack('<II', 0, 0xffffffff)
-                          + struct.pack('<H', len(user)) + user + b'\x03\x000/x')
-                self.assertEqual(self.replies(port, version, attach), [101, reply], user)
-
-    @needs_program
-    def test_a_client_of_another_protocol_gets_a_line(self) -> None:
-        with self.serving() as (child, port):
-            with socket.create_connection(('127.0.0.1', port), PATIENCE) as client:
-                client.sendall(b'GET / HTTP/1.0\r\n\r\n')
-                self.assertEqual(client.recv(1), b'')
-            assert child.stderr is not None
-            self.assertEqual(child.stderr.readline(), "crashfs: connection 0 is no 9P2000: "
-                             "a message's size is above 65536\n")
-
-    @needs_program
-    def test_signals_end_it_at_once(self) -> None:
-        for number in (signal.SIGTERM, signal.SIGINT):
-            if signal.getsignal(number) is signal.SIG_IGN:
-                continue  # as a shell starts what runs in its background
-            with self.serving() as (child, _):
-                child.send_signal(number)
-                self.assertEqual(child.wait(PATIENCE), -number)
+                ran = subprocess.run(
+                    [FOUND.path, words[0], STORE, *words[1:]],
+                    stdout=full,
+                    stderr=subprocess.PIPE,
+                    text=True,
+                )
+            self.assertEqual(
+                (ran.returncode, ran.stderr.splitlines()),
+                (
+                    1,
+                    [
+                        'crashfs: output failed',
+                        'crashfs: standard output: No space left on device (os error 28)',
+                    ],
+                ),
+                words,
+            )
 
 
 if __name__ == '__main__':

@@ -98,7 +98,7 @@ pub fn tar_command<'a>(alloc: Global) -> Result<Command<'a>, AllocError> {
         "Only what differs from the start tree: new and changed files below N/, and a file N.missing of the paths that are gone, each with a NUL after it";
     let tar = Command::new(alloc, "tar")
         .about("Writes the files of crash states as a tar archive")
-        .after_help("Example: crashfs tar store.trace --holes --state 25 | tar -x -C dir")
+        .after_help("Example: crashfs tar store.trace --holes --state 18 | tar -x -C dir")
         .arg(state)?
         .arg(states)?
         .arg(flag(alloc, "changes", changes))?

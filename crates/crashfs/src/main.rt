@@ -9,8 +9,6 @@ mod line_reason;
 mod output;
 mod pick_reason;
 mod reason;
-#[cfg(test)]
-mod tests;
 mod users;
 mod version;
 

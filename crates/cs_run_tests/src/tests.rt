@@ -1,17 +1,17 @@
-//! What calls answer, what a journal keeps of them, and which runs are found.
+//! What calls answer, what a journal keeps of them, and which runs are found; names, paths, users
+//! and texts, of which a library says more than commands print.
 
 mod answers;
 mod asks;
 mod audits;
 mod blocks;
 mod copies;
-mod directories;
 mod endings;
-mod files;
 mod journals;
+mod linux;
+mod names;
+mod paths;
+mod printing;
 mod registries;
-mod reloads;
-mod removes;
 mod side;
-mod world;
-mod wstats;
+mod users;

@@ -1,25 +1,11 @@
-//! Worked examples of connections over the start tree, of a world's steps, and of many connections
-//! at once.
+//! Connections of many threads over shared runs, streams that fail, and a world's steps: what no
+//! command shows.
 
 mod audits;
 mod bounds;
 mod commands;
-mod dialogues;
-mod exchange;
-mod files;
-mod fixture;
-mod groups;
-mod limits;
-mod lists;
 mod looking;
 mod ports;
-mod program;
-mod reloading;
 mod server;
-mod sessions;
-mod states;
 mod stepping;
 mod steps;
-mod telling;
-mod walks;
-mod wstats;

@@ -8,6 +8,5 @@ mod fake_port;
 mod fids;
 mod framing;
 mod lone_run;
-mod malformed;
 mod messages;
 mod streams;

@@ -3,8 +3,8 @@
 //! sockets, the threads, and what is printed.
 //!
 //! Most functions have no clause: what they do happens at a socket, a file, a clock or in another
-//! thread, of which contracts say little. Tests hold them: `tests` over loopback, with real
-//! threads, and tools/tests with the built program. The clauses say what needs none of these: the
+//! thread, of which contracts say little. Tests hold them: tools/tests over loopback, with the
+//! built program, and `tests`, with real threads. The clauses say what needs none of these: the
 //! lines of the runs, the users that a file spells, and that the states are those of the server's
 //! own scene.
 #![tactic(auto)]

@@ -1,15 +1,9 @@
-//! The command over loopback.
-mod again;
-mod client;
+//! What no client of the built program sees: accepts that fail, streams in pieces, audits by other
+//! passes, and workers that wait for one another. tools/tests has the command over loopback.
 mod fixture;
 mod line_ends;
 mod linux;
-mod loopback;
 mod printing;
 mod refusals;
-mod reloads;
-mod renames;
 mod summary;
-mod time;
-mod while_publishing;
 mod workers;

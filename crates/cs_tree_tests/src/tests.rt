@@ -1,6 +1,6 @@
-//! The start tree of the worked examples in each kind of store, read and changed as any tree.
+//! The start tree of the worked examples in each kind of store, read and changed as any tree; and
+//! what a library says of scenes and their states that no command prints.
 
-mod attributes;
 mod calls;
 mod changes;
 mod frozen;
@@ -9,6 +9,8 @@ mod listings;
 mod reads;
 mod refusals;
 mod runs;
+mod same;
+mod scenes;
 mod shown;
 mod start;
 mod states;

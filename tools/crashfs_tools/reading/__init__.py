@@ -8,10 +8,10 @@ is no program, and the tests compare the two.
 from __future__ import annotations
 
 from .faults import ReadingFault
-from .plan import Plan, plan_of
+from .plan import StateList, plan_of
 from .trace import Reading, read
 
-__all__ = ['Plan', 'Reading', 'ReadingFault', 'count_states', 'plan_of', 'read']
+__all__ = ['Reading', 'ReadingFault', 'StateList', 'count_states', 'plan_of', 'read']
 
 
 def count_states(text: str) -> int:

@@ -8,7 +8,7 @@ if not __package__:
     # Run by its path: what it imports is found from the folder of the whole package.
     sys.path[0] = os.path.dirname(os.path.dirname(os.path.dirname(os.path.abspath(__file__))))
 
-from crashfs_tools.reading.main import main  # noqa: E402
+from crashfs_tools.reading.main import main  # noqa: E402  # after the path
 
 if __name__ == '__main__':
     sys.exit(main(sys.argv[1:]))

@@ -6,24 +6,24 @@ import tarfile
 from io import BytesIO
 from typing import BinaryIO, Dict, List, Tuple
 
-from .plan import Plan
+from .plan import StateList
 from .states import Entry
 
 
-def write_state(plan: Plan, number: int, out: BinaryIO) -> None:
+def write_state(plan: StateList, number: int, out: BinaryIO) -> None:
     """The tree of one state."""
     with tarfile.open(fileobj=out, mode='w|', format=tarfile.PAX_FORMAT) as archive:
         add_tree(archive, plan, number, './')
 
 
-def write_states(plan: Plan, numbers: List[int], out: BinaryIO) -> None:
+def write_states(plan: StateList, numbers: List[int], out: BinaryIO) -> None:
     """The trees of states, each below a directory of its number."""
     with tarfile.open(fileobj=out, mode='w|', format=tarfile.PAX_FORMAT) as archive:
         for number in numbers:
             add_tree(archive, plan, number, f'{number}/')
 
 
-def write_changes(plan: Plan, numbers: List[int], out: BinaryIO) -> None:
+def write_changes(plan: StateList, numbers: List[int], out: BinaryIO) -> None:
     """What differs between state 0 and each of these states."""
     start = plan.trees.tree(plan.states[0][1])
     with tarfile.open(fileobj=out, mode='w|', format=tarfile.PAX_FORMAT) as archive:
@@ -48,7 +48,7 @@ def shown_name(path: str, entry: Entry) -> str:
     return path[1:] + ('/' if entry[1] is None else '')
 
 
-def add_tree(archive: tarfile.TarFile, plan: Plan, number: int, top: str) -> None:
+def add_tree(archive: tarfile.TarFile, plan: StateList, number: int, top: str) -> None:
     tree = plan.trees.tree(plan.states[number][1])
     for path in in_order(tree):
         name = top if path == '/' else ('' if top == './' else top) + path[1:]

@@ -16,15 +16,25 @@ class Digests:
     and the size alone, so that many states share it. changes has each file's places; bytes_of makes
     the bytes of a file."""
 
-    def __init__(self, reading: Reading, changes: Dict[int, int],
-                 bytes_of: Callable[[int, int], Tuple[Rights, bytes]]) -> None:
+    def __init__(
+        self,
+        reading: Reading,
+        changes: Dict[int, int],
+        bytes_of: Callable[[int, int], Tuple[Rights, bytes]],
+    ) -> None:
         self.reading = reading
         self.bytes_of = bytes_of
-        self.writes = sum(1 << place for place, operation in enumerate(reading.operations)
-                          if isinstance(operation, WriteBlock))
+        self.writes = sum(
+            1 << place
+            for place, operation in enumerate(reading.operations)
+            if isinstance(operation, WriteBlock)
+        )
         # The changes of each block of the files that never shrink.
-        self.blocks = {number: self.blocks_of(places) for number, places in changes.items()
-                       if not self.shrinks(number, places)}
+        self.blocks = {
+            number: self.blocks_of(places)
+            for number, places in changes.items()
+            if not self.shrinks(number, places)
+        }
         self.block = lru_cache(None)(self.make_block)
         self.rights_and_size = lru_cache(None)(self.make_rights_and_size)
         self.start_blocks = lru_cache(64)(self.make_start_blocks)
@@ -40,15 +50,16 @@ class Digests:
         digests = list(self.start_blocks(number, full))
         for block, changes in blocks.items():
             if block < full:
-                digests[block] = self.block(number, block, self.last_writes(changes & places),
-                                            self.reading.block_size)
+                digests[block] = self.block(
+                    number, block, self.last_writes(changes & places), self.reading.block_size
+                )
         if rest:
             digests.append(self.block(number, full, blocks.get(full, 0) & places, rest))
         return rights, whole(digests)
 
     def pieces(self, data: bytes) -> List[bytes]:
         size = self.reading.block_size
-        return [hashlib.sha256(data[at:at + size]).digest() for at in range(0, len(data), size)]
+        return [hashlib.sha256(data[at : at + size]).digest() for at in range(0, len(data), size)]
 
     def last_writes(self, places: int) -> int:
         """The writes of a block that are seen: of a whole block, the last one alone."""
@@ -60,18 +71,19 @@ class Digests:
 
     def make_start_blocks(self, number: int, count: int) -> Tuple[bytes, ...]:
         """The digests of the first blocks of a file that nothing has changed but its size."""
-        return tuple(self.block(number, block, 0, self.reading.block_size)
-                     for block in range(count))
+        return tuple(
+            self.block(number, block, 0, self.reading.block_size) for block in range(count)
+        )
 
     def make_block(self, number: int, block: int, places: int, shown: int) -> bytes:
         """The digest of the first bytes of a block after some of its changes."""
         size = self.reading.block_size
-        start = self.reading.start_data.get(number, b'')[block * size:(block + 1) * size]
+        start = self.reading.start_data.get(number, b'')[block * size : (block + 1) * size]
         data = bytearray(start.ljust(size, b'\0'))
         for place in bits(places):
             operation = self.reading.operations[place]
             assert isinstance(operation, WriteBlock)
-            data[operation.at:operation.at + len(operation.data)] = operation.data
+            data[operation.at : operation.at + len(operation.data)] = operation.data
         return hashlib.sha256(data[:shown]).digest()
 
     def make_rights_and_size(self, number: int, places: int) -> Tuple[Rights, int]:

@@ -11,7 +11,7 @@ from .faults import syntax
 DEPTH = 127
 # Digits of the largest number of eight bytes.
 DIGITS = 20
-LARGEST = 2 ** 64 - 1
+LARGEST = 2**64 - 1
 
 
 def read_object(line: str) -> Dict[str, Any]:
@@ -66,8 +66,9 @@ def is_number(value: Any) -> bool:
 def read_array(line: bytes) -> List[Any]:
     """The values of a line that is an array."""
     try:
-        value = json.loads(line.decode('utf-8'), parse_int=integer, parse_float=finite,
-                           parse_constant=refuse)
+        value = json.loads(
+            line.decode('utf-8'), parse_int=integer, parse_float=finite, parse_constant=refuse
+        )
     except (ValueError, RecursionError) as error:
         raise syntax(f'no JSON: {error}') from error
     if not isinstance(value, list):

@@ -69,7 +69,7 @@ class Line:
         return bytes.fromhex(self.fields['bytes'])
 
 
-class Lines:
+class LineJudge:
     """Judges line after line. The version is that of the header."""
 
     def __init__(self) -> None:
@@ -157,5 +157,8 @@ def judge_names(line: Line) -> None:
 
 
 def is_name(name: str) -> bool:
-    return (1 <= len(name.encode('utf-8')) <= NAME_BYTES and '\0' not in name
-            and name not in ('.', '..'))
+    return (
+        1 <= len(name.encode('utf-8')) <= NAME_BYTES
+        and '\0' not in name
+        and name not in ('.', '..')
+    )

@@ -5,13 +5,13 @@ from __future__ import annotations
 import json
 from typing import Any, Dict, Iterator
 
-from .micro import MicroOperation
+from .micro import Micro
 from .order import bits
-from .plan import Plan
+from .plan import StateList
 from .states import Digest
 
 
-def listing(plan: Plan, lines: bool = False, same: bool = False) -> Iterator[str]:
+def listing(plan: StateList, lines: bool = False, same: bool = False) -> Iterator[str]:
     for place, operation in enumerate(plan.reading.operations):
         yield f'op {place} {operation.text}{origin(operation) if lines else ""}\n'
     first: Dict[Digest, int] = {}
@@ -22,21 +22,33 @@ def listing(plan: Plan, lines: bool = False, same: bool = False) -> Iterator[str
         yield f'state {number} {text} says {plan.trees.count_says(places)}{tail}\n'
 
 
-def origin(operation: MicroOperation) -> str:
+def origin(operation: Micro) -> str:
     return f' line {operation.line} {operation.path}'.rstrip()
 
 
-def json_listing(plan: Plan) -> Iterator[str]:
+def json_listing(plan: StateList) -> Iterator[str]:
     """The same as JSON objects, with what each micro-operation needs."""
     for place, operation in enumerate(plan.reading.operations):
         needs = list(bits(plan.order.needs[place] | 1 << place))
-        yield as_line({'op': place, 'kind': operation.text.split(' ')[0], **operation.fields(),
-                       'line': operation.line, 'needs': needs})
+        yield as_line(
+            {
+                'op': place,
+                'kind': operation.text.split(' ')[0],
+                **operation.fields(),
+                'line': operation.line,
+                'needs': needs,
+            }
+        )
     first: Dict[Digest, int] = {}
     for number, (text, places) in enumerate(plan.states):
-        yield as_line({'state': number, **state_fields(text),
-                       'says': plan.trees.count_says(places),
-                       'same': first.setdefault(plan.trees.digest(places), number)})
+        yield as_line(
+            {
+                'state': number,
+                **state_fields(text),
+                'says': plan.trees.count_says(places),
+                'same': first.setdefault(plan.trees.digest(places), number),
+            }
+        )
 
 
 def state_fields(text: str) -> Dict[str, Any]:

@@ -9,17 +9,25 @@ from typing import Dict, List, Union
 
 from .faults import ReadingFault
 from .listing import json_listing, listing
-from .plan import Plan, different, file_sets, lost_sets, plan_of, read_picks
+from .plan import StateList, different, file_sets, lost_sets, plan_of, read_picks
 from .trace import read
 
-FLAGS = {'list': ('--holes', '--lines', '--same', '--json'), 'picks': ('--lost', '--files'),
-         'tar': ('--holes', '--changes', '--help')}
-VALUED = {'list': ('--trace', '--picks'), 'picks': ('--trace',),
-          'tar': ('--trace', '--picks', '--state', '--states')}
+FLAGS = {
+    'list': ('--holes', '--lines', '--same', '--json'),
+    'picks': ('--lost', '--files'),
+    'tar': ('--holes', '--changes', '--help'),
+}
+VALUED = {
+    'list': ('--trace', '--picks'),
+    'picks': ('--trace',),
+    'tar': ('--trace', '--picks', '--state', '--states'),
+}
 
 Options = Dict[str, Union[str, bool]]
-HELP = ('tar --trace FILE [--holes] [--picks FILE] --state N\n'
-        'tar --trace FILE [--holes] [--picks FILE] --states LIST [--changes]')
+HELP = (
+    'tar --trace FILE [--holes] [--picks FILE] --state N\n'
+    'tar --trace FILE [--holes] [--picks FILE] --states LIST [--changes]'
+)
 
 
 class Usage(Exception):
@@ -90,9 +98,10 @@ def file_bytes(path: str) -> bytes:
         raise ReadingFault(f'{path}: cannot read') from error
 
 
-def write_archive(plan: Plan, options: Options) -> None:
+def write_archive(plan: StateList, options: Options) -> None:
     # `list` begins faster without tarfile.
     from .archive import write_changes, write_state, write_states
+
     if '--state' in options and '--changes' not in options:
         number = str(options['--state'])
         if not number.isdigit():

@@ -10,7 +10,7 @@ from .names import parent
 Rights = Tuple[str, str, str]
 
 
-class MicroOperation:
+class Micro:
     """touched: the paths whose entries it changes. file: the file whose size, bytes or rights it
     changes, with a path of it. directory: the directory whose rights it changes."""
 
@@ -36,8 +36,7 @@ class MicroOperation:
         return self.touched if self.directory is None else (self.directory,)
 
 
-class CreateEntry(MicroOperation):
-
+class CreateEntry(Micro):
     def __init__(self, path: str, made: Optional[int], rights: Rights) -> None:
         self.touched = (path,)
         self.made = made
@@ -53,8 +52,7 @@ class CreateEntry(MicroOperation):
         return {'path': self.touched[0], 'node': 'file', 'file': self.made}
 
 
-class DeleteEntry(MicroOperation):
-
+class DeleteEntry(Micro):
     def __init__(self, path: str, is_directory: bool) -> None:
         self.touched = (path,)
         self.is_directory = is_directory
@@ -67,8 +65,7 @@ class DeleteEntry(MicroOperation):
         return {'path': self.touched[0], 'node': 'dir' if self.is_directory else 'file'}
 
 
-class MoveEntry(MicroOperation):
-
+class MoveEntry(Micro):
     def __init__(self, old: str, new: str) -> None:
         self.touched = (old, new)
 
@@ -80,8 +77,7 @@ class MoveEntry(MicroOperation):
         return {'path': self.touched[0], 'to': self.touched[1]}
 
 
-class LinkEntry(MicroOperation):
-
+class LinkEntry(Micro):
     def __init__(self, path: str, linked: int) -> None:
         self.touched = (path,)
         self.linked = linked
@@ -94,8 +90,7 @@ class LinkEntry(MicroOperation):
         return {'path': self.touched[0], 'file': self.linked}
 
 
-class ChangeSize(MicroOperation):
-
+class ChangeSize(Micro):
     def __init__(self, file: int, length: int) -> None:
         self.file = file
         self.length = length
@@ -108,7 +103,7 @@ class ChangeSize(MicroOperation):
         return {**self.path_of_file(), 'length': self.length}
 
 
-class WriteBlock(MicroOperation):
+class WriteBlock(Micro):
     """begin is where its bytes begin in the file."""
 
     def __init__(self, file: int, block: int, size: int, begin: int, data: bytes) -> None:
@@ -126,8 +121,7 @@ class WriteBlock(MicroOperation):
         return {**self.path_of_file(), 'block': self.block, 'at': self.at, 'count': len(self.data)}
 
 
-class SetRights(MicroOperation):
-
+class SetRights(Micro):
     def __init__(self, file: Optional[int], directory: Optional[str], rights: Rights) -> None:
         self.file = file
         self.directory = directory
@@ -145,31 +139,30 @@ class SetRights(MicroOperation):
         return {**place, 'mode': mode, 'owner': owner, 'group': group}
 
 
-class Say(MicroOperation):
+class Acknowledgement(Micro):
     text = 'say'
 
     def fields(self) -> Dict[str, Any]:
         return {}
 
 
-class Sync:
+class SyncPoint:
     """A sync point of everything, before the micro-operation at its place."""
 
     def __init__(self, at: int) -> None:
         self.at = at
 
-    def covers(self, operation: MicroOperation) -> bool:
+    def covers(self, operation: Micro) -> bool:
         """Whether it makes an earlier micro-operation durable."""
         return True
 
 
-class FileSync(Sync):
-
+class FileSync(SyncPoint):
     def __init__(self, at: int, file: int) -> None:
         super().__init__(at)
         self.file = file
 
-    def covers(self, operation: MicroOperation) -> bool:
+    def covers(self, operation: Micro) -> bool:
         return operation.file == self.file
 
 
@@ -181,7 +174,7 @@ class RangeSync(FileSync):
         self.offset = offset
         self.end = offset + length
 
-    def covers(self, operation: MicroOperation) -> bool:
+    def covers(self, operation: Micro) -> bool:
         if not super().covers(operation):
             return False
         if isinstance(operation, WriteBlock):
@@ -190,13 +183,12 @@ class RangeSync(FileSync):
         return isinstance(operation, ChangeSize)
 
 
-class DirectorySync(Sync):
-
+class DirectorySync(SyncPoint):
     def __init__(self, at: int, path: str) -> None:
         super().__init__(at)
         self.path = path
 
-    def covers(self, operation: MicroOperation) -> bool:
+    def covers(self, operation: Micro) -> bool:
         if operation.directory is not None:
             return operation.directory == self.path
         return self.path in map(parent, operation.touched)

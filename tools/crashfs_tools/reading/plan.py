@@ -11,10 +11,10 @@ from .states import States
 from .trace import Reading
 
 STATES = 16_384
-LARGEST_PLACE = 2 ** 32 - 1
+LARGEST_PLACE = 2**32 - 1
 
 
-class Plan:
+class StateList:
     """states: what `list` prints of each, and its set."""
 
     def __init__(self, reading: Reading) -> None:
@@ -37,14 +37,18 @@ class Plan:
 
     def judge_pick(self, number: int, pick: Sequence[int]) -> None:
         ascending = all(one < other for one, other in zip(pick, pick[1:]))
-        if not (ascending and all(place < self.order.count for place in pick)
-                and self.order.is_allowed(set_of(pick))):
+        if not (
+            ascending
+            and all(place < self.order.count for place in pick)
+            and self.order.is_allowed(set_of(pick))
+        ):
             raise ReadingFault(f'pick {number} not allowed')
 
 
-def plan_of(reading: Reading, holes: bool = False,
-            picks: Sequence[Sequence[int]] = ()) -> Plan:
-    plan = Plan(reading)
+def plan_of(
+    reading: Reading, holes: bool = False, picks: Sequence[Sequence[int]] = ()
+) -> StateList:
+    plan = StateList(reading)
     for count in range(plan.order.count + 1):
         plan.add(f'prefix {count}', (1 << count) - 1)
     if holes:
@@ -77,12 +81,12 @@ def read_picks(data: bytes) -> List[List[int]]:
     return picks
 
 
-def lost_sets(plan: Plan) -> Iterator[int]:
+def lost_sets(plan: StateList) -> Iterator[int]:
     """The family --lost: for each micro-operation the least set that has it."""
     return (plan.order.needs[place] | 1 << place for place in range(plan.order.count))
 
 
-def file_sets(plan: Plan) -> Iterator[int]:
+def file_sets(plan: StateList) -> Iterator[int]:
     """The family --files: each prefix without those changes of a file that no sync covers."""
     order, trees = plan.order, plan.trees
     for count in range(1, order.count + 1):

@@ -11,7 +11,7 @@ from .micro import (
     CreateEntry,
     DeleteEntry,
     LinkEntry,
-    MicroOperation,
+    Micro,
     MoveEntry,
     Rights,
     SetRights,
@@ -45,8 +45,7 @@ class States:
                 self.says |= 1 << place
         self._nodes = lru_cache(64)(self.make_nodes)
         self._file = lru_cache(64)(self.make_file)
-        self._digests = lru_cache(None)(
-            Digests(reading, self.change_places, self.make_file).digest)
+        self._digests = lru_cache(None)(Digests(reading, self.change_places, self.make_file).digest)
 
     def count_says(self, places: int) -> int:
         return bin(places & self.says).count('1')
@@ -54,13 +53,17 @@ class States:
     def tree(self, places: int) -> Dict[str, Entry]:
         """What is at each path, the root among them."""
         nodes = self._nodes(places & self.entry_places)
-        return {path: self.file(node, places) if isinstance(node, int) else (node, None)
-                for path, node in nodes.items()}
+        return {
+            path: self.file(node, places) if isinstance(node, int) else (node, None)
+            for path, node in nodes.items()
+        }
 
     def digest(self, places: int) -> Digest:
         nodes = self._nodes(places & self.entry_places)
-        return tuple((path, *self.file_digest(node, places)) if isinstance(node, int)
-                     else (path, node, None) for path, node in nodes.items())
+        return tuple(
+            (path, *self.file_digest(node, places)) if isinstance(node, int) else (path, node, None)
+            for path, node in nodes.items()
+        )
 
     def file(self, number: int, places: int) -> Entry:
         return self._file(number, places & self.change_places.get(number, 0))
@@ -76,15 +79,14 @@ class States:
 
     def make_file(self, number: int, places: int) -> Tuple[Rights, bytes]:
         rights = self.reading.made_rights[number]
-        operations: List[MicroOperation] = [self.reading.operations[place]
-                                            for place in bits(places)]
+        operations: List[Micro] = [self.reading.operations[place] for place in bits(places)]
         for operation in operations:
             if isinstance(operation, SetRights):
                 rights = operation.rights
         return rights, file_bytes(self.reading.start_data.get(number, b''), operations)
 
 
-def change_nodes(nodes: Dict[str, Node], operation: MicroOperation) -> None:
+def change_nodes(nodes: Dict[str, Node], operation: Micro) -> None:
     if isinstance(operation, CreateEntry):
         made = operation.made
         nodes[operation.touched[0]] = operation.rights if made is None else made
@@ -98,16 +100,16 @@ def change_nodes(nodes: Dict[str, Node], operation: MicroOperation) -> None:
         nodes[operation.directory] = operation.rights
 
 
-def file_bytes(start: bytes, operations: List[MicroOperation]) -> bytes:
+def file_bytes(start: bytes, operations: List[Micro]) -> bytes:
     """Bytes past the size are hidden until a size covers them; a size that shrinks drops them."""
     data, size = bytearray(start), len(start)
     for operation in operations:
         if isinstance(operation, ChangeSize):
             if operation.length < size:
-                del data[operation.length:]
+                del data[operation.length :]
             size = operation.length
         elif isinstance(operation, WriteBlock):
             end = operation.begin + len(operation.data)
             data.extend(bytes(max(0, end - len(data))))
-            data[operation.begin:end] = operation.data
+            data[operation.begin : end] = operation.data
     return bytes(data[:size]) + bytes(max(0, size - len(data)))

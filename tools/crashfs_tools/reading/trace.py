@@ -5,7 +5,7 @@ from __future__ import annotations
 from typing import Dict, List, Optional, Union
 
 from .faults import LineFault, ReadingFault, syntax
-from .lines import Line, Lines
+from .lines import Line, LineJudge
 from .micro import (
     ChangeSize,
     CreateEntry,
@@ -13,13 +13,13 @@ from .micro import (
     DirectorySync,
     FileSync,
     LinkEntry,
-    MicroOperation,
+    Micro,
     MoveEntry,
     RangeSync,
     Rights,
-    Say,
+    Acknowledgement,
     SetRights,
-    Sync,
+    SyncPoint,
     WriteBlock,
 )
 from .names import Names
@@ -43,8 +43,8 @@ class Reading:
         # The rights with which each file was made, and those that each file and directory has now.
         self.made_rights: Dict[int, Rights] = {}
         self.rights: Dict[Union[int, str], Rights] = {}
-        self.operations: List[MicroOperation] = []
-        self.syncs: List[Sync] = []
+        self.operations: List[Micro] = []
+        self.syncs: List[SyncPoint] = []
         self.names = Names()
 
     def take(self, line: Line) -> None:
@@ -64,7 +64,7 @@ class Reading:
         self.block_size = line.fields.get('block', self.block_size)
         self.start['/'] = self.rights['/'] = line.rights
 
-    def add_change(self, operation: MicroOperation) -> None:
+    def add_change(self, operation: Micro) -> None:
         """Adds a change of a file, with the oldest of the file's paths."""
         assert operation.file is not None
         operation.path = self.names.paths[operation.file][0]
@@ -131,7 +131,7 @@ class Reading:
         while place < end:
             block = place // self.block_size
             stop = min(end, (block + 1) * self.block_size)
-            piece = data[place - at:stop - at]
+            piece = data[place - at : stop - at]
             self.add_change(WriteBlock(number, block, self.block_size, place, piece))
             place = stop
 
@@ -167,22 +167,29 @@ class Reading:
             self.operations.append(SetRights(None, key, rights))
 
     def op_say(self, line: Line) -> None:
-        self.operations.append(Say())
+        self.operations.append(Acknowledgement())
 
-    # Sync points
+    # SyncPoint points
 
     def op_fsync(self, line: Line) -> None:
         number: Optional[int] = self.names.nodes[line.fields['path']]
         at = len(self.operations)
-        self.syncs.append(DirectorySync(at, line.fields['path']) if number is None
-                          else FileSync(at, number))
+        self.syncs.append(
+            DirectorySync(at, line.fields['path']) if number is None else FileSync(at, number)
+        )
 
     def op_fsync_range(self, line: Line) -> None:
-        self.syncs.append(RangeSync(len(self.operations), self.names.file(line.fields['path']),
-                                    line.fields['offset'], line.fields['length']))
+        self.syncs.append(
+            RangeSync(
+                len(self.operations),
+                self.names.file(line.fields['path']),
+                line.fields['offset'],
+                line.fields['length'],
+            )
+        )
 
     def op_sync(self, line: Line) -> None:
-        self.syncs.append(Sync(len(self.operations)))
+        self.syncs.append(SyncPoint(len(self.operations)))
 
 
 def read(data: bytes) -> Reading:
@@ -191,7 +198,7 @@ def read(data: bytes) -> Reading:
         text = data.decode('utf-8')
     except UnicodeDecodeError as error:
         raise ReadingFault('trace: NotText') from error
-    reading, lines = Reading(), Lines()
+    reading, lines = Reading(), LineJudge()
     for number, line in enumerate(text.split('\n'), 1):
         if line.strip(BLANKS):
             try:

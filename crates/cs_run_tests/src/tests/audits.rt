@@ -149,6 +149,29 @@ fn a_journal_gives_each_answer_again(rt: HostRuntime) {
     assert!(rt; matches!(past, Ok(None)));
 }
 
+/// ann opens the file to be removed on close; a close under bob's pass ends nothing, and hers
+/// removes it.
+const CLOSES: &str = "\
+ann open 64
+bob close 2
+ann stat
+ann close 2
+bob stat";
+
+/// What the last calls answer in a word each.
+fn is_gone_at_the_end(told: &str) -> bool {
+    let gone = told.lines().filter(|line| *line == "Denied(H2)").count();
+    gone == 1 && told.ends_with("Denied(H2)\n")
+}
+
+/// bob's close of ann's open is closed and leaves it: her file is there until her own close.
+#[test]
+fn a_close_under_another_pass_ends_nothing(rt: HostRuntime) {
+    let users = after(&rt, CLOSES);
+    let told = users.told.as_str();
+    assert!(rt; is_gone_at_the_end(told), "{told}");
+}
+
 /// The last receipt of the pass at a place.
 fn last_receipt(passes: &[Pass], place: usize) -> Option<&Receipt> {
     passes.get(place)?.receipts().last()

@@ -1,6 +1,5 @@
 //! Scripts and lists whose input or output comes in pieces, is interrupted, or fails.
-use crate::tests::commands::inputs_of;
-use crate::tests::fixture::{TRACE, USERS};
+use crate::tests::commands::{TRACE, USERS, inputs_of};
 use cs_serve::{list_of, list_to, script_of, script_over};
 use cs_stream::TwoEnded;
 use std::alloc::Global;

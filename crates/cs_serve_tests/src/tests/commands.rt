@@ -1,9 +1,15 @@
-//! What the commands print, and their status.
-use crate::tests::fixture::HEADER;
+//! The commands `script` and `list` over streams that fail.
 use cs_serve::{Inputs, list_of, script_of};
 use std::alloc::Global;
 use std::io::{self, ErrorKind, Read, Write};
 use std::process::Abort;
+
+pub const USERS: &[u8] =
+    b"# people\n1:ann::\n2:bob::\n3:cat::\n4:staff:ann:ann,bob,zed\n5:none::\n";
+
+pub const TRACE: &str = r#"{"trace":1,"owner":"cat","group":"staff","mode":"775"}
+{"start":"file","path":"/f","owner":"ann","group":"staff","mode":"664","bytes":"68656c6c6f"}
+"#;
 
 /// These users and this trace, and no more.
 pub fn inputs_of<'a>(users: &'a [u8], trace: &'a [u8]) -> Inputs<'a> {
@@ -16,52 +22,9 @@ pub fn inputs_of<'a>(users: &'a [u8], trace: &'a [u8]) -> Inputs<'a> {
     }
 }
 
-/// A status, what was printed, and, after a line of `--`, what standard error has.
-pub fn outcome(rt: &impl Abort, alloc: Global, status: u8, out: &[u8], err: &[u8]) -> String {
-    let out = std::str::from_utf8(out).expect(rt, "a value");
-    let err = std::str::from_utf8(err).expect(rt, "a value");
-    format!(in alloc; "status {status}\n{out}--\n{err}").expect(rt, "memory")
-}
-
-/// The outcome of `script`.
-pub fn scripted<R: Read>(rt: &impl Abort, alloc: Global, inputs: &Inputs, input: &mut R) -> String {
-    let mut out: Vec<u8> = Vec::new(alloc);
-    let mut err: Vec<u8> = Vec::new(alloc);
-    let status = script_of(alloc, inputs, input, &mut out, &mut err);
-    outcome(rt, alloc, status, &out, &err)
-}
-
-/// The outcome of `list`.
-pub fn listed(rt: &impl Abort, alloc: Global, inputs: &Inputs) -> String {
-    let mut out: Vec<u8> = Vec::new(alloc);
-    let mut err: Vec<u8> = Vec::new(alloc);
-    let status = list_of(alloc, inputs, &mut out, &mut err);
-    outcome(rt, alloc, status, &out, &err)
-}
-
-/// Expects the status 0, and these texts on standard output and standard error.
-pub fn expect_printed(rt: &(impl Abort + AllocGlobal), outcome: String, out: &str, err: &str) {
-    let wanted = format!(in rt.alloc(); "status 0\n{out}--\n{err}").expect(rt, "memory");
-    assert!(rt; outcome.as_str() == wanted.as_str(), "{outcome}");
-}
-
-/// Expects a fault, which one line reports, no output, and the status 1.
-pub fn expect_fault(rt: &(impl Abort + AllocGlobal), outcome: String, fault: &str) {
-    let wanted = format!(in rt.alloc(); "status 1\n--\ncrashfs: {fault}\n").expect(rt, "memory");
-    assert!(rt; outcome.as_str() == wanted.as_str(), "{outcome}");
-}
-
-/// What is given, and the fault that is reported of it.
-pub struct Faulty(pub &'static str, pub &'static str);
-
-/// A header, and these two texts.
-pub fn trace_of(rt: &impl Abort, alloc: Global, front: &str, back: &str) -> String {
-    format!(in alloc; "{HEADER}{front}{back}").expect(rt, "memory")
-}
-
 /// A reader whose reads fail.
 #[derive(Drop)]
-pub struct BrokenInput;
+struct BrokenInput;
 
 impl Read for BrokenInput {
     fn read(&mut self, _buf: &mut [u8]) -> io::Result<usize> {
@@ -72,9 +35,9 @@ impl Read for BrokenInput {
 /// A writer that takes `left` bytes, and whose writes fail from then on. Its flushes fail unless
 /// `flushes`.
 #[derive(Drop)]
-pub struct BrokenOutput {
-    pub left: usize,
-    pub flushes: bool,
+struct BrokenOutput {
+    left: usize,
+    flushes: bool,
 }
 
 impl Write for BrokenOutput {
@@ -93,4 +56,56 @@ impl Write for BrokenOutput {
         }
         Err(io::Error::from(ErrorKind::BrokenPipe))
     }
+}
+
+/// Looks for the fault of a script that is read from this input, of which nothing is printed.
+fn expect_unread<R: Read>(rt: &impl Abort, alloc: Global, inputs: &Inputs, input: &mut R) {
+    let mut out: Vec<u8> = Vec::new(alloc);
+    let mut err: Vec<u8> = Vec::new(alloc);
+    let status = script_of(alloc, inputs, input, &mut out, &mut err);
+    assert!(rt; status == 1 && out.is_empty());
+    assert!(rt; err.as_slice() == b"crashfs: input failed\n".as_slice());
+}
+
+/// Looks for the fault of a script's output that takes so many bytes.
+fn expect_unprinted(rt: &(impl Abort + AllocGlobal), left: usize) {
+    let inputs = inputs_of(USERS, TRACE.as_bytes());
+    let mut input = "0 0 hangup\n0 0 hangup\n".as_bytes();
+    let mut out = BrokenOutput {
+        left,
+        flushes: true,
+    };
+    let mut err: Vec<u8> = Vec::new(rt.alloc());
+    let status = script_of(rt.alloc(), &inputs, &mut input, &mut out, &mut err);
+    assert!(rt; status == 1);
+    assert!(rt; err.as_slice() == b"crashfs: output failed\n".as_slice());
+}
+
+/// A reader that fails is `input failed`. A writer that fails at once, in a line or after one is
+/// `output failed`.
+#[test]
+fn reports_an_input_or_an_output_that_fails(rt: HostRuntime) {
+    let inputs = inputs_of(USERS, TRACE.as_bytes());
+    expect_unread(&rt, rt.alloc(), &inputs, &mut BrokenInput);
+    expect_unprinted(&rt, 0);
+    expect_unprinted(&rt, 5);
+    expect_unprinted(&rt, 12);
+}
+
+/// Looks for the fault of a list's output that takes so many bytes.
+fn expect_unlisted(rt: &(impl Abort + AllocGlobal), left: usize, flushes: bool) {
+    let mut out = BrokenOutput { left, flushes };
+    let mut err: Vec<u8> = Vec::new(rt.alloc());
+    let inputs = inputs_of(&[], TRACE.as_bytes());
+    let status = list_of(rt.alloc(), &inputs, &mut out, &mut err);
+    assert!(rt; status == 1);
+    assert!(rt; err.as_slice() == b"crashfs: output failed\n".as_slice());
+}
+
+/// A writer that fails at once, after ten bytes, or when it is flushed: `output failed`, status 1.
+#[test]
+fn reports_an_output_that_fails(rt: HostRuntime) {
+    expect_unlisted(&rt, 0, true);
+    expect_unlisted(&rt, 10, true);
+    expect_unlisted(&rt, 1_000, false);
 }

@@ -1,9 +1,6 @@
 //! Steps in words.
 use cs_names::{Text, Texts};
-use cs_permit::SentBytes;
-use cs_session::{
-    AttachMessage, CallMessage, OpenMessage, ReadMessage, TableStep, WalkMessage, WriteMessage,
-};
+use cs_session::{AttachMessage, CallMessage, TableStep, WalkMessage};
 use cs_users::Users;
 use cs_world::{ConnectionStep, Step};
 use std::alloc::Global;
@@ -79,28 +76,9 @@ fn walk(rt: &impl Abort, alloc: Global) -> CallMessage<'static> {
     })
 }
 
-/// A write of `HI` at the beginning of `/f`.
-fn write() -> CallMessage<'static> {
-    CallMessage::Write(WriteMessage {
-        fid: 1,
-        offset: 0,
-        bytes: SentBytes::borrow_from(b"HI"),
-    })
-}
-
-/// A read of ten bytes from the beginning of `/f`.
-const READ: ReadMessage = ReadMessage {
-    fid: 1,
-    offset: 0,
-    count: 10,
-};
-
 fn message_of(rt: &impl Abort, alloc: Global, word: &str) -> CallMessage<'static> {
     match word {
         "walk" => walk(rt, alloc),
-        "open" => CallMessage::Open(OpenMessage { fid: 1, mode: 2 }),
-        "write" => write(),
-        "read" => CallMessage::Read(READ),
         "stat" => CallMessage::Stat(0),
         _ => panic!(rt; "a word of no message"),
     }
@@ -115,8 +93,7 @@ fn call(rt: &impl Abort, alloc: Global, word: &str, conn: &str) -> Step {
 }
 
 /// The step that words ask for: `publish` and a state; `reload` and a line of a users file;
-/// `version`, `walk`, `open`, `write`, `read` or `stat` and a connection; `find`, `attach` or
-/// `close` and what these take.
+/// `version`, `walk` or `stat` and a connection; `find`, `attach` or `close` and what these take.
 pub fn step_of(rt: &impl Abort, alloc: Global, line: &str) -> Step {
     let (word, words) = line.split_once(' ').expect(rt, "a value");
     match word {

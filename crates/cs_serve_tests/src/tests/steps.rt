@@ -192,32 +192,6 @@ fn projection_takes_the_list_at_the_time_of_the_find(rt: HostRuntime) {
     assert!(rt; calls.lines().count() == 2);
 }
 
-/// With users ann and bob, bob attaches to `0/x`: granted; dan: A6. A list of only dan is loaded.
-/// To `0/x`, dan: A6; bob: granted. To `0/y`, dan: granted; bob: A6.
-#[test]
-fn a_run_keeps_the_users_it_was_made_with(rt: HostRuntime) {
-    expect(
-        &rt,
-        "
-publish 0 => Published
-version 0 => Connection(Version { msize: 8192, is_spoken: true })
-find 0 0 bob 0/x => Connection(Found)
-attach 0 7 => Connection(Attach(Qid { kind: 128, vers: 0, path: 0 }))
-find 0 1 dan 0/x => Connection(Found)
-attach 0 7 => Connection(Error(A6))
-reload 1:dan:: => Reloaded
-find 0 1 dan 0/x => Connection(Found)
-attach 0 7 => Connection(Error(A6))
-find 0 1 bob 0/x => Connection(Found)
-attach 0 7 => Connection(Attach(Qid { kind: 128, vers: 0, path: 0 }))
-find 0 2 dan 0/y => Connection(Found)
-attach 0 7 => Connection(Attach(Qid { kind: 128, vers: 0, path: 0 }))
-find 0 3 bob 0/y => Connection(Found)
-attach 0 7 => Connection(Error(A6))
-",
-    );
-}
-
 /// An attach without a find, a find on connection 64, and the close of a fid that isn't open are
 /// S5.
 #[test]
@@ -253,19 +227,6 @@ hangup => Closed
     );
 }
 
-/// A version on connection 63, as bytes.
-#[test]
-fn a_message_is_answered(rt: HostRuntime) {
-    let mut world = new_world(&rt);
-    let mut text = String::new(rt.alloc());
-    let reply = world.message(rt.alloc(), 63, 7, VERSION);
-    write!(text, "{reply}").expect(&rt, "memory");
-    assert_eq!(rt;
-        text.as_str(),
-        r#"Rversion tag 65535 msize 8192 version "9P2000""#
-    );
-}
-
 /// State 0 is published again: Twice; state 1: NoSuchState. `1/x` is A4, `00/x` A3, and `0/x`
 /// granted.
 #[test]
@@ -288,17 +249,9 @@ attach 0 7 => Connection(Attach(Qid { kind: 128, vers: 0, path: 0 }))
     assert!(rt; world.scene().plan().len() == 1);
 }
 
-/// Attaches ann to the run `0/x` as this fid.
-fn expect_attached(rt: &(impl Abort + AllocGlobal), world: &mut World, fid: u32) {
-    let lines = format!(in rt.alloc();
-        "find 0 {fid} ann 0/x => Connection(Found)\nattach 0 7 => Connection(Attach(Qid {{ kind: 128, vers: 0, path: 0 }}))\n"
-    );
-    expect_in(rt, world, lines.expect(rt, "memory").as_str());
-}
-
-/// The 65th attach to `0/x` is A5. An attach to `0/y` by zed is A6, and that run stays.
+/// zed's attaches to `0/x`, and to `0/y`, are A6, and their runs stay: one, and two.
 #[test]
-fn a_run_is_attached_to_64_times(rt: HostRuntime) {
+fn refused_attach_leaves_its_run(rt: HostRuntime) {
     let mut world = new_world(&rt);
     expect_in(
         &rt,
@@ -306,53 +259,20 @@ fn a_run_is_attached_to_64_times(rt: HostRuntime) {
         "
 publish 0 => Published
 version 0 => Connection(Version { msize: 8192, is_spoken: true })
+find 0 0 zed 0/x => Connection(Found)
+attach 0 7 => Connection(Error(A6))
+find 0 0 zed 0/x => Connection(Found)
+attach 0 7 => Connection(Error(A6))
 ",
     );
-    for fid in 0..64u32 {
-        expect_attached(&rt, &mut world, fid);
-    }
+    assert!(rt; world.run_count() == 1);
     expect_in(
         &rt,
         &mut world,
         "
-find 0 64 ann 0/x => Connection(Error(A5))
-find 0 64 zed 0/y => Connection(Found)
+find 0 0 zed 0/y => Connection(Found)
 attach 0 7 => Connection(Error(A6))
 ",
     );
     assert!(rt; world.run_count() == 2);
-}
-
-/// ann in `0/a` writes `HI` at 0 of `/f`: count 2, and reads `HIllo`; bob in `0/b` reads `hello`;
-/// cat in `0/a` reads `HIllo`.
-#[test]
-fn runs_are_apart_and_shared_by_name(rt: HostRuntime) {
-    expect(
-        &rt,
-        "
-publish 0 => Published
-version 0 => Connection(Version { msize: 8192, is_spoken: true })
-version 1 => Connection(Version { msize: 8192, is_spoken: true })
-version 2 => Connection(Version { msize: 8192, is_spoken: true })
-find 0 0 ann 0/a => Connection(Found)
-attach 0 7 => Connection(Attach(Qid { kind: 128, vers: 0, path: 0 }))
-find 1 0 bob 0/b => Connection(Found)
-attach 1 7 => Connection(Attach(Qid { kind: 128, vers: 0, path: 0 }))
-find 2 0 cat 0/a => Connection(Found)
-attach 2 7 => Connection(Attach(Qid { kind: 128, vers: 0, path: 0 }))
-walk 0 => Connection(Walk(Walk { qids: [Qid { kind: 0, vers: 0, path: 1 }], \
-stopped: None, last: 1 }))
-walk 1 => Connection(Walk(Walk { qids: [Qid { kind: 0, vers: 0, path: 1 }], \
-stopped: None, last: 1 }))
-walk 2 => Connection(Walk(Walk { qids: [Qid { kind: 0, vers: 0, path: 1 }], \
-stopped: None, last: 1 }))
-open 0 => Connection(Open(Qid { kind: 0, vers: 0, path: 1 }))
-open 1 => Connection(Open(Qid { kind: 0, vers: 0, path: 1 }))
-open 2 => Connection(Open(Qid { kind: 0, vers: 0, path: 1 }))
-write 0 => Connection(Write(2))
-read 0 => Connection(Read(Bytes { bytes: [72, 73, 108, 108, 111] }))
-read 1 => Connection(Read(Bytes { bytes: [104, 101, 108, 108, 111] }))
-read 2 => Connection(Read(Bytes { bytes: [72, 73, 108, 108, 111] }))
-",
-    );
 }

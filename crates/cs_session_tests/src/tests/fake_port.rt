@@ -17,8 +17,6 @@ const QID: Qid = Qid {
 /// asked.
 #[derive(Drop)]
 pub struct Fake {
-    /// No user is known.
-    pub knows_none: bool,
     /// Each close is out of memory.
     pub is_short: bool,
     opens: u32,
@@ -29,7 +27,6 @@ pub struct Fake {
 impl Fake {
     pub fn new(alloc: Global) -> Fake {
         Fake {
-            knows_none: false,
             is_short: false,
             opens: 0,
             closed: Vec::new(alloc),
@@ -74,12 +71,9 @@ impl Port for Fake {
         _run: u32,
         _user: Text,
     ) -> Result<(u32, Answer), PassFault> {
-        if self.moments.push(now).is_err() {
-            Err(PassFault::Memory)
-        } else if self.knows_none {
-            Ok((1, Answer::Denied(RuleId::A6)))
-        } else {
-            Ok((1, Answer::Attached(QID)))
+        match self.moments.push(now) {
+            Ok(()) => Ok((1, Answer::Attached(QID))),
+            Err(_) => Err(PassFault::Memory),
         }
     }
 

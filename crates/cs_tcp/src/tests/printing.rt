@@ -1,11 +1,10 @@
 //! What is printed on standard error.
 
-use super::fixture::{TRACE, inputs_of, printed_by, scene_in};
+use super::fixture::{TRACE, inputs_of, scene_in};
 use crate::log::Log;
 use crate::logged::LoggedStream;
 use crate::progress::ProgressGate;
 use crate::serving::server_of;
-use crate::{Client, ReadsFiles, Serving};
 use cs_connection::{Server, serve_connection};
 use cs_plan::Scene;
 use cs_publish::Gate;
@@ -14,11 +13,8 @@ use cs_shared_runs::AnyScene;
 use cs_stream::Counted;
 use std::alloc::Global;
 use std::io::{self, Read, Write};
-use std::net::{Net, TcpListener, TcpStream};
 use std::process::Abort;
-use std::sync::atomic::AtomicU64;
 use std::sync::{Mutex, Wait};
-use std::thread::Threads;
 
 /// A version, an attach of ann to `0/x`, the same fid once more, and a message of no type.
 const REQUESTS: &[u8] =
@@ -193,84 +189,4 @@ fn progress_is_printed_at_every_1024th_state(rt: HostRuntime) {
     assert!(rt; printed.as_slice() == b"published 1 of 2\npublished 1 of 2\n".as_slice());
     let printed = progress_before(&rt, rt.alloc(), &NUMBERS, false);
     assert!(rt; printed.is_empty());
-}
-
-/// An address that is none, so that the command ends after publishing.
-const NOWHERE: Serving = Serving {
-    listen: "nowhere",
-    workers: 2,
-    connections: 1,
-    again: false,
-    ready: true,
-    reload: None,
-    client: Client::Plan9,
-    progress: false,
-};
-
-/// A trace with no operation: one state.
-const UNCHANGED: &[u8] = b"{\"trace\":1,\"owner\":\"cat\",\"group\":\"staff\",\"mode\":\"775\"}\n";
-
-/// A trace, whether messages are printed, and progress, and what is printed.
-struct Row {
-    trace: &'static [u8],
-    verbose: bool,
-    progress: bool,
-    printed: &'static [u8],
-}
-
-const ROWS: [Row; 4] = [
-    Row {
-        trace: TRACE,
-        verbose: false,
-        progress: false,
-        printed: b"crashfs: cannot listen\ncrashfs: nowhere: ",
-    },
-    Row {
-        trace: TRACE,
-        verbose: true,
-        progress: false,
-        printed: b"published 2 states\ncrashfs: cannot listen\ncrashfs: nowhere: ",
-    },
-    Row {
-        trace: TRACE,
-        verbose: false,
-        progress: true,
-        printed: b"published 2 states\ncrashfs: cannot listen\ncrashfs: nowhere: ",
-    },
-    Row {
-        trace: UNCHANGED,
-        verbose: true,
-        progress: false,
-        printed: b"published 1 state\ncrashfs: cannot listen\ncrashfs: nowhere: ",
-    },
-];
-
-/// Looks at what is printed of publishing.
-fn expect_published<R>(rt: &R, alloc: Global, row: &Row)
-where
-    R: Net<Listener = TcpListener, Stream = TcpStream>
-        + Threads
-        + Wait
-        + std::rt::Clock
-        + ReadsFiles
-        + Sync
-        + Abort,
-{
-    let serving = Serving {
-        progress: row.progress,
-        ..NOWHERE
-    };
-    let inputs = inputs_of(row.trace, row.verbose);
-    let port = AtomicU64::new(0);
-    let printed = printed_by(rt, alloc, &inputs, serving, io::empty(), &port);
-    assert!(rt; printed.err.starts_with(row.printed));
-}
-
-/// `published 2 states` is printed with `--verbose` or on a terminal, and else nothing; of a trace
-/// with no operation `published 1 state`.
-#[test]
-fn publishing_is_printed_if_it_is_asked_for(rt: HostRuntime) {
-    for row in &ROWS {
-        expect_published(&rt, rt.alloc(), row);
-    }
 }

@@ -1,82 +1,36 @@
 //! Commands that serve nobody, and accepts that fail.
 
-use super::fixture::{TRACE, served};
+use super::fixture::{TRACE, inputs_of};
 use crate::accepting::{Accepted, accept_next};
-use crate::{Client, ReadsFiles, Serving};
-use std::alloc::Global;
+use crate::{Client, Serving, serve_of};
 use std::io::{self, Error, ErrorKind};
-use std::net::{Ipv4Addr, Net, OpenListener, SocketAddr, TcpListener, TcpStream};
+use std::net::{Ipv4Addr, OpenListener, SocketAddr};
 use std::rt::Clock;
-use std::sync::Wait;
 use std::sync::atomic::{AtomicBool, AtomicU64, Ordering};
-use std::thread::Threads;
+use std::sync::{Mutex, Wait};
 
-/// Whether the command ends with status 1 and this on standard error, and prints nothing.
-fn is_refused<R>(rt: &R, alloc: Global, trace: &[u8], serving: Serving, text: &[u8]) -> bool
-where
-    R: Net<Listener = TcpListener, Stream = TcpStream> + Threads + Wait + Clock + ReadsFiles + Sync,
-{
-    let printed = served(rt, alloc, trace, serving, &AtomicU64::new(0));
-    printed.status == 1 && printed.out.is_empty() && printed.err.as_slice() == text
-}
-
-const NOWHERE: Serving = Serving {
+const IDLE: Serving = Serving {
     listen: "nowhere",
-    workers: 1,
+    workers: 0,
     connections: 1,
     again: false,
-    ready: false,
+    ready: true,
     reload: None,
     client: Client::Plan9,
     progress: false,
 };
 
-/// An address that is none: a line on standard error, and a second one with the address and the
-/// reason; nothing on standard output, status 1.
-#[test]
-fn an_address_that_is_none(rt: HostRuntime) {
-    let printed = served(&rt, rt.alloc(), TRACE, NOWHERE, &AtomicU64::new(0));
-    assert!(rt; printed.status == 1 && printed.out.is_empty());
-    let first = b"crashfs: cannot listen\ncrashfs: nowhere: ";
-    assert!(rt; printed.err.starts_with(first) && printed.err.len() > first.len() + 1);
-}
-
-/// The port of another listener is refused, with the reason on the second line.
-#[test]
-fn a_port_that_is_in_use(rt: HostRuntime) {
-    let other = TcpListener::bind(&rt, (Ipv4Addr::LOCALHOST, 0)).expect(&rt, "a port");
-    let port = other.local_addr().expect(&rt, "a port").port();
-    let address = format!(in rt.alloc(); "127.0.0.1:{port}").expect(&rt, "memory");
-    let taken = Serving {
-        listen: address.as_str(),
-        ..NOWHERE
-    };
-    let printed = served(&rt, rt.alloc(), TRACE, taken, &AtomicU64::new(0));
-    let err = std::str::from_utf8(printed.err.as_slice()).expect(&rt, "a text");
-    assert!(rt; printed.status == 1 && printed.out.is_empty());
-    assert!(rt; err.starts_with("crashfs: cannot listen\ncrashfs: 127.0.0.1:"));
-    assert!(rt; err.contains(": Address already in use"));
-}
-
-/// A trace at fault, and an address that is none: one line on standard error, of the trace; nothing
-/// on standard output, status 1.
-#[test]
-fn a_trace_at_fault_comes_before_the_address(rt: HostRuntime) {
-    let text = b"crashfs: trace line 1: Syntax\n";
-    assert!(rt; is_refused(&rt, rt.alloc(), b"{}", NOWHERE, text));
-}
-
-/// No workers, and an address that is none: one line on standard error, `publishing failed`;
-/// nothing on standard output, status 1.
+/// No workers, which no command line gives, and an address that is none: one line on standard
+/// error, `publishing failed`; nothing on standard output, status 1.
 #[test]
 fn no_workers_publish_nothing(rt: HostRuntime) {
-    let idle = Serving {
-        workers: 0,
-        ready: true,
-        ..NOWHERE
-    };
-    let text = b"crashfs: publishing failed\n";
-    assert!(rt; is_refused(&rt, rt.alloc(), TRACE, idle, text));
+    let alloc = rt.alloc();
+    let mut out: Vec<u8> = Vec::new(alloc);
+    let err = Mutex::new(Vec::new(alloc));
+    let inputs = inputs_of(TRACE, true);
+    let status = serve_of(&rt, alloc, &inputs, IDLE, io::empty(), &mut out, &err);
+    assert!(rt; status == 1 && out.is_empty());
+    assert!(rt; err.into_inner().as_slice() == b"crashfs: publishing failed\n".as_slice());
 }
 
 /// A listener whose first accepts fail, and that counts them.

@@ -1,15 +1,15 @@
 //! Crash states as lower trees.
 
-use super::calls::{Call, must_make};
-use super::runs::{BEFORE, cut_over, over, run_and_look};
-use super::shown::{has_bytes_from, has_numbers, same_lines};
+use super::runs::BEFORE;
+use super::shown::{has_numbers, lines, same_lines};
 use super::start::shared;
-use cs_apm::Order;
 use cs_apm::laws::rules_are_sentences;
+use cs_apm::{Order, build};
 use cs_micro::break_up;
 use cs_overlay::Overlay;
 use cs_state::{Atlas, StateTree};
 use cs_trace::read_trace;
+use cs_tree::PlainTree;
 use cs_tree_model::TreeRead;
 use std::alloc::Global;
 use std::process::Abort;
@@ -64,55 +64,43 @@ fn members_make_what_the_start_tree_has(rt: HostRuntime) {
     has_numbers(&rt, &*state, 7, 6);
 }
 
-/// `HI` is written to `/f` in a run: `HIllo`. The next run and the tree below read `hello`.
-#[test]
-fn a_run_over_a_state_leaves_it(rt: HostRuntime) {
-    let state = start_state(&rt, rt.alloc());
-    run_and_look(&rt, rt.alloc(), &state);
+/// The same set as a plain tree.
+fn plain_of(rt: &impl Abort, alloc: Global, text: &str, places: &[u32]) -> PlainTree {
+    let trace = read_trace(alloc, text).expect(rt, "a trace");
+    let micros = break_up(alloc, &trace).expect(rt, "micro-operations");
+    let order = Order::of(alloc, &micros).expect(rt, "memory");
+    rules_are_sentences(&micros);
+    assert!(rt; order.is_allowed(places));
+    build(alloc, &micros, &trace, places).expect(rt, "memory")
 }
 
-const LETTERS_BEFORE: &str = r#"{"trace":1,"owner":"cat","group":"staff","mode":"775"}
-{"op":"creat","path":"/t","owner":"ann","group":"bob","mode":"640"}
-{"op":"write","path":"/t","offset":0,"bytes":""#;
-
-const LETTERS_AFTER: &str = r#""}
-{"op":"fsync","path":"/t"}
-{"op":"rename","from":"/t","to":"/a"}
-"#;
-
-/// `/a` is written and waited for at another name.
-fn with_letters(rt: &impl Abort, alloc: Global) -> Arc<StateTree> {
-    let bytes = "61".repeat(alloc, 5_000).expect(rt, "memory");
-    let pieces = [LETTERS_BEFORE, bytes.as_str(), LETTERS_AFTER];
-    let text = pieces.concat(alloc).expect(rt, "memory");
-    state_of(rt, alloc, text.as_str(), &[0, 1, 2, 3, 4])
+fn text_of<T: TreeRead>(rt: &impl Abort, alloc: Global, tree: &T) -> String {
+    lines(rt, alloc, tree)
+        .join(alloc, "\n")
+        .expect(rt, "memory")
 }
 
-/// `/a` has 5,000 bytes of 0x61, in the state because it was written at another name, waited for
-/// and moved. In one run it is cut to 1 byte and grows to 5,000: the first byte stays, the others
-/// are zero, with versions 1 and 2; then it is removed, and the root lists nothing. In another run
-/// and below it is whole, in version 0, and listed.
-#[test]
-fn a_cut_over_a_states_file_grows_by_zeros(rt: HostRuntime) {
-    let state = with_letters(&rt, rt.alloc());
-    cut_over(&rt, rt.alloc(), &state);
+fn is_plain(rt: &impl Abort, alloc: Global, places: &[u32]) {
+    let state = text_of(rt, alloc, &*state_of(rt, alloc, MAKING, places));
+    let plain = text_of(rt, alloc, &plain_of(rt, alloc, MAKING, places));
+    assert!(rt; state.as_str() == plain.as_str(), "{state}");
 }
 
-/// A file with two paths.
-const LINKED: &str =
-    r#"{"trace":3,"profile":"blocks","block":4096,"owner":"cat","group":"staff","mode":"775"}
-{"start":"file","path":"/f","owner":"ann","group":"staff","mode":"644","text":"x"}
-{"start":"link","path":"/g","from":"/f"}
-"#;
+const SETS: [&[u32]; 7] = [
+    &[],
+    &[0],
+    &[1],
+    &[1, 2],
+    &[1, 3, 5],
+    &[1, 4],
+    &[0, 1, 2, 3, 4, 5],
+];
 
-/// In a run the paths of one file are two files.
+/// The state of a set is equal to a plain tree that the members made: of none, of some, whose bytes
+/// no size covers or whose size no bytes fill, and of all.
 #[test]
-fn a_run_writes_one_path_of_a_file_and_leaves_the_other(rt: HostRuntime) {
-    let alloc = rt.alloc();
-    let state = state_of(&rt, alloc, LINKED, &[]);
-    let mut run = over(&rt, alloc, &state);
-    must_make(&rt, alloc, &mut run, Call::Write(1, 0, b"y"), 10, "ann");
-    has_bytes_from(&rt, alloc, &run, 1, 0, b"y");
-    has_bytes_from(&rt, alloc, &run, 2, 0, b"x");
-    has_bytes_from(&rt, alloc, &*state, 1, 0, b"x");
+fn a_state_is_equal_to_a_plain_tree_of_its_set(rt: HostRuntime) {
+    for places in &SETS {
+        is_plain(&rt, rt.alloc(), places);
+    }
 }

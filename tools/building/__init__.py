@@ -1,0 +1,1 @@
+"""Proves the crates below the program, several side by side, and builds it."""

@@ -1,0 +1,66 @@
+"""The command tools/build."""
+
+from __future__ import annotations
+
+import argparse
+import os
+import shutil
+import sys
+import tempfile
+import threading
+import time
+from pathlib import Path
+
+from .order import TOP, Work, chains, libraries
+from .proving import build_program, copy_to, prove_in
+
+DESCRIPTION = """\
+Proves all that crashfs uses, several crates side by side, and builds the program.
+
+`rt run` in crates/crashfs does the same, one crate after the other. Here as many copies of the
+repository as there are processors (4 at most) take a crate each, lowest first, and those with the
+longest chain of crates above them before others. The crate with the longest chain has two
+processors, and those that no other crate could use, unless it is above many crates. The copies
+are in a temporary folder that is removed at the end; `rt` takes over what they proved, since it
+knows a library that was proved from the same text.
+
+Status 0: the program is crates/crashfs/out/crashfs. Else a crate was not proved: what its check
+printed is printed, and the status is 1. If memory ran out, the last line says so."""
+MOST_PROCESSORS = 4
+NO_RT = (
+    'tools/build: rt: command not found; it is in the toolchain of Rattle, which the README names'
+)
+
+
+def main() -> int:
+    words = argparse.ArgumentParser(
+        description=DESCRIPTION, formatter_class=argparse.RawDescriptionHelpFormatter
+    )
+    most = min(MOST_PROCESSORS, os.cpu_count() or 1)
+    words.add_argument(
+        '--processors',
+        type=int,
+        default=most,
+        metavar='N',
+        help=f'how many processors it takes ({most})',
+    )
+    given = words.parse_args()
+    if shutil.which('rt') is None:
+        print(NO_RT, file=sys.stderr)
+        return 1
+    return build(max(1, given.processors))
+
+
+def build(processors: int) -> int:
+    """Proves the libraries, then the program, and returns the status."""
+    below, begun = libraries(), time.monotonic()
+    work = Work(below, chains(below), processors)
+    with tempfile.TemporaryDirectory(prefix='crashfs-build-') as room:
+        copies = [TOP, *(copy_to(Path(room) / str(it)) for it in range(1, processors))]
+        threads = [threading.Thread(target=prove_in, args=(it, work, begun)) for it in copies]
+        for thread in threads:
+            thread.start()
+        for thread in threads:
+            thread.join()
+        # The program takes the libraries over from the copies, which still exist.
+        return 1 if work.failed else build_program(processors, begun)

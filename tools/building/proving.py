@@ -1,0 +1,67 @@
+"""Proves crates in copies of the repository, one after the other in each copy."""
+
+from __future__ import annotations
+
+import shutil
+import sys
+import time
+from pathlib import Path
+
+from .checks import Check, memory_text, run_check
+from .order import PROGRAM, TOP, Work
+
+
+def has_library(top: Path, name: str) -> bool:
+    """Whether the crate's library is newer than its text: `rt` then needs a second to look."""
+    crate = top / 'crates' / name
+    library = crate / 'out' / 'rlib' / 'stamp'
+    texts = (it for part in ('src', 'specs', 'proofs') for it in (crate / part).rglob('*'))
+    return library.is_file() and all(it.stat().st_mtime <= library.stat().st_mtime for it in texts)
+
+
+def copy_to(folder: Path) -> Path:
+    """Copies what `rt` reads into the folder."""
+    (folder / 'crates').mkdir(parents=True)
+    for name in ('crates.txt', 'HANDLES'):
+        shutil.copy2(TOP / name, folder / name)
+    for crate in (TOP / 'crates').iterdir():
+        shutil.copytree(crate, folder / 'crates' / crate.name, ignore=shutil.ignore_patterns('out'))
+    return folder
+
+
+def report(name: str, check: Check, jobs: int, processors: int) -> None:
+    """Prints what a check printed that has not ended well, and why, if the system killed it."""
+    sys.stderr.buffer.write(check.output)
+    sys.stderr.buffer.flush()
+    if check.was_killed:
+        print(memory_text(name, check, jobs, processors), file=sys.stderr, flush=True)
+
+
+def prove_in(copy: Path, work: Work, begun: float) -> None:
+    """Proves one crate after the other in a copy of the repository, until nothing is left."""
+    while True:
+        chosen = work.next()
+        if chosen is None:
+            return
+        name, jobs = chosen
+        top = TOP if has_library(TOP, name) else copy
+        check = run_check(['rt', 'lib', '--jobs', str(jobs)], top / 'crates' / name)
+        work.end(name, check.status == 0)
+        said = 'proved' if check.status == 0 else 'NOT PROVED'
+        minutes = (time.monotonic() - begun) / 60
+        count = f'{len(work.proved)} of {len(work.below)}'
+        print(f'{minutes:5.1f} min: {name} {said} ({count})', flush=True)
+        if check.status:
+            report(name, check, jobs, work.processors)
+
+
+def build_program(processors: int, begun: float) -> int:
+    """Builds the program over libraries that are proved, and returns the status."""
+    words = ['rt', 'run', '--jobs', '1', '--', '--help']
+    check = run_check(words, TOP / 'crates' / PROGRAM)
+    if check.status:
+        report(PROGRAM, check, 1, processors)
+        return 1
+    minutes = (time.monotonic() - begun) / 60
+    print(f'{minutes:5.1f} min: crates/{PROGRAM}/out/{PROGRAM} is built', flush=True)
+    return 0

@@ -1,0 +1,1 @@
+"""crashfs-check: a recovery is run in each crash state of a trace."""

@@ -1,0 +1,162 @@
+"""The advice of an entry: a sentence, and what would repair it."""
+
+from __future__ import annotations
+
+from dataclasses import dataclass, field
+from typing import Dict, List, Optional
+
+from crashfs_tools.common.trace_lines import TraceLine
+
+from .sync_points import Places, is_synced, sync_points
+
+ATOMIC = 'write a new file, sync it, rename it, sync the directory'
+ONE_CHANGE = f'no sync helps: make these lines one change ({ATOMIC})'
+NOT_REPRODUCIBLE = (
+    'not reproducible: 1 of 2 runs failed',
+    'does COMMAND share a port or a place with other runs? (try --jobs 1)',
+)
+
+
+@dataclass
+class Tried:
+    """The result of trying an advice on a copy of the trace, in different states: how many of the
+    group's are left, of how many; how many others fail, and how many of these failed before. In
+    total, before and after are how many fail without the advice and with it."""
+
+    left: int
+    total: int
+    others: int
+    still: int = 0
+    before: int = 0
+    after: int = 0
+
+    def __add__(self, other: Tried) -> Tried:
+        return Tried(
+            self.left + other.left,
+            self.total + other.total,
+            self.others + other.others,
+            self.still + other.still,
+            self.before + other.before,
+            self.after + other.after,
+        )
+
+    @property
+    def is_right(self) -> bool:
+        """Whether fewer states fail with the advice."""
+        return self.after < self.before
+
+    def text(self, syncs: int) -> str:
+        """The result, for an advice of so many syncs."""
+        that = 'that sync' if syncs == 1 else f'those {syncs:,} syncs'
+        these = 'this state' if self.total == 1 else f'these {self.total:,} states'
+        line = f'tried: with {that} {self.left:,} of {these} are left'
+        if self.total == 1:
+            line = f'tried: with {that} {these} is {"still" if self.left else "not"} left'
+        if self.left:
+            line += f', so {"one sync is" if syncs == 1 else "they are"} not enough'
+        if self.others == 0:
+            return f'{line}, and no other fails'
+        still = ' still' if self.still == self.others else ''
+        return (
+            f'{line}, and {self.others:,} other{"s" if self.others > 1 else ""}{still} '
+            f'fail{"" if self.others > 1 else "s"}'
+        )
+
+    def wrong_text(self, remedy: str) -> str:
+        """The result, for an advice that isn't right."""
+        return (
+            f'tried, and not enough alone: {remedy} ({self.after:,} '
+            f'state{" fails" if self.after == 1 else "s fail"} then, {self.before:,} before)'
+        )
+
+
+@dataclass
+class Advice:
+    """text is the sentence, in lines, and remedy what to do. syncs has the path to sync after each
+    of these lines of the trace. tried is None if the advice wasn't tried."""
+
+    text: List[str] = field(default_factory=list)
+    remedy: str = ''
+    syncs: Dict[int, str] = field(default_factory=dict)
+    tried: Optional[Tried] = None
+
+    def lines(self) -> List[str]:
+        """The sentence, the remedy, and the result of trying it. What doesn't help is no remedy."""
+        if self.tried is None:
+            return self.text + ([self.remedy] if self.remedy else [])
+        if not self.tried.is_right:
+            return [*self.text, self.tried.wrong_text(self.remedy)]
+        return [*self.text, self.remedy, self.tried.text(len(self.syncs))]
+
+
+def loss_advice(
+    kept: TraceLine, lost: TraceLine, places: Places, lines: Dict[int, TraceLine]
+) -> Advice:
+    """The advice for a line that was lost; places are all pairs of lines to keep in order."""
+    path = lost.synced_by
+    sentence = f'line {lost.number} ({lost.text}) was not durable when {kept_text(kept)}'
+    if path is None:
+        return Advice([sentence])
+    syncs = sync_points(places, lines)
+    target, before = f'fsync {path}', [sentence + ':']
+    if lost.path != path:
+        target = f'fsync the directory {path}'
+        if not is_synced(path, lines):
+            target = f'the directory {path} is never synced: fsync it'
+    more = len(syncs) - 1
+    also = f' (and at {more:,} more place{"s" if more > 1 else ""})' if more > 0 else ''
+    where = 'between them' + before_rename(path, range(lost.number, kept.number), lines)
+    return Advice(before, f'{target} {where}{also}', syncs)
+
+
+def before_rename(path: str, between: range, lines: Dict[int, TraceLine]) -> str:
+    """Names the line that renames the file, if there is one: the sync belongs before it."""
+    found = (lines[number] for number in between if number in lines)
+    first = next((one for one in found if (one.word, one.path) == ('rename', path)), None)
+    return f', before line {first.number} ({first.text})' if first else ''
+
+
+def kept_text(kept: TraceLine) -> str:
+    if kept.word == 'say':
+        return f'line {kept.number} acknowledged "{kept.details}"'
+    return f'line {kept.number} ({kept.text}) was'
+
+
+def torn_advice(line: TraceLine, parts: str) -> Advice:
+    """The advice for a line of which a crash kept a part; parts says which."""
+    return Advice(
+        [f'line {line.number} ({line.text}) was torn: a crash kept {parts}'],
+        f'no sync helps: a record that recovery may drop needs a checksum; for all else, {ATOMIC}',
+    )
+
+
+def span_advice(kept: Optional[TraceLine], lost: Optional[TraceLine]) -> Advice:
+    """The advice for states that lose nothing: they fail from one line on, until another."""
+    first = f'line {kept.number} ({kept.text})' if kept else 'the beginning'
+    if lost is None:
+        return Advice([f'from {first} on it fails, though nothing is lost'])
+    sentence = (
+        f'from {first} until line {lost.number} ({lost.text}) it fails, though nothing is lost'
+    )
+    if lost.word == 'say':
+        return Advice(
+            [sentence],
+            'a crash between them leaves a change that is not acknowledged yet: does COMMAND '
+            'accept it?',
+        )
+    return Advice([sentence], ONE_CHANGE)
+
+
+def overwriting_text(kept: TraceLine, lost: TraceLine) -> str:
+    """The remedy if the line that was kept overwrites what an older version still refers to."""
+    return (
+        f'no sync helps: line {kept.number} overwrites bytes that are needed until line '
+        f'{lost.number} ({lost.text}) is durable: write to another place until then'
+    )
+
+
+def swap_text(kept: TraceLine, lost: TraceLine) -> str:
+    """The remedy if another order of the two lines repairs the failure."""
+    return (
+        f'no sync helps: do line {lost.number} before line {kept.number}, with a sync between them'
+    )

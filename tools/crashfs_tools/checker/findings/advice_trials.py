@@ -1,0 +1,158 @@
+"""Tries an advice: its syncs are put into a copy of the trace, and the new states are tried."""
+
+from __future__ import annotations
+
+import os
+from typing import Dict, FrozenSet, Iterable, List, Set, Tuple
+
+from crashfs_tools.checker.running.results import Results
+from crashfs_tools.checker.running.runner import GOOD, Outcome
+from crashfs_tools.checker.running.trying import Trying
+from crashfs_tools.checker.states.plan import Before, Needs, Plan, Planned, Trial
+from crashfs_tools.checker.states.planning import Planner
+from crashfs_tools.common.command import TEXT
+from crashfs_tools.common.trace_text import with_syncs
+
+from .advice import Tried
+from .groups import Findings, Group, Totals, Union
+from .swaps import add_swaps
+from .tree_diff import find_differences
+
+# So many entries have their advice tried, and so many may be removed by it: the largest.
+TRIED, COVERED = 5, 100
+
+Points = FrozenSet[Tuple[int, str]]
+
+
+def add_details(trying: Trying, planner: Planner, findings: Findings) -> None:
+    """Adds to the groups how files differ, and the results of their advice."""
+    find_differences(trying, findings)
+    add_swaps(trying, planner, findings)
+    AdviceTrials(trying, planner, findings).run()
+
+
+class AdviceTrials:
+    """Tries the advice of the largest groups, then all advised syncs at once. A set of
+    micro-operations that was tried before is not tried again."""
+
+    def __init__(self, trying: Trying, planner: Planner, findings: Findings) -> None:
+        self.trying = trying
+        self.planner = planner
+        self.findings = findings
+        self.kept = findings.plan.kept
+        self.known: Dict[int, Outcome] = {
+            self.kept[state]: one for state, one in findings.by_state.items()
+        }
+        self.before = count_failing(findings.plan, self.known)
+
+    def run(self) -> None:
+        """Tries the groups' advice, largest group first; what that removes needs no advice."""
+        needs: List[Needs] = []
+        tried = 0
+        for group in self.findings.groups[:COVERED]:
+            if group.advice.syncs:
+                group.is_covered = self.is_covered(group, needs)
+                if not group.is_covered:
+                    planned = self.copy(points_of([group]))
+                    needs.append(planned.plan.needs)
+                    if tried < TRIED:
+                        group.advice.tried = self.tried(planned, group)
+                        tried += 1
+        self.findings.union = self.union()
+
+    def is_covered(self, group: Group, needs: List[Needs]) -> bool:
+        """Whether the syncs of earlier groups leave no state of this one."""
+        masks = {self.kept[state.number] for state in group.states}
+        return all(any(not one.allow(mask) for one in needs) for mask in masks)
+
+    def union(self) -> Union:
+        """Tries all advised syncs at once."""
+        advised = [group for group in self.findings.groups if group.advice.syncs]
+        points = points_of(advised)
+        if not points:
+            return Union(points, Totals(self.before, self.before))
+        if len(advised) == 1 and advised[0].advice.tried is not None:
+            tried = advised[0].advice.tried
+            return Union(points, Totals(tried.before, tried.after))
+        planned = self.copy(points)
+        self.try_states(planned)
+        return Union(points, Totals(self.before, count_failing(planned.plan, self.known)))
+
+    def copy(self, points: Points) -> Planned:
+        """The plan of a copy of the trace that has these syncs."""
+        planned = self.trying.planned
+        with open(planned.trace, **TEXT) as file:
+            text = file.read()
+        own = [
+            (line, path)
+            for number, path in points
+            for line in planned.before.own_lines({number: path})
+        ]
+        path = os.path.join(self.trying.guard.directory, 'advice.trace')
+        with open(path, 'w', **TEXT) as file:
+            file.write(with_syncs(text, own))
+        return self.planner.plan(path, Before(says=planned.before.says))
+
+    def tried(self, planned: Planned, group: Group) -> Tried:
+        """The result of a group's advice."""
+        self.try_states(planned)
+        left = {
+            Trial(state.same, state.says)
+            for state in group.states
+            if planned.plan.needs.allow(self.kept[state.number])
+        }
+        masks = {self.kept[state.number] for state in group.states}
+        others, still = self.count_others(planned.plan, masks)
+        after = count_failing(planned.plan, self.known)
+        return Tried(len(left), group.count, others, still, self.before, after)
+
+    def try_states(self, planned: Planned) -> None:
+        """Tries the states of a copy; known has the outcome of each set afterwards."""
+        copy = self.trying.with_plan(planned)
+        plan = planned.plan
+        found: Dict[Trial, Outcome] = {}
+        for state in plan.states:
+            known = self.known.get(plan.kept[state.number])
+            if known is not None:
+                found[Trial(state.same, state.says)] = known
+        trials = Results(plan).trials
+        new = {number: trial for trial, number in trials.items() if trial not in found}
+
+        def on_outcome(number: int, outcome: Outcome) -> None:
+            found[new[number]] = outcome
+
+        copy.try_states(set(new), on_outcome)
+        for state in plan.states:
+            outcome = found.get(Trial(state.same, state.says))
+            if outcome is not None:
+                self.known.setdefault(plan.kept[state.number], outcome)
+
+    def count_others(self, plan: Plan, masks: Set[int]) -> Tuple[int, int]:
+        """How many other different states of a copy fail, and how many of them failed before."""
+        before = {self.kept[state] for state in self.findings.by_state}
+        others: Dict[Trial, bool] = {}
+        for state in plan.states:
+            kept, trial = plan.kept[state.number], Trial(state.same, state.says)
+            if kept not in masks and fails(self.known, kept):
+                others[trial] = others.get(trial, False) or kept in before
+        return len(others), sum(others.values())
+
+
+def points_of(groups: Iterable[Group]) -> Points:
+    return frozenset(point for group in groups for point in group.advice.syncs.items())
+
+
+def count_failing(plan: Plan, known: Dict[int, Outcome]) -> int:
+    """How many different states of a plan fail."""
+    return len(
+        {
+            Trial(state.same, state.says)
+            for state in plan.states
+            if fails(known, plan.kept[state.number])
+        }
+    )
+
+
+def fails(known: Dict[int, Outcome], kept: int) -> bool:
+    outcome = known.get(kept)
+    return outcome is not None and outcome.result != GOOD

@@ -1,0 +1,203 @@
+"""Which states real file systems leave: the session is made again on them, each disk after a crash
+is looked for among the crash states, and COMMAND is run on those disks that no tried state has."""
+
+from __future__ import annotations
+
+import os
+import time
+from dataclasses import dataclass
+from typing import Callable, Dict, Iterator, List, NamedTuple, Optional, Sequence, Set, Tuple
+
+from crashfs_tools.checker.running.runner import GOOD, Outcome
+from crashfs_tools.checker.running.trying import Trying
+from crashfs_tools.checker.states.layout import lay_out
+from crashfs_tools.common.archive import Member
+from crashfs_tools.common.entry import Entries, Entry
+from crashfs_tools.common.guard import Guard
+from crashfs_tools.common.removal import remove_tree
+from crashfs_tools.common.trace_read import read_trace
+from crashfs_tools.disks.disk import Crash, Disk, digest_of
+from crashfs_tools.disks.filesystems import IMAGES, FileSystem, named
+from crashfs_tools.disks.pool import DiskPool
+from crashfs_tools.reading import read
+from crashfs_tools.reading.classes import Classes
+from crashfs_tools.reading.order import Order
+from crashfs_tools.reading.states import States
+
+from .sightings import OUTSIDE, UNKNOWN, UNTRIED, DiskFailure, Explanation, Sightings, keep_first
+
+MEMORY = '/dev/shm'
+# So many different crash states are looked through for a disk's tree, and for so long.
+MOST_STATES, MOST_SECONDS = 20_000, 20
+
+# A tree by its digest, and how many lines are acknowledged with it.
+TreeAndCount = Tuple[str, int]
+
+
+@dataclass
+class DiskTree:
+    """A tree on disks with a number of acknowledged lines, and the first crash of each file system
+    that left it."""
+
+    digest: str
+    says: int
+    tree: Entries
+    crashes: Dict[str, Crash]
+
+
+def sightings_of(trying: Trying, by_state: Dict[int, Outcome]) -> Sightings:
+    """Makes the session again on the file systems of --disks. Images are in memory if there is room
+    for them: a crash is then taken in a fraction of a second."""
+    filesystems = named(trying.options.disks or [])
+    room = IMAGES * trying.options.jobs * sum(one.size for one in filesystems)
+    with Guard('crashfs-disks-', MEMORY if has_room(MEMORY, room) else None) as guard:
+        return Search(trying, by_state, filesystems).run(guard.directory, trying.progress.note)
+
+
+def has_room(folder: str, size: int) -> bool:
+    """Whether files of so many bytes can be made in a folder."""
+    try:
+        room = os.statvfs(folder)
+    except OSError:
+        return False
+    return os.access(folder, os.W_OK) and room.f_bavail * room.f_frsize > size
+
+
+class Search:
+    """Makes the session again, and looks for each disk. by_state has the outcomes of states."""
+
+    def __init__(
+        self, trying: Trying, by_state: Dict[int, Outcome], filesystems: Sequence[FileSystem]
+    ) -> None:
+        self.trying = trying
+        self.by_state = by_state
+        self.filesystems = filesystems
+        self.checker = trying.checker()
+        with open(trying.planned.trace, 'rb') as file:
+            self.trace = file.read()
+
+    def run(self, folder: str, on_step: Callable[[int, int], None]) -> Sightings:
+        """Searches; folder is for the images of disks."""
+        trace = read_trace(self.trace.decode('utf-8', 'surrogateescape'))
+        disks = DiskPool(self.filesystems, trace, folder).disks(self.trying.options.jobs, on_step)
+        found = Sightings([one.name for one in self.filesystems])
+        for name, different in disks.items():
+            found.crashes[name] = sum(len(one.crashes) for one in different)
+            found.trees[name] = len(different)
+        self.judge(all_trees(disks), found)
+        return found
+
+    def judge(self, trees: List[DiskTree], found: Sightings) -> None:
+        """Finds the outcome of each tree, and fills in what was seen of states and failures."""
+        states = self.states_by_tree()
+        failing: Dict[str, Set[str]] = {name: set() for name in found.names}
+        unlisted: List[Tuple[DiskTree, Outcome]] = []
+        for one in trees:
+            numbers = states.get((one.digest, one.says), [])
+            for number in numbers:
+                keep_first(found.states.setdefault(number, {}), one.crashes)
+            outcome = self.known_outcome(numbers)
+            if outcome is None:
+                outcome = self.run_in(one)
+                if outcome.result != GOOD:
+                    unlisted.append((one, outcome))
+            if outcome.result != GOOD:
+                for name in one.crashes:
+                    failing[name].add(one.digest)
+        found.failing = {name: len(digests) for name, digests in failing.items()}
+        found.further = explained(self.trace, unlisted)
+
+    def states_by_tree(self) -> Dict[TreeAndCount, List[int]]:
+        """The listed states by what they leave."""
+        planned = self.trying.planned
+        digests: Dict[int, str] = {}
+        firsts = {state.same for state in planned.plan.listed}
+        words = [*planned.words, '--states', planned.list_of(firsts)]
+        for number, tree in self.trying.program.trees(words, self.trying.guard.environment):
+            digests[number + planned.plan.first] = digest_of(tree)
+        found: Dict[TreeAndCount, List[int]] = {}
+        for state in planned.plan.listed:
+            found.setdefault((digests[state.same], state.says), []).append(state.number)
+        return found
+
+    def known_outcome(self, numbers: Sequence[int]) -> Optional[Outcome]:
+        """The outcome of the first of some states that was tried; None if none was."""
+        return next((self.by_state[it] for it in numbers if it in self.by_state), None)
+
+    def run_in(self, one: DiskTree) -> Outcome:
+        """Runs COMMAND in a tree that is no listed state: CRASHFS_STATE is a number past them."""
+        directory = os.path.join(self.trying.guard.directory, 'disk')
+        lay_out(directory, members_of(one.tree))
+        try:
+            plan = self.trying.plan
+            return self.checker.run(plan.first + len(plan.listed), one.says, directory)
+        finally:
+            remove_tree(directory)
+
+
+def all_trees(disks: Dict[str, List[Disk]]) -> List[DiskTree]:
+    """What the disks of all file systems leave, each tree and number of lines once."""
+    found: Dict[TreeAndCount, DiskTree] = {}
+    for name, different in disks.items():
+        for disk in different:
+            for crash in disk.crashes:
+                for says in range(crash.moment.least, crash.moment.most + 1):
+                    tree = found.setdefault(
+                        (disk.digest, says), DiskTree(disk.digest, says, disk.tree, {})
+                    )
+                    keep_first(tree.crashes, {name: crash})
+    return list(found.values())
+
+
+def members_of(tree: Entries) -> Iterator[Member]:
+    for path, entry in tree.items():
+        yield path[1:], entry
+
+
+def explained(trace: bytes, unlisted: List[Tuple[DiskTree, Outcome]]) -> List[DiskFailure]:
+    """The failures that no tried state has, each tree and cause once, with why they are listed."""
+    wanted = {(one.digest, one.says) for one, _ in unlisted}
+    result = search(trace, wanted) if wanted else SearchResult(set(), 0, True)
+    failures: Dict[Tuple[str, str, str], DiskFailure] = {}
+    for one, outcome in unlisted:
+        why = result.explanation((one.digest, one.says))
+        key = (one.digest, outcome.cause, why.where)
+        failure = failures.setdefault(key, DiskFailure(outcome, [], {}, one.tree, why))
+        failure.says.append(one.says)
+        keep_first(failure.crashes, one.crashes)
+    return list(failures.values())
+
+
+class SearchResult(NamedTuple):
+    """Which trees are left by an allowed set, how many different states were looked through, and
+    whether these were all."""
+
+    found: Set[TreeAndCount]
+    searched: int
+    is_whole: bool
+
+    def explanation(self, tree: TreeAndCount) -> Explanation:
+        if tree in self.found:
+            return Explanation(UNTRIED)
+        return Explanation(OUTSIDE) if self.is_whole else Explanation(UNKNOWN, self.searched)
+
+
+def search(trace: bytes, wanted: Set[TreeAndCount]) -> SearchResult:
+    """Looks for trees among the different crash states, by the second reading."""
+    reading = read(trace)
+    states = States(reading)
+    found: Set[TreeAndCount] = set()
+    deadline = time.monotonic() + MOST_SECONDS
+    searched = 0
+    for places in Classes(reading, Order(reading)).different():
+        if searched >= MOST_STATES or time.monotonic() > deadline:
+            return SearchResult(found, searched, False)
+        searched += 1
+        tree = {
+            path: Entry(*rights[:2], int(rights[2], 8), None if data is None else bytearray(data))
+            for path, (rights, data) in states.tree(places).items()
+        }
+        found |= {(digest_of(tree), states.count_says(places))} & wanted
+        if found == wanted:
+            break
+    return SearchResult(found, searched, True)

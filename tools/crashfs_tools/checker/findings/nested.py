@@ -1,0 +1,172 @@
+"""A crash during recovery: in some states COMMAND is recorded, and a second run of it is tried in
+each crash state of that recovery."""
+
+from __future__ import annotations
+
+import os
+import subprocess
+import sys
+from typing import Iterator, List, Optional, Set, Tuple
+
+from crashfs_tools.checker.running.results import Head, Results
+from crashfs_tools.checker.running.runner import GOOD, Outcome
+from crashfs_tools.checker.running.trying import Trying
+from crashfs_tools.checker.states.plan import Before, Planned, State
+from crashfs_tools.checker.states.planning import Planner, TooLarge
+from crashfs_tools.common.command import TEXT, Refused
+from crashfs_tools.common.program import LIBRARY
+from crashfs_tools.common.removal import remove_tree
+from crashfs_tools.common.trace_lines import without_numbers
+from crashfs_tools.common.trace_text import read_text, without_says
+
+from .groups import Findings, Group
+from .reruns import rerun_examples
+from .second_crashes import Recovery
+
+RECORD = (
+    f'import sys; sys.path.insert(0, {LIBRARY!r}); '
+    'from crashfs_tools.recorder.main import main; sys.exit(main(sys.argv[1:]))'
+)
+# The recorder's statuses for a trace that is written.
+WRITTEN = (0, 3, 4)
+# A recorded command is slower than one that runs alone.
+SLOWER = 10
+
+
+class Recorder:
+    """Records COMMAND in a state, in a trace without its own lines: they acknowledge nothing."""
+
+    def __init__(self, trying: Trying, planner: Planner) -> None:
+        self.trying = trying
+        self.planner = planner
+        self.guard = trying.guard
+
+    def plan(self, state: State) -> Planned:
+        """The plan of the recovery; Refused if it can't be recorded, or is too long."""
+        folder = os.path.join(self.guard.directory, f'recovery-{state.number}')
+        os.mkdir(folder)
+        ((_, directory),) = self.trying.archive(folder).states({state.number})
+        trace = os.path.join(folder, f'recovery-{state.number}.trace')
+        self.record(state, directory, trace)
+        remove_tree(directory)
+        with open(trace, **TEXT) as file:
+            text = without_says(file.read())
+        with open(trace, 'w', **TEXT) as file:
+            file.write(text)
+        return self.planner.plan(trace, Before(says=state.says))
+
+    def record(self, state: State, directory: str, trace: str) -> None:
+        checker = self.trying.checker()
+        line = [
+            sys.executable,
+            '-S',
+            '-c',
+            RECORD,
+            '--no-say',
+            directory,
+            trace,
+            '--',
+            *checker.command,
+        ]
+        environment = {
+            **checker.environment,
+            'CRASHFS_STATE': str(state.number),
+            'CRASHFS_SAYS': str(state.says),
+        }
+        with open(checker.says.path(state.says), 'rb') as acknowledged:
+            try:
+                ran = subprocess.run(
+                    line,
+                    stdin=acknowledged,
+                    stdout=subprocess.DEVNULL,
+                    stderr=subprocess.PIPE,
+                    env=environment,
+                    check=False,
+                    timeout=SLOWER * checker.timeout,
+                )
+            except subprocess.TimeoutExpired as error:
+                raise Refused('its recording took too long') from error
+        if ran.returncode not in WRITTEN:
+            lines = ran.stderr.decode('utf-8', 'replace').strip().splitlines()
+            raise Refused(lines[-1].partition(': ')[2] if lines else f'status {ran.returncode}')
+
+
+class Nested:
+    """Tries the recoveries of up to so many states, over all windows. seen has the causes and the
+    kinds of last operations of the states that were chosen."""
+
+    def __init__(self, planner: Planner, count: int) -> None:
+        self.planner = planner
+        self.left = count
+        self.seen: Set[Tuple[str, str]] = set()
+
+    def run(self, trying: Trying, findings: Findings) -> Iterator[Recovery]:
+        for state in self.choose(findings):
+            self.left -= 1
+            try:
+                planned = Recorder(trying, self.planner).plan(state)
+            except (Refused, TooLarge) as fault:
+                yield Recovery(state.number, fault=str(fault))
+                continue
+            yield self.recovery_of(
+                trying.with_plan(planned), state, findings.by_state[state.number]
+            )
+
+    def recovery_of(self, trying: Trying, state: State, first: Outcome) -> Recovery:
+        """The recovery of a state. If the state already fails, only other causes count."""
+        results = Results(trying.plan)
+        trying.run(results)
+        with open(trying.planned.trace, **TEXT) as file:
+            head = Head('', '', [], lines=read_text(file.read()).operations)
+        found = Findings(head, results, {}, first if first.result != GOOD else None)
+        rerun_examples(trying, found)
+        failing = sum(group.count for group in found.groups)
+        return Recovery(
+            state.number,
+            len(results.trials),
+            failing,
+            found.groups,
+            {group.example.number: crash_place(found, group) for group in found.groups},
+        )
+
+    def choose(self, findings: Findings) -> Iterator[State]:
+        """States that were tried: first those with the most features that no chosen state has,
+        and with more acknowledged lines, since they have more to lose; then others, evenly."""
+        left = [findings.plan.state(number) for number in sorted(findings.results.outcomes)]
+        wanted = self.left
+        chosen: List[State] = []
+        while left and len(chosen) < wanted:
+            best = max(
+                left,
+                key=lambda one: (
+                    len(self.features(findings, one) - self.seen),
+                    one.says,
+                    -one.number,
+                ),
+            )
+            if not self.features(findings, best) - self.seen:
+                break
+            self.seen |= self.features(findings, best)
+            left.remove(best)
+            chosen.append(best)
+        more = wanted - len(chosen)
+        if more > 0 and left:
+            chosen += left[:: max(1, -(-len(left) // more))][:more]
+        return iter(chosen)
+
+    @staticmethod
+    def features(findings: Findings, state: State) -> Set[Tuple[str, str]]:
+        """Its cause, and the kind of the last operation that it has."""
+        kept = findings.plan.kept[state.number]
+        last = findings.plan.operations[kept.bit_length() - 1] if kept else None
+        kind = f'{last.kind} {without_numbers(last.path)}' if last else ''
+        return {('cause', findings.by_state[state.number].kind), ('last', kind)}
+
+
+def crash_place(found: Findings, group: Group) -> str:
+    """Where the second crash was: after the last operation that the example has."""
+    kept = found.plan.kept[group.example.number]
+    line: Optional[int] = found.plan.operations[kept.bit_length() - 1].line if kept else None
+    if line is None:
+        return 'before its recovery changed anything'
+    return f'at line {line} of its recovery ({found.head.lines[line].text})'

@@ -1,0 +1,27 @@
+"""Runs COMMAND a second time in each entry's example, alone: what passes then is no failure of the
+state, but of what several runs share."""
+
+from __future__ import annotations
+
+import time
+
+from crashfs_tools.checker.running.trying import Trying
+from crashfs_tools.checker.states.plan import Trial
+
+from .groups import Findings
+
+# So many entries have their example run again: the largest.
+ENTRIES = 20
+
+
+def rerun_examples(trying: Trying, findings: Findings, seconds: float = float('inf')) -> None:
+    """Runs the examples of the largest groups again; begins none after so many seconds."""
+    deadline = time.monotonic() + seconds
+    results = findings.results
+    for group in findings.groups[:ENTRIES]:
+        number = results.first_of[Trial(group.example.same, group.example.says)]
+        if number not in results.reruns and time.monotonic() < deadline:
+            began = time.monotonic()
+            results.reruns[number] = trying.try_one(group.example)
+            group.seconds = time.monotonic() - began
+    findings.take_reruns()

@@ -1,0 +1,181 @@
+"""Another order of two lines, tried on a copy of the trace."""
+
+from __future__ import annotations
+
+import json
+import os
+from typing import Dict, Iterable, List, Optional, Tuple
+
+from crashfs_tools.checker.running.results import Results
+from crashfs_tools.checker.running.runner import Outcome
+from crashfs_tools.checker.running.trying import Trying
+from crashfs_tools.checker.states.plan import Before, Plan, Planned, Trial, places_of
+from crashfs_tools.checker.states.planning import Planner
+from crashfs_tools.common.command import TEXT, Refused
+from crashfs_tools.common.trace_lines import SYNCS, TraceLine
+
+from .groups import Findings, Group, Totals
+
+# So many entries have the other order tried, of so many states at most.
+ENTRIES, MOST_STATES = 3, 2_000
+
+
+def add_swaps(trying: Trying, planner: Planner, findings: Findings) -> None:
+    """Tries the other order for the largest groups that lose nothing, and finds out whether their
+    first line overwrites what is in use."""
+    spans = [group for group in findings.groups if is_swappable(group)]
+    for group in spans[:ENTRIES]:
+        group.swap = Swap(trying, planner, findings, group).run()
+        group.overwrites = overwrites(trying, findings, group)
+        group.set_advice(findings.head.lines)
+
+
+def is_swappable(group: Group) -> bool:
+    """Whether a group's advice may be another order."""
+    return (
+        group.is_reproducible
+        and group.is_span
+        and group.kept is not None
+        and group.lost is not None
+        and group.lost.word != 'say'
+    )
+
+
+class Swap:
+    """A copy of the trace in which the later line, with what it needs, comes before the earlier."""
+
+    def __init__(self, trying: Trying, planner: Planner, findings: Findings, group: Group) -> None:
+        self.trying = trying
+        self.planner = planner
+        self.findings = findings
+        assert group.kept is not None and group.lost is not None
+        self.kept, self.lost = group.kept, group.lost
+
+    def run(self) -> Optional[Totals]:
+        """How many states fail in the other order; None if there is no such order."""
+        moved = moved_lines(self.kept, self.lost, self.findings.head.lines)
+        planned = self.copy(moved) if moved else None
+        if planned is None or len(planned.plan.states) > MOST_STATES:
+            return None
+        before = failing(self.findings.plan, self.findings.by_state)
+        outcomes = self.outcomes(planned)
+        after = {
+            Trial(state.same, state.says)
+            for state in planned.plan.states
+            if outcomes[state.number].result != 'good'
+        }
+        return Totals(before, len(after))
+
+    def copy(self, moved: List[int]) -> Optional[Planned]:
+        """The plan of the copy; None if no program can do the lines in that order."""
+        before = self.trying.planned.before
+        with open(self.trying.planned.trace, **TEXT) as file:
+            text = file.read().rstrip('\n').split('\n')
+        numbered = list(zip(before.lines or range(1, len(text) + 1), text))
+        taken = [(number, line) for number, line in numbered if number in moved]
+        if len(taken) != len(moved) or self.kept.number not in dict(numbered):
+            return None
+        sync = {'op': 'fsync', 'path': self.lost.synced_by}
+        lines: List[Tuple[int, str]] = []
+        for number, line in numbered:
+            if number == self.kept.number:
+                lines += [*taken, (0, json.dumps(sync, ensure_ascii=False))]
+            if number not in moved:
+                lines.append((number, line))
+        path = os.path.join(self.trying.guard.directory, 'swap.trace')
+        with open(path, 'w', **TEXT) as file:
+            file.write('\n'.join(line for _, line in lines))
+        try:
+            return self.planner.plan(
+                path, Before(says=before.says, lines=tuple(number for number, _ in lines))
+            )
+        except Refused:
+            return None
+
+    def outcomes(self, planned: Planned) -> Dict[int, Outcome]:
+        """The outcomes of the copy's states. A state with the same micro-operations as one of the
+        session is equal to it."""
+        plan, findings = planned.plan, self.findings
+        known = {findings.plan.kept[one]: found for one, found in findings.by_state.items()}
+        places = same_operations(plan, findings.plan)
+        results = Results(plan)
+        for state in plan.states:
+            found = known.get(mapped(plan.kept[state.number], places))
+            if found is not None:
+                results.outcomes[results.first_of[Trial(state.same, state.says)]] = found
+
+        def on_outcome(number: int, outcome: Outcome) -> None:
+            results.outcomes[number] = outcome
+
+        new = set(results.trials.values()) - set(results.outcomes)
+        self.trying.with_plan(planned).try_states(new, on_outcome)
+        return results.of_states({})
+
+
+def moved_lines(kept: TraceLine, lost: TraceLine, lines: Dict[int, TraceLine]) -> List[int]:
+    """The later line and those that it needs; none if the earlier line isn't apart from them."""
+    moved = [lost]
+    for number in range(lost.number - 1, kept.number, -1):
+        line = lines.get(number)
+        if line is not None and belongs_to(line, moved):
+            moved.insert(0, line)
+    are_apart = all(kept.is_apart_from(line) for line in moved if line.word not in SYNCS)
+    return [line.number for line in moved] if are_apart else []
+
+
+def belongs_to(line: TraceLine, moved: Iterable[TraceLine]) -> bool:
+    """Whether a line names what one of the moved lines names; a sync only if it is of that file."""
+    if line.word in SYNCS:
+        return any(line.path in (one.path, one.target) for one in moved)
+    return not all(line.is_apart_from(one) for one in moved if one.word not in SYNCS)
+
+
+def same_operations(plan: Plan, other: Plan) -> Dict[int, int]:
+    """The places of the same micro-operations in another plan: by their line, and their turn."""
+
+    def turns(of: Plan) -> Dict[Tuple[int, str, int], int]:
+        found: Dict[Tuple[int, str, int], int] = {}
+        for place, one in enumerate(of.operations):
+            turn = 0
+            while (one.line, one.kind, turn) in found:
+                turn += 1
+            found[one.line, one.kind, turn] = place
+        return found
+
+    others = turns(other)
+    return {place: others[key] for key, place in turns(plan).items() if key in others}
+
+
+def mapped(kept: int, places: Dict[int, int]) -> int:
+    """A set in the places of the other plan; -1 if it has a member that the other plan lacks."""
+    found = 0
+    for place in places_of(kept):
+        if place not in places:
+            return -1
+        found |= 1 << places[place]
+    return found
+
+
+def failing(plan: Plan, by_state: Dict[int, Outcome]) -> int:
+    """How many different states of a plan fail."""
+    return len(
+        {
+            Trial(state.same, state.says)
+            for state in plan.states
+            if state.number in by_state and by_state[state.number].result != 'good'
+        }
+    )
+
+
+def overwrites(trying: Trying, findings: Findings, group: Group) -> bool:
+    """Whether the kept line overwrites bytes that aren't zeros with others."""
+    plan, place = findings.plan, group.pair.kept
+    if place is None or plan.operations[place].kind != 'write_block':
+        return False
+    path = plan.operations[place].path
+    prefixes = findings.pairs.prefixes
+    trees = trying.trees([prefixes[place], prefixes[place + 1]])
+    before, after = (tree.get(path) for tree in trees)
+    if before is None or after is None or before.data is None or after.data is None:
+        return False
+    return any(old not in (0, new) for old, new in zip(before.data, after.data))

@@ -1,0 +1,64 @@
+"""Where syncs belong: as few as keep all lost lines before the lines that were kept."""
+
+from __future__ import annotations
+
+from typing import Dict, Iterable, NamedTuple, Tuple
+
+from crashfs_tools.common.trace_lines import SYNCS, TraceLine
+
+# Pairs of lines, the one that was lost first.
+Places = Iterable[Tuple[int, int]]
+
+
+class Interval(NamedTuple):
+    """A sync of the path is needed after the first line or a later one, and before the end."""
+
+    end: int
+    first: int
+    path: str
+
+
+def sync_points(places: Places, lines: Dict[int, TraceLine]) -> Dict[int, str]:
+    """The path to sync after each of these lines. One sync serves all pairs that it is between."""
+    points: Dict[int, str] = {}
+    left = sorted(interval(lost, kept, lines) for lost, kept in places if is_syncable(lost, lines))
+    while left:
+        earliest = left[0]
+        same = [one for one in left if one.path == earliest.path and one.first < earliest.end]
+        point = max(one.first for one in same)
+        points[point] = earliest.path
+        left = [one for one in left if one not in same]
+    return points
+
+
+def is_syncable(number: int, lines: Dict[int, TraceLine]) -> bool:
+    return number in lines and lines[number].synced_by is not None
+
+
+def interval(lost: int, kept: int, lines: Dict[int, TraceLine]) -> Interval:
+    """Where a sync may be; a file that is renamed is synced before that."""
+    path = lines[lost].synced_by
+    assert path is not None
+    renames = (
+        number
+        for number in range(lost + 1, kept)
+        if number in lines and (lines[number].word, lines[number].path) == ('rename', path)
+    )
+    return Interval(next(renames, kept), lost, path)
+
+
+def is_synced(path: str, lines: Dict[int, TraceLine]) -> bool:
+    """Whether the session ever syncs a path, or everything."""
+    return any(
+        line.word in SYNCS and (line.path == path or line.word == 'sync') for line in lines.values()
+    )
+
+
+def never_synced_directory(syncs: Dict[int, str], lines: Dict[int, TraceLine]) -> str:
+    """The directory that an advice's syncs are all of, if the session never syncs it; else ''."""
+    paths = set(syncs.values())
+    if len(paths) != 1:
+        return ''
+    (path,) = paths
+    is_directory = all(lines[number].path != path for number in syncs if number in lines)
+    return path if is_directory and not is_synced(path, lines) else ''

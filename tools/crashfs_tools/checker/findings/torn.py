@@ -1,0 +1,53 @@
+"""Which part of a torn line a crash kept."""
+
+from __future__ import annotations
+
+from typing import List, NamedTuple, Tuple
+
+from crashfs_tools.checker.states.plan import MicroOperation, Plan
+
+# So many separate parts are named.
+SHOWN = 3
+
+
+class Piece(NamedTuple):
+    """Bytes of a write, counted from its first one, and whether they were kept."""
+
+    first: int
+    end: int
+    is_kept: bool
+
+
+def kept_part(plan: Plan, kept: int, line: int) -> str:
+    """What a state kept of a line: its length, or which of its bytes."""
+    places = [place for place, one in enumerate(plan.operations) if one.line == line]
+    pieces = pieces_of([(plan.operations[place], bool(kept >> place & 1)) for place in places])
+    sizes = [kept >> one & 1 for one in places if plan.operations[one].kind == 'change_file_size']
+    total = pieces[-1].end if pieces else 0
+    lost = [piece for piece in pieces if not piece.is_kept]
+    if sizes and not sizes[0]:
+        return 'its bytes, not its length'
+    if len(lost) == len(pieces):
+        return 'its length, not its bytes (zeros)' if sizes else 'nothing of it'
+    zeros = ' (zeros)' if sizes else ''
+    whole = [piece for piece in pieces if piece.is_kept]
+    return f'bytes {text_of(whole)} of its {total:,}, not bytes {text_of(lost)}{zeros}'
+
+
+def pieces_of(operations: List[Tuple[MicroOperation, bool]]) -> List[Piece]:
+    """The pieces of a write; neighbours with the same fate are one."""
+    pieces: List[Piece] = []
+    for operation, is_kept in operations:
+        if operation.kind == 'write_block':
+            first = pieces[-1].end if pieces else 0
+            end = first + int(operation.rest.split()[-1])
+            if pieces and pieces[-1].is_kept == is_kept:
+                first = pieces.pop().first
+            pieces.append(Piece(first, end, is_kept))
+    return pieces
+
+
+def text_of(pieces: List[Piece]) -> str:
+    shown = [f'{piece.first:,} to {piece.end - 1:,}' for piece in pieces[:SHOWN]]
+    more = len(pieces) - SHOWN
+    return ', '.join(shown) + (f' and {more:,} more parts' if more > 0 else '')

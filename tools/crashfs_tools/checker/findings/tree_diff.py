@@ -1,0 +1,91 @@
+"""How the files of a failing state differ from those of the nearest good one."""
+
+from __future__ import annotations
+
+from typing import Iterator, Optional, Tuple
+
+from crashfs_tools.checker.running.runner import GOOD
+from crashfs_tools.checker.running.trying import Trying
+from crashfs_tools.checker.states.plan import State, count
+from crashfs_tools.common.entry import Entries, Entry
+
+from .groups import Difference, Findings, Group
+
+# So many lines are shown of each entry, and so many entries have them: the largest.
+SHOWN_LINES, ENTRIES = 20, 5
+SHOWN_BYTES = 8
+
+
+def find_differences(trying: Trying, findings: Findings) -> None:
+    """Compares the examples of the largest groups with their nearest good states."""
+    for group in findings.groups[:ENTRIES]:
+        good = nearest_good(findings, group)
+        if good is not None:
+            failing, other = trying.trees([group.example.number, good.number])
+            lines = list(different_lines(failing, other))
+            group.difference = Difference(good.number, lines[:SHOWN_LINES])
+
+
+def nearest_good(findings: Findings, group: Group) -> Optional[State]:
+    """The good state that differs in the fewest micro-operations."""
+    kept = findings.plan.kept
+    good = [
+        state
+        for state in findings.plan.states
+        if state.number in findings.by_state and findings.by_state[state.number].result == GOOD
+    ]
+
+    def distance(state: State) -> Tuple[int, int]:
+        return count(kept[state.number] ^ kept[group.example.number]), state.number
+
+    return min(good, key=distance) if good else None
+
+
+def different_lines(failing: Entries, good: Entries) -> Iterator[str]:
+    for path in sorted(failing.keys() | good.keys()):
+        one, other = failing.get(path), good.get(path)
+        if one is None or other is None:
+            present = one or other
+            assert present is not None
+            where = 'failing' if one else 'good'
+            yield f'{path} ({size_text(present)}) is only in the {where} state'
+        elif one.data != other.data:
+            yield f'{path} {size_difference(one, other)}{first_difference(one, other)}'
+        elif (one.owner, one.group, one.mode) != (other.owner, other.group, other.mode):
+            yield f'{path} is {rights_text(one)}, in the good state {rights_text(other)}'
+
+
+def size_text(entry: Entry) -> str:
+    return 'a directory' if entry.data is None else f'{len(entry.data):,} bytes'
+
+
+def size_difference(one: Entry, other: Entry) -> str:
+    if one.data is not None and other.data is not None and len(one.data) == len(other.data):
+        return f'has {size_text(one)} in both'
+    return f'has {size_text(one)}, in the good state {size_text(other)}'
+
+
+def bytes_text(data: bytes) -> str:
+    """Bytes as text if they are; otherwise as hexadecimal digits."""
+    if data and all(0x20 <= byte < 0x7F for byte in data):
+        return f'"{data.decode("ascii")}"'
+    return data.hex() or 'its end'
+
+
+def rights_text(entry: Entry) -> str:
+    return f'{entry.mode:03o} {entry.owner} {entry.group}'
+
+
+def first_difference(one: Entry, other: Entry) -> str:
+    """Where the bytes begin to differ, and the bytes there."""
+    if one.data is None or other.data is None:
+        return ''
+    pairs = zip(one.data, other.data)
+    place = next(
+        (at for at, (left, right) in enumerate(pairs) if left != right),
+        min(len(one.data), len(other.data)),
+    )
+    pieces = [
+        bytes_text(bytes(entry[place : place + SHOWN_BYTES])) for entry in (one.data, other.data)
+    ]
+    return f'; at byte {place:,} {pieces[0]}, in the good state {pieces[1]}'

@@ -1,0 +1,1 @@
+"""The report: as text, JUnit XML and HTML."""

@@ -1,0 +1,115 @@
+"""What a check counts, and the first line of its report."""
+
+from __future__ import annotations
+
+from collections import Counter
+from dataclasses import dataclass, field
+from typing import Counter as Counts
+from typing import List
+
+from crashfs_tools.checker.findings.groups import Findings
+from crashfs_tools.checker.running.results import Head
+from crashfs_tools.checker.running.runner import BAD, GOOD, NO_ANSWER, Outcome
+from crashfs_tools.common.printable import printable
+
+# So many words of causes are counted in the first line.
+SHOWN_WORDS = 5
+
+
+@dataclass
+class StateCounts:
+    """How many states there are, over all windows. results and words count different states, which
+    are tried once; all_failing counts their repetitions too."""
+
+    windows: int = 0
+    operations: int = 0
+    states: int = 0
+    different: int = 0
+    wanted: int = 0
+    tried: int = 0
+    all_failing: int = 0
+    results: Counts[str] = field(default_factory=Counter)
+    words: Counts[str] = field(default_factory=Counter)
+
+    def add(self, findings: Findings) -> None:
+        """Adds a window's states."""
+        results, shard = findings.results, findings.head.shard
+        outcomes = [
+            results.outcomes[number]
+            for number in results.trials.values()
+            if number in results.outcomes
+        ]
+        self.windows += 1
+        self.operations = findings.plan.begin + len(findings.plan.operations)
+        self.states += len(results.own)
+        self.different += len(results.trials)
+        self.wanted += sum(map(shard.has, range(len(results.trials))))
+        self.tried += len(outcomes)
+        self.all_failing += sum(one.result == BAD for one in findings.own_outcomes())
+        self.add_outcomes(outcomes)
+
+    def add_outcomes(self, outcomes: List[Outcome]) -> None:
+        self.results.update(one.result for one in outcomes)
+        self.words.update(one.word for one in outcomes if one.result == BAD)
+
+    @property
+    def good(self) -> int:
+        return self.results[GOOD]
+
+    @property
+    def failing(self) -> int:
+        return self.results[BAD]
+
+    @property
+    def left(self) -> int:
+        """How many different states should have been tried, and weren't."""
+        return self.wanted - self.tried
+
+    def summary(self, head: Head) -> str:
+        """The first line: what was checked, and the verdict."""
+        trace = printable(head.trace)
+        if not self.windows:
+            return f'{trace}: nothing was tried{stop_text(head)}'
+        windows = f' in {self.windows:,} windows' if self.windows > 1 else ''
+        return (
+            f'{trace}: {self.operations:,} micro-operations{windows}, {self.states:,} states, '
+            f'{self.different:,} different: {self.verdict(head)}'
+        )
+
+    def verdict(self, head: Head) -> str:
+        """How many fail; `none fails` is only said of a whole check."""
+        if not self.tried:
+            return f'nothing was tried{stop_text(head)}'
+        parts = [self.failing_text(head)]
+        if self.results[NO_ANSWER]:
+            parts.append(f'{self.results[NO_ANSWER]:,} gave no answer')
+        if self.left or head.has_rest:
+            parts.append(f'{self.left_text(head)} not tried{stop_text(head)}')
+        return '; '.join(parts)
+
+    def failing_text(self, head: Head) -> str:
+        shard = head.shard
+        of_tried = f' of the {self.tried:,} tried'
+        if shard.parts > 1:
+            of_tried += f' by shard {shard.part}/{shard.parts}'
+        is_whole = shard.parts == 1 and not self.left and not head.has_rest
+        if not self.failing:
+            return 'none fails' if is_whole else f'none{of_tried} fails'
+        words = ', '.join(
+            f'{count:,} {printable(word)}' for word, count in self.words.most_common(SHOWN_WORDS)
+        )
+        fail = f'fail{"s" if self.failing == 1 else ""}'
+        if is_whole:
+            return (
+                f'{self.failing:,} {fail} ({self.all_failing:,} of all {self.states:,} states): '
+                f'{words}'
+            )
+        return f'{self.failing:,}{of_tried} {fail}: {words}'
+
+    def left_text(self, head: Head) -> str:
+        rest = f'all states after micro-operation {self.operations - 1:,}' if head.has_rest else ''
+        return ' and '.join(filter(None, [f'{self.left:,}' if self.left else '', rest]))
+
+
+def stop_text(head: Head) -> str:
+    return f' (stopped by {head.stopped})' if head.stopped else ''

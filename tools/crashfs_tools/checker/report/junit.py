@@ -1,0 +1,61 @@
+"""The report as JUnit XML, which systems for continuous integration show."""
+
+from __future__ import annotations
+
+from collections import Counter
+from typing import Counter as Counts
+from typing import Iterator
+from xml.sax.saxutils import escape, quoteattr
+
+from crashfs_tools.checker.findings.groups import Group
+from crashfs_tools.checker.running.runner import BAD
+from crashfs_tools.common.printable import printable
+
+from .report import Report
+
+# Control characters that XML has too.
+SPACES = '\n\t'
+
+
+def junit_lines(report: Report) -> Iterator[str]:
+    """A test case for each entry of the report, and one for all other states. The time of an entry
+    is that of its example's second run, and that of the last case is the rest of the check's."""
+    groups = report.groups()
+    failures = sum(group.result == BAD for group in groups)
+    seconds = report.seconds
+    name = attribute(f'crashfs-check {report.head.trace}')
+    yield '<?xml version="1.0" encoding="UTF-8"?>\n'
+    yield (
+        f'<testsuite name={name} tests="{len(groups) + 1}" failures="{failures}" '
+        f'errors="{len(groups) - failures}" time="{seconds:.3f}">\n'
+    )
+    names: Counts[str] = Counter()
+    for group in groups:
+        names[group.cause] += 1
+        number = names[group.cause]
+        case = f'{group.cause} ({number})' if number > 1 else group.cause
+        yield from case_lines(report, group, f'classname={name} name={attribute(case)}')
+        seconds -= group.seconds
+    rest = f'all other states ({report.counts.good:,})'
+    yield f'<testcase classname={name} name={attribute(rest)} time="{max(0.0, seconds):.3f}"/>\n'
+    yield '</testsuite>\n'
+
+
+def case_lines(report: Report, group: Group, names: str) -> Iterator[str]:
+    """A test case; its message is the whole sentence with the advice."""
+    head, *details = report.group_lines(group)
+    kind = 'failure' if group.result == BAD else 'error'
+    message = ' '.join(group.advice.lines()) or head.strip()
+    yield f'<testcase {names} time="{group.seconds:.3f}">\n'
+    yield f'<{kind} message={attribute(message)}>'
+    yield text('\n'.join([head.strip(), *details])) + f'</{kind}>\n'
+    yield f'<system-out>{text(group.outcome.output)}</system-out>\n'
+    yield '</testcase>\n'
+
+
+def text(shown: str) -> str:
+    return escape(printable(shown, SPACES))
+
+
+def attribute(shown: str) -> str:
+    return quoteattr(printable(shown))

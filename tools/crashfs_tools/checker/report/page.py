@@ -1,0 +1,122 @@
+"""The report as one page for a browser: no other file is needed, and no network."""
+
+from __future__ import annotations
+
+import html
+import shlex
+import time
+from typing import Iterator, List
+
+from crashfs_tools.checker.findings.groups import Group
+from crashfs_tools.common.printable import printable
+from crashfs_tools.common.trace_lines import SYNCS, TraceLine
+from crashfs_tools.common.version import version_of
+
+from .page_parts import SCRIPT, STYLE
+from .report import COMPACT, DRAWN, Report, as_json
+
+# Of a long session, so many lines are shown before and after each one that is named.
+NEAR = 20
+
+
+def page(report: Report) -> Iterator[str]:
+    title = shown_text(report.head.trace)
+    yield (
+        f'<!DOCTYPE html>\n<html lang="en"><head><meta charset="utf-8">'
+        '<meta name="viewport" content="width=device-width">\n'
+        f'<title>{title}</title>\n<style>{STYLE}</style></head>\n<body>\n<h1>{title}</h1>\n'
+    )
+    for line in report.first_lines():
+        yield f'<p class="summary">{shown_text(line)}</p>\n'
+    yield about_line(report)
+    groups = report.groups()
+    for group in groups:
+        yield from entry_lines(report, group)
+    yield '<h2>The states</h2>\n<div id="states"></div><p id="shown"></p>\n'
+    if report.counts.windows > len(report.drawings[:DRAWN]):
+        yield (
+            f'<p>These are {len(report.drawings[:DRAWN])} of {report.counts.windows:,} windows: '
+            'the first, and the first in which states fail.</p>\n'
+        )
+    yield '<h2>The session</h2>\n<table class="session">\n'
+    yield from session_lines(report, groups)
+    yield '</table>\n'
+    yield f'<script>const windows = {script_data(report)};\n{SCRIPT}</script>\n</body></html>\n'
+
+
+def shown_text(text: str) -> str:
+    """Text that is shown as it is, but for what would control how the rest is shown."""
+    return html.escape(printable(text, '\n\t'))
+
+
+def about_line(report: Report) -> str:
+    """The command, the versions and the date."""
+    states = (
+        'states by the second reading, in Python' if report.head.unproved else 'states by crashfs'
+    )
+    parts = [
+        f'COMMAND: {shlex.join(report.head.command)}',
+        version_of('crashfs-check'),
+        states,
+        time.strftime('%Y-%m-%d %H:%M:%S UTC', time.gmtime()),
+    ]
+    return f'<p class="about">{shown_text("; ".join(parts))}</p>\n'
+
+
+def entry_lines(report: Report, group: Group) -> Iterator[str]:
+    """A cause, what it says, the lines that the example lost, and what the command printed."""
+    states = report.states_text(group)
+    yield (f'<section><h2>{shown_text(group.cause)}</h2><p>{shown_text(states)}</p>\n<ul>\n')
+    for line in report.details(group):
+        yield f'<li>{shown_text(line)}</li>\n'
+    yield '</ul>\n<table class="session">\n'
+    for number in sorted({line.number for line in (group.lost, group.kept) if line}):
+        yield line_row(report.head.lines.get(number) or TraceLine(number, ''), 'pair')
+    yield '</table>\n'
+    yield from difference_lines(group)
+    if group.outcome.output:
+        yield f'<pre>{shown_text(group.outcome.output)}</pre>\n'
+    yield '</section>\n'
+
+
+def difference_lines(group: Group) -> Iterator[str]:
+    """How the example's files differ from those of the nearest good state."""
+    difference = group.difference
+    if difference is None:
+        return
+    if not difference.lines:
+        yield (
+            f'<p>State {group.example.number} has the same files as state {difference.good}, '
+            'which is good: other lines were acknowledged.</p>\n'
+        )
+        return
+    yield (
+        f'<p>State {group.example.number} and state {difference.good}, which is good:</p>'
+        '\n<ul class="differences">\n'
+    )
+    for line in difference.lines:
+        yield f'<li>{shown_text(line)}</li>\n'
+    yield '</ul>\n'
+
+
+def session_lines(report: Report, groups: List[Group]) -> Iterator[str]:
+    """The session; of one in many windows the lines that are named, and those near them."""
+    named = {line.number for group in groups for line in (group.lost, group.kept) if line}
+    near = {number for one in named for number in range(one - NEAR, one + NEAR + 1)}
+    for number, line in report.head.lines.items():
+        if report.counts.windows == 1 or number in near:
+            yield line_row(line, 'pair' if number in named else '')
+
+
+def line_row(line: TraceLine, mark: str) -> str:
+    kind = 'sync' if line.word in SYNCS else line.word
+    return (
+        f'<tr class="{shown_text(kind)} {mark}"><td>{line.number}</td>'
+        f'<td>{shown_text(line.text)}</td><td>{shown_text(line.note)}</td></tr>\n'
+    )
+
+
+def script_data(report: Report) -> str:
+    """What the page's script draws, with no `<` that could end the script."""
+    shown = as_json(report.drawings[:DRAWN], **COMPACT)
+    return shown.replace('<', '\\u003c')

@@ -1,0 +1,48 @@
+"""What COMMAND prints: a pipe, of which the end is kept."""
+
+from __future__ import annotations
+
+import os
+
+TAIL_BYTES = 1 << 16
+# No recovery has more to say; one that prints for ever must not fill the memory.
+MOST_BYTES = 16 << 20
+
+
+class Output:
+    """Pass `writing` to the command, and close it here."""
+
+    def __init__(self) -> None:
+        self.reading, self.writing = os.pipe2(os.O_CLOEXEC)
+        os.set_blocking(self.reading, False)
+        self.end = b''
+        self.count = 0
+
+    def read(self) -> bool:
+        """Takes some of what is printed; returns False if nothing more will come."""
+        piece = os.read(self.reading, TAIL_BYTES)
+        self.count += len(piece)
+        self.end = (self.end + piece)[-TAIL_BYTES:]
+        return bool(piece)
+
+    def tail(self) -> bytes:
+        """The last bytes of all that is printed by now."""
+        try:
+            while self.count <= MOST_BYTES and self.read():
+                pass
+        except BlockingIOError:
+            pass
+        return self.end
+
+    @property
+    def is_flood(self) -> bool:
+        return self.count > MOST_BYTES
+
+    def close_writing(self) -> None:
+        if self.writing >= 0:
+            os.close(self.writing)
+            self.writing = -1
+
+    def close(self) -> None:
+        self.close_writing()
+        os.close(self.reading)

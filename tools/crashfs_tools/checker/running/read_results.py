@@ -1,0 +1,146 @@
+"""Reads the JSON of a check. Any file may be given: the type and range of each value are looked at
+before it is used."""
+
+from __future__ import annotations
+
+import json
+from typing import Any, Callable, Dict, List, Tuple, TypeVar
+
+from crashfs_tools.checker.options import Shard
+from crashfs_tools.checker.states.plan import MicroOperation, Needs, Plan, State
+from crashfs_tools.common.command import Refused
+from crashfs_tools.common.trace_lines import TraceLine
+
+from .results import FORMAT, AllResults, Head, Results
+from .runner import BAD, GOOD, NO_ANSWER, Outcome
+
+MOST = 1 << 40
+# What a family's state has as numbers: so many, or any number of them.
+NUMBERS = {'prefix': 1, 'hole': 2}
+
+Read = Callable[[Any], Any]
+Value = TypeVar('Value')
+
+
+def read_json(path: str) -> AllResults:
+    """Refused for a file that isn't the JSON of a check."""
+    try:
+        with open(path, encoding='utf-8', errors='surrogateescape') as file:
+            fields = json.load(file)
+        head = head_of(fields)
+        windows = [results_of(one) for one in fields['windows']]
+        if not windows and not head.stopped:
+            raise ValueError('no window')
+        return AllResults(head, windows)
+    except OSError as error:
+        raise Refused(f'{path}: {error.strerror}') from error
+    except (ValueError, KeyError, TypeError, AttributeError, RecursionError) as error:
+        raise Refused(f'{path} is no report of crashfs-check') from error
+
+
+def head_of(fields: Dict[str, Any]) -> Head:
+    if integer(fields['crashfs-check']) != FORMAT:
+        raise ValueError('another format')
+    part, parts = row(fields['shard'], integer, integer)
+    if not 1 <= part <= parts:
+        raise ValueError('no such part')
+    lines = [TraceLine(*row(one, integer, *[text] * 5)) for one in items(fields['lines'])]
+    return Head(
+        text(fields['trace']),
+        text(fields['sha256']),
+        [text(word) for word in items(fields['command'])],
+        Shard(part, parts),
+        is_true(fields['unproved']),
+        {line.number: line for line in lines},
+        text(fields['stopped']),
+        [
+            (line, tried)
+            for line, tried in (row(one, integer, integer) for one in fields['cut_off'])
+        ],
+        is_true(fields.get('has_rest', False)),
+    )
+
+
+def results_of(fields: Dict[str, Any]) -> Results:
+    plan = plan_of(fields)
+    return Results(
+        plan,
+        by_state(plan, fields['outcomes'], outcome),
+        by_state(plan, fields['known'], integer),
+        by_state(plan, fields.get('reruns', {}), outcome),
+    )
+
+
+def plan_of(fields: Dict[str, Any]) -> Plan:
+    operations = [
+        MicroOperation(*row(one, integer, text, text, text, integer))
+        for one in items(fields['operations'])
+    ]
+    first = integer(fields['first'])
+    listed = [
+        state(one, number, len(operations))
+        for number, one in enumerate(items(fields['states']), first)
+    ]
+    masks = [int(text(mask), 16) for mask in items(fields['needs'])]
+    if len(masks) != len(operations) or any(
+        not 0 <= mask < 2 << place for place, mask in enumerate(masks)
+    ):
+        raise ValueError('needs are of micro-operations, and of earlier ones')
+    return Plan(operations, listed, Needs(masks), first)
+
+
+def state(value: Any, number: int, count: int) -> State:
+    """A state of a plan that has so many micro-operations; its number must be the next one."""
+    own, family, numbers, says, same = row(value, integer, text, items, integer, integer)
+    places = [integer(place, count) for place in numbers]
+    wanted = NUMBERS.get(family, len(places) if family == 'pick' else -1)
+    if own != number or len(places) != wanted or family != 'prefix' and count in places[:1]:
+        raise ValueError('no state of a plan')
+    return State(number, family, tuple(places), says, same)
+
+
+def outcome(value: Any) -> Outcome:
+    result, cause, output = row(value, text, text, text)
+    if result not in (GOOD, BAD, NO_ANSWER):
+        raise ValueError('no result of a command')
+    return Outcome(result, cause, output)
+
+
+def by_state(plan: Plan, values: Dict[str, Any], read: Callable[[Any], Value]) -> Dict[int, Value]:
+    found = {int(number): read(value) for number, value in values.items()}
+    if not all(map(plan.has, found)):
+        raise ValueError('no state of the plan')
+    return found
+
+
+def row(values: Any, *reads: Read) -> Tuple[Any, ...]:
+    """The items of a list that has so many."""
+    if len(items(values)) != len(reads):
+        raise ValueError('a list of another length')
+    return tuple(read(value) for read, value in zip(reads, values))
+
+
+def items(value: Any) -> List[Any]:
+    if type(value) is not list:
+        raise ValueError('no list')
+    return value
+
+
+def integer(value: Any, most: int = MOST) -> int:
+    if type(value) is not int or not 0 <= value <= most:
+        raise ValueError('no number')
+    return value
+
+
+def text(value: Any) -> str:
+    """A text that can be written: what is no UTF-8 is a ValueError."""
+    if type(value) is not str:
+        raise ValueError('no text')
+    value.encode('utf-8', 'surrogateescape')
+    return value
+
+
+def is_true(value: Any) -> bool:
+    if type(value) is not bool:
+        raise ValueError('neither true nor false')
+    return value

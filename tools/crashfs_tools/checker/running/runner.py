@@ -1,0 +1,327 @@
+"""Runs COMMAND in a state."""
+
+from __future__ import annotations
+
+import errno
+import os
+import select
+import signal
+import time
+from dataclasses import dataclass, field
+from enum import Enum
+from functools import cached_property
+from itertools import accumulate
+from typing import Callable, Dict, List, NamedTuple, Optional, Set
+
+from crashfs_tools.common import descendants
+from crashfs_tools.common.command import Refused, ended
+from crashfs_tools.common.mount_table import MountTable
+from crashfs_tools.common.program import last_line
+from crashfs_tools.common.trace_lines import without_numbers
+
+from .output import MOST_BYTES, Output
+
+GOOD, BAD, NO_ANSWER = 'good', 'bad', 'no answer'
+CAUSE_LETTERS = 200
+OUTPUT_LETTERS = 2_000
+TURN_SECONDS = 0.5
+# A command that takes longer lets others know what is known so far.
+SLOW_SECONDS = 0.01
+LOOK_SECONDS = 0.002
+# The signals that Python ignores, and that a command has as usual.
+IGNORED = (signal.SIGPIPE, signal.SIGXFSZ)
+
+
+class Outcome(NamedTuple):
+    """What a command found in a state; the cause is its last line, or why there is none. output is
+    the end of what it printed, of a state that isn't good."""
+
+    result: str
+    cause: str = ''
+    output: str = ''
+
+    @property
+    def word(self) -> str:
+        """The word before the cause's first colon."""
+        return self.cause.partition(':')[0]
+
+    @property
+    def kind(self) -> str:
+        """The whole cause, but for its numbers."""
+        return without_numbers(self.cause)
+
+
+GOOD_OUTCOME = Outcome(GOOD)
+
+
+class Says:
+    """What was acknowledged up to each state, as a file for the commands' standard input. Each
+    process has one file, which it cuts or extends: one for each state would be too much."""
+
+    def __init__(self, texts: List[str], folder: str) -> None:
+        self.texts = texts
+        self.folder = folder
+        self.file = ''
+        self.count = 0
+        self.sizes = [0, *accumulate(len(text.encode('utf-8')) + 1 for text in texts)]
+
+    def path(self, count: int) -> str:
+        """The file, with so many lines until another number is asked for."""
+        file = os.path.join(self.folder, f'says-{os.getpid()}')
+        if self.file != file:
+            self.file, self.count = file, 0
+            with open(file, 'wb'):
+                pass
+        if count < self.count:
+            os.truncate(file, self.sizes[count])
+        elif count > self.count:
+            with open(file, 'a', encoding='utf-8') as more:
+                more.write(self.text(count, self.count))
+        self.count = count
+        return file
+
+    def text(self, count: int, first: int = 0) -> str:
+        """The lines from a number on, up to another."""
+        return ''.join(f'{text}\n' for text in self.texts[first:count])
+
+
+class Over(Exception):
+    """The check is over: the command that ran was ended."""
+
+
+class End(Enum):
+    """Why a command runs no more: by itself, or because it was killed."""
+
+    EXITED = 'exited'
+    LATE = 'late'
+    FLOODED = 'flooded'
+    KILLED = 'killed'
+
+
+def nothing() -> None:
+    pass
+
+
+@dataclass
+class Checker:
+    """One command, and what it is run with. life is the end of a pipe that is closed when the check
+    is over; when_slow is called once for each command that takes long. end_bearers ends what was
+    started with the environment, if this process isn't the reaper of what a command leaves."""
+
+    command: List[str]
+    timeout: float
+    environment: Dict[str, str]
+    says: Says
+    life: Optional[int] = None
+    when_slow: Callable[[], None] = nothing
+    end_bearers: Callable[[], None] = nothing
+    # What commands left that could not be ended, with the names of the programs.
+    left: Dict[int, str] = field(default_factory=dict)
+
+    @cached_property
+    def whole_environment(self) -> Dict[bytes, bytes]:
+        """As bytes, which are passed on as they are."""
+        return {os.fsencode(name): os.fsencode(value) for name, value in self.environment.items()}
+
+    @cached_property
+    def here(self) -> int:
+        """The directory of this process."""
+        return os.open('.', os.O_PATH | os.O_DIRECTORY | os.O_CLOEXEC)
+
+    @cached_property
+    def poll(self) -> select.poll:
+        """Waits for the check's end, and for what else is registered."""
+        poll = select.poll()
+        if self.life is not None:
+            poll.register(self.life, select.POLLIN)
+        return poll
+
+    @cached_property
+    def mounts(self) -> MountTable:
+        return MountTable()
+
+    def run(self, state: int, says: int, directory: str) -> Outcome:
+        """Runs the command in a state's directory, and ends all that it leaves running or mounted.
+        If a process can't be ended, neither this state nor a later one has an answer."""
+        if self.left and self.end_left(descendants.children() - set(self.left)):
+            return self.process_outcome()
+        before, mounted = descendants.children(), self.mounts.below(directory)
+        environment = {
+            **self.whole_environment,
+            b'CRASHFS_STATE': b'%d' % state,
+            b'CRASHFS_SAYS': b'%d' % says,
+        }
+        output = Output()
+        try:
+            process = self.start(directory, environment, self.says.path(says), output)
+            end = End.KILLED
+            try:
+                end = self.wait(process, output)
+            finally:
+                # Until it is waited for, no other group has its number.
+                end_group(process)
+                status = os.waitstatus_to_exitcode(os.waitpid(process, 0)[1])
+                self.end_left(before, descendants.ENDING_SECONDS)
+                stays = self.unmount(directory, set(mounted))
+            if self.left:
+                return self.process_outcome()
+            if stays:
+                return Outcome(NO_ANSWER, f'a mount that it left can not be unmounted: {stays[0]}')
+            if end is End.EXITED and status == 0:
+                return GOOD_OUTCOME
+            printed = output.tail().replace(os.fsencode(directory), b'.')
+            return self.outcome(end, status, printed.decode('utf-8', 'replace'))
+        finally:
+            output.close()
+
+    def end_left(self, before: Set[int], seconds: float = 0) -> Dict[int, str]:
+        """Ends the children that weren't there before; returns those that can't be ended."""
+        self.end_bearers()
+        self.left = descendants.end_children(before, seconds)
+        return self.left
+
+    def process_outcome(self) -> Outcome:
+        return Outcome(
+            NO_ANSWER, f'a process that it left could not be ended: {descendants.shown(self.left)}'
+        )
+
+    def unmount(self, directory: str, before: Set[int]) -> List[str]:
+        """Unmounts what wasn't mounted before; returns what stays, as paths in the directory."""
+        found = self.mounts.below(directory)
+        left = self.mounts.unmount({one: found[one] for one in found if one not in before})
+        return [os.path.relpath(point, directory) for point in left]
+
+    def start(
+        self, directory: str, environment: Dict[bytes, bytes], lines: str, output: Output
+    ) -> int:
+        """Starts the command in a session of its own; its directory is this process's meanwhile."""
+        here = self.here
+        os.chdir(directory)
+        try:
+            return os.posix_spawn(
+                self.command[0],
+                self.command,
+                environment,
+                setsid=True,
+                setsigdef=IGNORED,
+                file_actions=[
+                    (os.POSIX_SPAWN_OPEN, 0, lines, os.O_RDONLY, 0),
+                    (os.POSIX_SPAWN_DUP2, output.writing, 1),
+                    (os.POSIX_SPAWN_DUP2, output.writing, 2),
+                ],
+            )
+        except OSError as error:
+            if error.errno in (errno.EAGAIN, errno.ENOMEM):
+                raise
+            raise Refused(f'{self.command[0]}: {error.strerror}') from error
+        finally:
+            os.fchdir(here)
+            output.close_writing()
+
+    def wait(self, process: int, output: Output) -> End:
+        """Waits for the command's end; Over if the check's comes before."""
+        waiting = Waiting(self.poll, process, output)
+        begun = time.monotonic()
+        is_slow = False
+        try:
+            while True:
+                passed = time.monotonic() - begun
+                if passed >= self.timeout:
+                    return End.LATE
+                if not is_slow and passed >= SLOW_SECONDS:
+                    is_slow = True
+                    self.when_slow()
+                left = self.timeout - passed if is_slow else SLOW_SECONDS - passed
+                ready = waiting.wait(min(left, self.timeout - passed, TURN_SECONDS))
+                if self.life in ready:
+                    raise Over
+                has_ended = waiting.has_ended(ready)
+                if has_ended:
+                    output.tail()
+                if output.is_flood:
+                    return End.FLOODED
+                if has_ended:
+                    return End.EXITED
+        finally:
+            waiting.close()
+
+    def outcome(self, end: End, status: int, printed: str) -> Outcome:
+        output = printed[-OUTPUT_LETTERS:]
+        if end is End.LATE:
+            return Outcome(NO_ANSWER, f'it had not ended after {self.timeout:g} seconds', output)
+        if end is End.FLOODED:
+            return Outcome(NO_ANSWER, f'it printed more than {MOST_BYTES >> 20} MB', output)
+        how = f'status {status}' if status > 0 else ended(status).replace('was ', '')
+        line = last_line(printed)[:CAUSE_LETTERS]
+        if status < 0:
+            line = f'{how}: {line}' if line else how
+        return Outcome(BAD, line or how, output)
+
+
+class Waiting:
+    """Waits for a process or for what it prints, besides what a poll object has already. A system
+    without descriptors of processes (before Linux 5.3) is asked again and again."""
+
+    def __init__(self, poll: select.poll, process: int, output: Output) -> None:
+        self.poll, self.process, self.output = poll, process, output
+        self.descriptor = opened_process(process)
+        self.registered = {output.reading}
+        if self.descriptor is not None:
+            self.registered.add(self.descriptor)
+        for one in self.registered:
+            poll.register(one, select.POLLIN)
+
+    def wait(self, seconds: float) -> Set[Optional[int]]:
+        """What is ready after at most so many seconds; what is printed is read."""
+        if self.descriptor is None:
+            seconds = min(seconds, LOOK_SECONDS)
+        ready: Set[Optional[int]] = {one for one, _ in self.poll.poll(seconds * 1000)}
+        if self.output.reading in ready and not self.output.read():
+            self.unregister(self.output.reading)
+        return ready
+
+    def has_ended(self, ready: Set[Optional[int]]) -> bool:
+        if self.descriptor is not None:
+            return self.descriptor in ready
+        return os.waitid(os.P_PID, self.process, os.WEXITED | os.WNOHANG | os.WNOWAIT) is not None
+
+    def unregister(self, one: int) -> None:
+        self.registered.remove(one)
+        self.poll.unregister(one)
+
+    def close(self) -> None:
+        for one in list(self.registered):
+            self.unregister(one)
+        if self.descriptor is not None:
+            os.close(self.descriptor)
+
+
+def opened_process(process: int) -> Optional[int]:
+    try:
+        return os.pidfd_open(process)
+    except (AttributeError, OSError):
+        return None
+
+
+def keep_descriptors() -> None:
+    """From here on a command gets the first three descriptors of this process only, and those are
+    open."""
+    while True:
+        descriptor = os.open(os.devnull, os.O_RDWR | os.O_CLOEXEC)
+        if descriptor > 2:
+            break
+        os.set_inheritable(descriptor, True)
+    for name in os.listdir('/proc/self/fd'):
+        if int(name) > 2:
+            try:
+                os.set_inheritable(int(name), False)
+            except OSError:
+                continue
+    os.close(descriptor)
+
+
+def end_group(group: int) -> None:
+    try:
+        os.killpg(group, signal.SIGKILL)
+    except OSError:
+        pass

@@ -1,0 +1,31 @@
+"""Writes what is known of a check from time to time: a kill loses only what came after."""
+
+from __future__ import annotations
+
+import time
+from typing import Callable
+
+
+class Saver:
+    """Calls `write` if it was not called for so many seconds; a fault of it comes up at the end,
+    when the file is written for good."""
+
+    def __init__(
+        self,
+        write: Callable[[], None],
+        seconds: float,
+        clock: Callable[[], float] = time.monotonic,
+    ) -> None:
+        self.write = write
+        self.seconds = seconds
+        self.clock = clock
+        self.saved = clock()
+
+    def save_if_due(self) -> None:
+        if self.clock() - self.saved < self.seconds:
+            return
+        try:
+            self.write()
+        except OSError:
+            pass
+        self.saved = self.clock()

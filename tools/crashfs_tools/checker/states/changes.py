@@ -1,0 +1,47 @@
+"""What `crashfs tar --changes` writes: for each state what differs from the start tree."""
+
+from __future__ import annotations
+
+from typing import Iterator, List, NamedTuple, Optional
+
+from crashfs_tools.common.archive import ArchiveFault, Member
+from crashfs_tools.common.entry import Entries
+
+ENDING = '.missing'
+
+
+class Changes(NamedTuple):
+    """Of one state: the paths of the start tree that it doesn't have, and its entries that the
+    start tree doesn't have the same, by their paths in the archive: the root's is empty."""
+
+    number: int
+    missing: List[str]
+    entries: Entries
+
+    def applied(self, start: Entries) -> Entries:
+        """The state's tree. A missing path that the start tree doesn't have is a KeyError."""
+        tree = dict(start)
+        for path in self.missing:
+            del tree[path]
+        return {**tree, **self.entries}
+
+
+def read_changes(members: Iterator[Member]) -> Iterator[Changes]:
+    """The changes of each state, in the order of the archive: first the list of what is missing,
+    which has no directory before its name, and then the entries."""
+    changes: Optional[Changes] = None
+    for whole, entry in members:
+        top, _, path = whole.partition('/')
+        if not path and top.endswith(ENDING):
+            if changes is not None:
+                yield changes
+            shown = bytes(entry.data or b'').decode('utf-8', 'surrogateescape').split('\0')
+            changes = Changes(
+                int(top[: -len(ENDING)]), [name.rstrip('/') for name in shown[:-1]], {}
+            )
+        elif changes is None or int(top) != changes.number:
+            raise ArchiveFault(f'{whole} comes before a list of what is missing')
+        else:
+            changes.entries[path] = entry
+    if changes is not None:
+        yield changes

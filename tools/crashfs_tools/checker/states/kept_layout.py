@@ -1,0 +1,52 @@
+"""Lays states out by what they change: each process has one directory that it brings from state to
+state."""
+
+from __future__ import annotations
+
+import os
+from contextlib import contextmanager
+from typing import Dict, Iterator, Optional, Set, Tuple
+
+from crashfs_tools.common.entry import Entries
+from crashfs_tools.common.program import Crashfs, ProgramFault
+
+from .changes import read_changes
+from .kept_tree import KeptTree
+from .layout import Archive
+from .plan import Planned
+
+
+class KeptLayout(Archive):
+    def __init__(
+        self, program: Crashfs, planned: Planned, folder: str, environment: Dict[str, str]
+    ) -> None:
+        super().__init__(program, planned, folder, environment)
+        with program.archive([*planned.words, '--state', '0'], environment) as members:
+            self.start: Entries = dict(members)
+        self.kept: Optional[KeptTree] = None
+
+    def states(self, wanted: Set[int]) -> Iterator[Tuple[int, str]]:
+        self.kept = KeptTree(os.path.join(self.folder, f'kept-{os.getpid()}'))
+        try:
+            for number, tree in self.trees(wanted):
+                self.kept.bring(tree)
+                yield number, self.kept.directory
+        finally:
+            self.kept.remove()
+
+    @contextmanager
+    def laid_out(self, number: int, directory: str) -> Iterator[None]:
+        assert self.kept is not None
+        self.kept.begin()
+        yield
+
+    def trees(self, wanted: Set[int]) -> Iterator[Tuple[int, Entries]]:
+        left = set(wanted)
+        words = [*self.planned.words, '--states', self.planned.list_of(wanted), '--changes']
+        with self.program.archive(words, self.environment) as members:
+            for changes in read_changes(members):
+                number = changes.number + self.planned.plan.first
+                left.discard(number)
+                yield number, changes.applied(self.start)
+        if left:
+            raise ProgramFault(0, f'crashfs tar wrote no state {min(left)}'.encode())

@@ -1,0 +1,252 @@
+"""A directory that has one tree after another: what two of them have in common, and what COMMAND
+left as it was, stays.
+
+A file is left as it was if its inode, size, mode, links and times are those that it had when it was
+written, and that was in an earlier tick of the system's clock than COMMAND's start. File systems in
+memory don't change times with stores through a mapping: there its bytes are compared too. On a disk
+only what differs is written of a large file, a page of many, so that COMMAND's syncs are short.
+"""
+
+from __future__ import annotations
+
+import os
+import stat
+import time
+from typing import Dict, List, Mapping, NamedTuple, Optional, Set, Tuple, Union
+
+from crashfs_tools.common.entry import Entry
+from crashfs_tools.common.mount_table import MountTable
+from crashfs_tools.common.removal import FOLDER, LEFT, remove_tree
+
+from .layout import FILLED_MODE, NEW_FILE, unused, write_all
+from .rewriting import rewrite
+
+# File systems that change a file's times with the first store through a new mapping.
+WITH_TIMES = {'ext2', 'ext3', 'ext4', 'xfs', 'f2fs', 'overlay'}
+CHANGED_FILE = os.O_RDWR | os.O_NOFOLLOW | os.O_CLOEXEC
+# The clock that files have their times of; Python has no name for it.
+REALTIME_COARSE = 5
+# No clock of a system has longer ticks.
+TICK_SECONDS = 0.011
+# Smaller files are made again.
+LARGE_BYTES = 1 << 16
+
+
+Signature = Tuple[int, ...]
+# The part of a signature that a change of a file's bytes leaves as it is.
+RIGHTS = 5
+
+
+class Laid(NamedTuple):
+    """A file as it was written. attributes are the names of the extended ones of a large file."""
+
+    entry: Entry
+    signature: Signature
+    attributes: List[str]
+
+
+class Unchangeable(Exception):
+    """A directory has what no change can take from it: extended attributes, or a mount."""
+
+
+class KeptTree:
+    def __init__(self, directory: str) -> None:
+        self.directory = directory
+        self.mounts = MountTable()
+        self.is_whole = False
+        self.files: Dict[str, Laid] = {}
+        # What is there, and the modes of directories that are.
+        self.there: Set[str] = set()
+        self.modes: Dict[str, int] = {}
+        self.started = 0
+        self.has_times = False
+        self.attributes: List[str] = []
+
+    def bring(self, tree: Mapping[str, Entry]) -> None:
+        """Makes the directory have the tree."""
+        if self.is_whole:
+            try:
+                self.change(tree)
+                return
+            except (OSError, Unchangeable):
+                pass
+        self.remove()
+        os.mkdir(self.directory, FILLED_MODE)
+        self.has_times = file_system_of(self.directory) in WITH_TIMES
+        self.attributes = attributes_of(self.directory)
+        self.change(tree)
+        self.is_whole = True
+        # Files that are as old as COMMAND count as changed by it.
+        time.sleep(TICK_SECONDS)
+
+    def begin(self) -> None:
+        """COMMAND starts after this."""
+        self.started = time.clock_gettime_ns(REALTIME_COARSE)
+
+    def remove(self) -> None:
+        """Removes the directory; what stays of it is beside, and another one takes its place."""
+        if not remove_tree(self.directory):
+            self.directory = unused(self.directory)
+        self.is_whole, self.files = False, {}
+
+    def change(self, tree: Mapping[str, Entry]) -> None:
+        if self.mounts.below(self.directory):
+            raise Unchangeable
+        self.there, self.modes = {''}, {}
+        umask = os.umask(0)
+        try:
+            self.open_up('', self.directory, None, os.lstat(self.directory))
+            at = os.open(self.directory, FOLDER)
+            try:
+                self.clear(at, '', tree)
+                self.files = {path: self.files[path] for path in self.there if path in self.files}
+                for path, one in tree.items():
+                    if path not in self.there:
+                        self.put(at, path, one)
+                self.set_modes(at, tree)
+            finally:
+                os.close(at)
+        finally:
+            os.umask(umask)
+
+    def clear(self, at: int, path: str, tree: Mapping[str, Entry]) -> None:
+        """Removes what isn't in the tree, or isn't as it was, below a directory."""
+        if attributes_of(at) != self.attributes:
+            raise Unchangeable
+        with os.scandir(at) as entries:
+            found = list(entries)
+        for entry in found:
+            name = f'{path}/{entry.name}' if path else entry.name
+            wanted = tree.get(name)
+            status = entry.stat(follow_symlinks=False)
+            if not stat.S_ISDIR(status.st_mode):
+                if wanted is not None and (
+                    self.has(at, name, wanted, status)
+                    or self.change_bytes(at, name, wanted, status)
+                ):
+                    self.there.add(name)
+                else:
+                    os.unlink(entry.name, dir_fd=at)
+            elif wanted is None or wanted.data is not None:
+                if not remove_tree(entry.name, at, self.directory + LEFT):
+                    raise Unchangeable
+            else:
+                self.clear_directory(at, entry.name, name, status, tree)
+
+    def clear_directory(
+        self, at: int, name: str, path: str, status: os.stat_result, tree: Mapping[str, Entry]
+    ) -> None:
+        self.open_up(path, name, at, status)
+        below = os.open(name, FOLDER, dir_fd=at)
+        try:
+            self.clear(below, path, tree)
+        finally:
+            os.close(below)
+        self.there.add(path)
+
+    def open_up(self, path: str, name: str, at: Optional[int], status: os.stat_result) -> None:
+        """Gives a directory the rights that changes need."""
+        mode = stat.S_IMODE(status.st_mode)
+        if mode & FILLED_MODE != FILLED_MODE:
+            os.chmod(name, FILLED_MODE, dir_fd=at)
+            mode = FILLED_MODE
+        self.modes[path] = mode
+
+    def has(self, at: int, path: str, wanted: Entry, status: os.stat_result) -> bool:
+        """Whether a file is as it was written, and as it is wanted."""
+        laid = self.files.get(path)
+        if laid is None or laid.entry != wanted or not self.is_as_laid(laid, status):
+            return False
+        return self.has_times or bytes_of(at, path.rpartition('/')[2]) == wanted.data
+
+    def is_as_laid(self, laid: Laid, status: os.stat_result) -> bool:
+        """Whether a file is as it was written, except for stores that its times don't show."""
+        return laid.signature == signature_of(status) and status.st_ctime_ns < self.started
+
+    def change_bytes(self, at: int, path: str, wanted: Entry, status: os.stat_result) -> bool:
+        """Gives a large file the bytes that are wanted; returns False if it must be made again,
+        since COMMAND put another one in its place or changed more than its bytes."""
+        laid = self.files.get(path)
+        if (
+            not self.has_times
+            or laid is None
+            or laid.entry.mode != wanted.mode
+            or not is_large(wanted)
+            or laid.signature[:RIGHTS] != signature_of(status)[:RIGHTS]
+        ):
+            return False
+        try:
+            file = os.open(path.rpartition('/')[2], CHANGED_FILE, dir_fd=at)
+        except OSError:
+            return False
+        with open(file, 'r+b', buffering=0) as stream:
+            if attributes_of(file) != laid.attributes:
+                return False
+            before = laid.entry.data if self.is_as_laid(laid, status) else stream.read()
+            rewrite(file, before or b'', wanted.data or b'')
+            self.files[path] = Laid(wanted, signature_of(os.fstat(file)), laid.attributes)
+        return True
+
+    def put(self, at: int, path: str, one: Entry) -> None:
+        if one.data is None:
+            os.mkdir(path, FILLED_MODE, dir_fd=at)
+            self.modes[path] = FILLED_MODE
+            return
+        file = os.open(path, NEW_FILE, one.mode, dir_fd=at)
+        try:
+            write_all(file, one.data)
+            attributes = attributes_of(file) if is_large(one) else []
+            self.files[path] = Laid(one, signature_of(os.fstat(file)), attributes)
+        finally:
+            os.close(file)
+
+    def set_modes(self, at: int, tree: Mapping[str, Entry]) -> None:
+        """Inner directories before outer ones: modes may forbid what is done below."""
+        changed = [path for path, mode in self.modes.items() if tree[path].mode != mode]
+        for path in sorted(changed, reverse=True):
+            os.chmod(path or '.', tree[path].mode, dir_fd=at)
+
+
+def is_large(entry: Entry) -> bool:
+    return len(entry.data or b'') >= LARGE_BYTES
+
+
+def signature_of(status: os.stat_result) -> Signature:
+    return (
+        status.st_ino,
+        status.st_mode,
+        status.st_nlink,
+        status.st_uid,
+        status.st_gid,
+        status.st_size,
+        status.st_mtime_ns,
+        status.st_ctime_ns,
+    )
+
+
+def bytes_of(at: int, name: str) -> bytes:
+    file = os.open(name, os.O_RDONLY | os.O_NOFOLLOW | os.O_CLOEXEC, dir_fd=at)
+    with open(file, 'rb', buffering=0) as stream:
+        return stream.read()
+
+
+def attributes_of(directory: Union[str, int]) -> List[str]:
+    """The names of its extended attributes; none if the file system has no such thing."""
+    try:
+        return os.listxattr(directory)
+    except OSError:
+        return []
+
+
+def file_system_of(path: str) -> str:
+    """The type of the file system that has a path, or nothing if it isn't found."""
+    device = os.stat(path).st_dev
+    wanted = f'{os.major(device)}:{os.minor(device)}'
+    try:
+        with open('/proc/self/mountinfo', encoding='utf-8', errors='replace') as lines:
+            found = [
+                line.split(' - ')[1].split(' ')[0] for line in lines if line.split(' ')[2] == wanted
+            ]
+    except (OSError, IndexError):
+        return ''
+    return found[-1] if found else ''

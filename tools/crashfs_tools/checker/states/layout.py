@@ -1,0 +1,120 @@
+"""What states are laid out by, and one way of it: from the archive that `crashfs tar` writes."""
+
+from __future__ import annotations
+
+import os
+from abc import ABC, abstractmethod
+from contextlib import contextmanager
+from itertools import groupby
+from typing import ContextManager, Dict, Iterable, Iterator, List, Set, Tuple
+
+from crashfs_tools.common.archive import Member
+from crashfs_tools.common.entry import Entry
+from crashfs_tools.common.removal import remove_tree
+from crashfs_tools.common.program import Crashfs, ProgramFault, top_of
+
+from .plan import Planned
+from .rewriting import PIECE_BYTES, has_bytes, write_at
+
+NEW_FILE = os.O_WRONLY | os.O_CREAT | os.O_EXCL | os.O_CLOEXEC
+# A directory's mode while it is filled.
+FILLED_MODE = 0o700
+
+
+class Layout(ABC):
+    """Gives states directories for a command to run in."""
+
+    @abstractmethod
+    def states(self, wanted: Set[int]) -> Iterator[Tuple[int, str]]:
+        """Each wanted state with its directory, in ascending order."""
+
+    @abstractmethod
+    def laid_out(self, number: int, directory: str) -> ContextManager[None]:
+        """Within this a state's directory has the state's tree; behind it the directory is gone.
+        Several processes may lay out states at once."""
+
+
+class Archive(Layout):
+    """Lays states out below a folder, each as a directory that has its number."""
+
+    def __init__(
+        self, program: Crashfs, planned: Planned, folder: str, environment: Dict[str, str]
+    ) -> None:
+        self.program = program
+        self.planned = planned
+        self.folder = folder
+        self.environment = environment
+
+    @contextmanager
+    def laid_out(self, number: int, directory: str) -> Iterator[None]:
+        yield
+        remove_tree(directory)
+
+    def states(self, wanted: Set[int]) -> Iterator[Tuple[int, str]]:
+        """One archive is read, as fast as the states are taken: each has its tree already."""
+        words = [*self.planned.words, '--states', self.planned.list_of(wanted)]
+        left = set(wanted)
+        with self.program.archive(words, self.environment) as members:
+            for top, tree in groupby(members, top_of):
+                number = int(top) + self.planned.plan.first
+                if number not in left:
+                    continue
+                left.remove(number)
+                directory = unused(os.path.join(self.folder, str(number)))
+                lay_out(directory, ((path[len(top) + 1 :], entry) for path, entry in tree))
+                yield number, directory
+        if left:
+            raise ProgramFault(0, f'crashfs tar wrote no state {min(left)}'.encode())
+
+
+def unused(path: str) -> str:
+    """A path where nothing is: what COMMAND left may be one that can't be removed."""
+    return unused(f'{path}+') if os.path.lexists(path) else path
+
+
+def lay_out(directory: str, tree: Iterable[Member]) -> None:
+    """Makes a directory that has the tree. Directories get their modes last, and inner ones before
+    outer ones, since modes may forbid what is done below."""
+    os.mkdir(directory, FILLED_MODE)
+    umask = os.umask(0)
+    try:
+        at = os.open(directory, os.O_RDONLY | os.O_DIRECTORY)
+        try:
+            modes: List[Tuple[str, int]] = []
+            for path, entry in tree:
+                if entry.is_directory:
+                    modes.append((path, entry.mode))
+                put(path, entry, at)
+            for path, mode in reversed(modes):
+                os.chmod(path or '.', mode, dir_fd=at)
+        finally:
+            os.close(at)
+    finally:
+        os.umask(umask)
+
+
+def put(path: str, entry: Entry, at: int) -> None:
+    if entry.data is not None:
+        write_file(path, entry.mode, entry.data, at)
+    elif path:
+        os.mkdir(path, FILLED_MODE, dir_fd=at)
+
+
+def write_file(path: str, mode: int, data: bytes, at: int) -> None:
+    file = os.open(path, NEW_FILE, mode, dir_fd=at)
+    try:
+        write_all(file, data)
+    finally:
+        os.close(file)
+
+
+def write_all(file: int, data: bytes) -> None:
+    """Writes a new file's bytes; large runs of zeros become holes, as of a file that was grown."""
+    if len(data) <= PIECE_BYTES:
+        write_at(file, 0, data)
+        return
+    for place in range(0, len(data), PIECE_BYTES):
+        piece = data[place : place + PIECE_BYTES]
+        if has_bytes(piece):
+            write_at(file, place, piece)
+    os.ftruncate(file, len(data))

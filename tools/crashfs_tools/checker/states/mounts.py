@@ -1,0 +1,101 @@
+"""States as Linux mounts from a `crashfs serve` that listens, for a recovery that needs a mount."""
+
+from __future__ import annotations
+
+import os
+import subprocess
+from contextlib import contextmanager
+from typing import Dict, Iterator, List, Set, Tuple
+
+from crashfs_tools.checker.address import Address
+from crashfs_tools.common.command import Refused
+
+from .layout import Layout
+
+NEEDS = "--serve needs root, the kernel's 9p, and a server with --client linux --ready --again"
+# No mount of a server that answers takes so long.
+SECONDS = 60
+
+
+class Mounts(Layout):
+    """Mounts each state in a run of its own, whose name no other check has."""
+
+    def __init__(
+        self, address: Address, uname: str, folder: str, environment: Dict[str, str]
+    ) -> None:
+        if ',' in uname:
+            raise Refused(f'--uname {uname}: no mount can have a name with a comma')
+        self.address = address
+        self.host = address.numeric()
+        self.uname = uname
+        self.folder = os.path.join(folder, 'mounts')
+        self.environment = environment
+        self.run = f'check-{os.urandom(8).hex()}'
+
+    def states(self, wanted: Set[int]) -> Iterator[Tuple[int, str]]:
+        os.makedirs(self.folder, exist_ok=True)
+        for number in sorted(wanted):
+            yield number, os.path.join(self.folder, str(number))
+
+    @contextmanager
+    def laid_out(self, number: int, directory: str) -> Iterator[None]:
+        os.mkdir(directory)
+        self.mount(f'{number}/{self.run}', directory)
+        try:
+            yield
+        finally:
+            self.unmount(directory)
+        os.rmdir(directory)
+
+    def mount_words(self, name: str, directory: str) -> List[str]:
+        """The command that mounts a state's run. Linux shows all files as those of who runs
+        this; whose rights count is said by uname."""
+        options = [
+            'trans=tcp',
+            f'port={self.address.port}',
+            'version=9p2000',
+            f'uname={self.uname}',
+            f'aname={name}',
+            f'dfltuid={os.getuid()}',
+            f'dfltgid={os.getgid()}',
+            'cache=mmap',
+        ]
+        return ['mount', '-t', '9p', '-o', ','.join(options), self.host, directory]
+
+    def mount(self, name: str, directory: str) -> None:
+        fault = fault_of(self.mount_words(name, directory), directory, self.environment)
+        if fault:
+            raise Refused(f'no mount of {name} from {self.address}: {fault} ({NEEDS})')
+
+    def unmount(self, directory: str) -> None:
+        """Lazily where a process that COMMAND left behind is in it still. The guard's mark isn't
+        in its environment: nothing has to end it."""
+        environment = dict(os.environ)
+        fault = fault_of(['umount', directory], directory, environment)
+        if fault and fault_of(['umount', '-l', directory], directory, environment):
+            raise Refused(f'{directory} stays mounted: {fault}')
+
+
+def fault_of(words: List[str], directory: str, environment: Dict[str, str]) -> str:
+    """What a command says that fails, in a line; nothing of one that does what it should. It has
+    a session of its own, so that Ctrl-C doesn't end it half-way."""
+    try:
+        ran = subprocess.run(
+            words,
+            stdin=subprocess.DEVNULL,
+            stdout=subprocess.DEVNULL,
+            stderr=subprocess.PIPE,
+            env=environment,
+            timeout=SECONDS,
+            start_new_session=True,
+            check=False,
+        )
+    except FileNotFoundError:
+        return f'there is no {words[0]}'
+    except subprocess.TimeoutExpired:
+        return f'{words[0]} had not ended after {SECONDS} seconds'
+    if ran.returncode == 0:
+        return ''
+    lines = ran.stderr.decode('utf-8', 'replace').strip().splitlines()
+    line = lines[0] if lines else f'status {ran.returncode}'
+    return line.replace(f'{words[0]}: ', '', 1).replace(f'{directory}: ', '', 1).rstrip('.')

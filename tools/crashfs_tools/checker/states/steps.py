@@ -1,0 +1,135 @@
+"""A session's operations one by one, and the traces of its parts."""
+
+from __future__ import annotations
+
+import bisect
+from dataclasses import dataclass
+from typing import Iterator, List, Tuple
+
+from crashfs_tools.common.command import Refused
+from crashfs_tools.common.entry import Entries
+from crashfs_tools.common.trace import Operation, Say, Trace, Truncate, Write
+from crashfs_tools.common.trace_read import read_numbered
+from crashfs_tools.common.tree import Tree, start_lines
+
+# A longer write is several steps, so that a window can end in it.
+PIECE_BLOCKS = 64
+
+
+@dataclass(frozen=True)
+class Step:
+    """An operation, or a part of a long write, with its line in the session; size is how many
+    micro-operations it is."""
+
+    line: int
+    operation: Operation
+    note: str
+    size: int
+
+
+class Session:
+    """A trace, its steps, and before each step how many micro-operations there were."""
+
+    def __init__(self, name: str, text: str) -> None:
+        self.trace, numbers = read_numbered(text)
+        self.steps: List[Step] = []
+        self.places = [0]
+        tree = start_tree(self.trace)
+        for place, (line, operation) in enumerate(zip(numbers, self.trace.operations)):
+            fault = tree.fault(operation)
+            if fault:
+                raise Refused(f'{name}: line {line}: {fault}')
+            for piece in pieces(operation, tree):
+                before = tree.micro_operations
+                tree.apply(piece)
+                size = tree.micro_operations - before
+                self.steps.append(Step(line, piece, self.trace.notes.get(place, ''), size))
+                self.places.append(tree.micro_operations)
+        self.end = tree
+
+    def end_trace(self) -> str:
+        """A trace of the tree at the session's end, in which nothing happens."""
+        return text_of(
+            Trace(
+                *start_lines(self.end.entries, self.end.files),
+                [],
+                self.trace.version,
+                self.trace.profile,
+                self.trace.block,
+            )
+        )
+
+
+def start_tree(trace: Trace) -> Tree:
+    header = trace.header
+    tree = Tree(header.owner, header.group, header.mode, trace.block)
+    for entry in trace.start:
+        tree.start(entry)
+    return tree
+
+
+def pieces(operation: Operation, tree: Tree) -> Iterator[Operation]:
+    """An operation; or a long write as what makes the same micro-operations: first its size, then
+    so many blocks at a time."""
+    if not isinstance(operation, Write) or len(operation.data) <= PIECE_BLOCKS * tree.block:
+        yield operation
+        return
+    data = tree.entries[operation.path].data
+    end = operation.offset + len(operation.data)
+    if data is not None and end > len(data):
+        yield Truncate(operation.path, end)
+    at = operation.offset
+    while at < end:
+        stop = min(end, (at // tree.block + PIECE_BLOCKS) * tree.block)
+        part = operation.data[at - operation.offset : stop - operation.offset]
+        yield Write(operation.path, at, part)
+        at = stop
+
+
+class Steps:
+    """The steps from a moment on. tree is the tree of this moment, as these tools follow it; start
+    is the same as the program gave it, but that it has no links."""
+
+    def __init__(self, session: Session) -> None:
+        self.session = session
+        self.begin = 0
+        self.says = 0
+        self.tree = start_tree(session.trace)
+        self.start = self.tree.entries.copy()
+
+    def end_within(self, size: int) -> int:
+        """The last end of a part that has no more micro-operations, and at least one step."""
+        places = self.session.places
+        end = bisect.bisect_right(places, places[self.begin] + size) - 1
+        return min(max(end, self.begin + 1), len(self.session.steps))
+
+    def size_to(self, end: int) -> int:
+        return self.session.places[end] - self.session.places[self.begin]
+
+    def go_to(self, step: int, start: Entries) -> None:
+        for one in self.session.steps[self.begin : step]:
+            self.says += isinstance(one.operation, Say)
+            self.tree.apply(one.operation)
+        self.begin = step
+        self.start = start
+
+    def trace(self, end: int) -> Tuple[str, Tuple[int, ...]]:
+        """The trace of the steps up to an end, and for each of its lines that of the session."""
+        part = self.session.steps[self.begin : end]
+        whole = self.session.trace
+        header, start = start_lines(self.start, self.tree.files)
+        notes = {place: one.note for place, one in enumerate(part) if one.note}
+        trace = Trace(
+            header,
+            start,
+            [one.operation for one in part],
+            whole.version,
+            whole.profile,
+            whole.block,
+            notes,
+        )
+        return text_of(trace), (0,) * (1 + len(start)) + tuple(one.line for one in part)
+
+
+def text_of(trace: Trace) -> str:
+    return ''.join(line + '\n' for line in trace.lines())

@@ -1,0 +1,223 @@
+"""What both commands share: the command line's two halves, finding COMMAND, and writing files."""
+
+from __future__ import annotations
+
+import argparse
+import errno
+import io
+import os
+import shutil
+import signal
+import stat
+import sys
+import tempfile
+from contextlib import contextmanager, redirect_stdout
+from typing import Any, Callable, Dict, Iterable, Iterator, List, Tuple
+
+from .printable import printable
+
+# How every file of text is written.
+TEXT: Dict[str, Any] = {'encoding': 'utf-8', 'errors': 'surrogateescape', 'newline': '\n'}
+
+
+# The status of a text that could not be printed.
+NOT_PRINTED = 3
+# The variable that has a fault of a tool's own printed with its traceback.
+TRACEBACK = 'CRASHFS_TRACEBACK'
+FAULT_LETTERS = 500
+
+
+class Refused(Exception):
+    """Bad input: one line that says what is wrong."""
+
+
+def halves(words: List[str]) -> Tuple[List[str], List[str]]:
+    """The words before the first `--`, and COMMAND behind it."""
+    if '--' not in words:
+        return words, []
+    place = words.index('--')
+    return words[:place], words[place + 1 :]
+
+
+def parse(
+    parser: argparse.ArgumentParser, words: List[str]
+) -> Tuple[argparse.Namespace, List[str]]:
+    """The options and arguments before the first `--`, and COMMAND."""
+    before, command = halves(words)
+    shown = io.StringIO()
+    try:
+        with redirect_stdout(shown):
+            values, more = parser.parse_known_args(before)
+    except SystemExit:
+        print_shown(parser.prog, shown.getvalue())
+        raise
+    if more and not command and not more[0].startswith('-'):
+        parser.error(f'put -- before COMMAND ({more[0]})')
+    if more:
+        parser.error(f'unrecognized arguments: {" ".join(more)}')
+    return values, command
+
+
+def print_shown(program: str, text: str) -> None:
+    """Prints what --help shows: argparse itself fails, or says nothing, if it can't."""
+    try:
+        with standard_output():
+            print(text, end='')
+    except OSError as error:
+        print_line(program, f'{error.filename}: {error.strerror}')
+        raise SystemExit(NOT_PRINTED) from error
+
+
+def found(command: List[str]) -> List[str]:
+    """COMMAND with its program's whole path: it is started in another directory."""
+    name = command[0]
+    path = shutil.which(name)
+    if path is None:
+        there = '/' in name and os.path.exists(name)
+        hint = f' (use ./{name})' if os.path.isfile(name) else ''
+        raise Refused(f'{name}: ' + ('not executable' if there else f'command not found{hint}'))
+    return [os.path.abspath(path)] + command[1:]
+
+
+def relative_arguments(command: List[str]) -> List[str]:
+    """COMMAND's arguments that name a file here; COMMAND runs in another directory."""
+    return [word for word in command[1:] if not os.path.isabs(word) and os.path.exists(word)]
+
+
+def folder_of(path: str) -> str:
+    """The directory of a file that will be written; Refused where it can be seen that it won't."""
+    folder = os.path.dirname(os.path.realpath(path))
+    if not os.path.isdir(folder):
+        raise Refused(f'{path}: its directory is not there')
+    if os.path.isdir(path):
+        raise Refused(f'{path} is a directory')
+    in_place = path == '-' or os.path.exists(path) and not os.path.isfile(path)
+    if not in_place and not os.access(folder, os.W_OK):
+        raise Refused(f'{path}: its directory may not be written')
+    return folder
+
+
+def write_whole(path: str, pieces: Iterable[str], mode: int = 0o666) -> None:
+    """Writes the whole file, or none of it, and returns when it is durable; an OSError has its
+    name. A mode says who may read it at most. `-` is standard output, and what is there and is no
+    plain file, as a device or a pipe, is written in place."""
+    if path == '-':
+        with standard_output():
+            sys.stdout.writelines(pieces)
+        return
+    try:
+        refuse_planted(path)
+        if os.path.exists(path) and not os.path.isfile(path):
+            with open(path, 'w', **TEXT) as file:
+                file.writelines(pieces)
+        else:
+            replace_file(os.path.realpath(path), pieces, mode)
+    except OSError as error:
+        raise OSError(error.errno, error.strerror, path) from error
+
+
+def refuse_planted(path: str) -> None:
+    """Refuses a link or a pipe that another user made in a directory that everybody may write."""
+    if not os.path.lexists(path):
+        return
+    status, folder = os.lstat(path), os.stat(os.path.dirname(path) or '.')
+    is_shared = folder.st_mode & stat.S_ISVTX and folder.st_mode & stat.S_IWOTH
+    is_ours = status.st_uid in (os.geteuid(), folder.st_uid)
+    if is_shared and not is_ours and not stat.S_ISREG(status.st_mode):
+        raise OSError(errno.EACCES, 'another user made it, and it is no plain file', path)
+
+
+def replace_file(path: str, pieces: Iterable[str], mode: int) -> None:
+    """A new file takes the path when it is whole and synced, and the directory is synced then."""
+    folder = os.path.dirname(path)
+    number, part = tempfile.mkstemp(prefix='.' + os.path.basename(path)[:100], dir=folder)
+    try:
+        with open(number, 'w', **TEXT) as file:
+            file.writelines(pieces)
+            file.flush()
+            os.fchmod(number, mode_of(path) & mode)
+            os.fsync(number)
+        os.replace(part, path)
+    except BaseException:
+        os.unlink(part)
+        raise
+    sync_directory(folder)
+
+
+def sync_directory(folder: str) -> None:
+    """Makes the names of a directory durable, if its file system can, and its mode lets us."""
+    try:
+        directory = os.open(folder, os.O_RDONLY | os.O_DIRECTORY | os.O_CLOEXEC)
+    except PermissionError:
+        return
+    try:
+        os.fsync(directory)
+    except OSError as error:
+        if error.errno != errno.EINVAL:
+            raise
+    finally:
+        os.close(directory)
+
+
+def mode_of(path: str) -> int:
+    """The mode of a file that is there, or that of a new one."""
+    if os.path.exists(path):
+        return os.stat(path).st_mode & 0o777
+    umask = os.umask(0)
+    os.umask(umask)
+    return 0o666 & ~umask
+
+
+def run_guarded(program: str, run: Callable[[], int], status: int) -> int:
+    """Runs a whole command. A fault of its own is one line, and a status that is no verdict; with
+    the variable TRACEBACK it has its traceback."""
+    try:
+        return run()
+    except Exception as fault:
+        if os.environ.get(TRACEBACK):
+            import traceback
+
+            traceback.print_exc()
+        print_line(program, f'{fault_text(fault)} ({TRACEBACK}=1 shows where)')
+        return status
+
+
+def fault_text(fault: Exception) -> str:
+    """A fault that nobody expected, in a line."""
+    return printable(f'a fault of its own: {type(fault).__name__}: {fault}'[:FAULT_LETTERS])
+
+
+@contextmanager
+def standard_output() -> Iterator[None]:
+    """What is printed within this is written at its end; an OSError has the stream's name. A reader
+    that reads no more, as `head`, is no fault: the rest goes nowhere."""
+    if sys.stdout is None:
+        raise OSError(errno.EBADF, os.strerror(errno.EBADF), 'standard output')
+    try:
+        yield
+        sys.stdout.flush()
+    except OSError as error:
+        # What is left in the buffer is written as Python ends, and has to go somewhere.
+        os.dup2(os.open(os.devnull, os.O_WRONLY), sys.stdout.fileno())
+        if not isinstance(error, BrokenPipeError):
+            raise OSError(error.errno, error.strerror, 'standard output') from error
+
+
+def ended(status: int) -> str:
+    """How a process ended, from the status that Popen has."""
+    if status >= 0:
+        return f'ended with status {status}'
+    try:
+        return f'was ended by {signal.Signals(-status).name}'
+    except ValueError:
+        return f'was ended by signal {-status}'
+
+
+def print_line(program: str, text: str) -> None:
+    """One line on standard error, if that can be written."""
+    if sys.stderr is None:
+        return
+    try:
+        print(f'{program}: {text}', file=sys.stderr, flush=True)
+    except OSError:
+        pass

@@ -1,0 +1,69 @@
+"""What is mounted below a directory."""
+
+from __future__ import annotations
+
+import os
+import re
+import select
+import subprocess
+from typing import Dict, List, Mapping
+
+TABLE = '/proc/self/mountinfo'
+OCTAL = re.compile(rb'\\([0-7]{3})')
+# A lazy unmount also ends a mount that is in use. The last ones are for those of ordinary users.
+UNMOUNTS = (['umount', '-l'], ['fusermount3', '-uz'], ['fusermount', '-uz'])
+
+
+class MountTable:
+    """The mount points of this process, by number. They are read again only if they changed."""
+
+    def __init__(self) -> None:
+        self.poll = select.poll()
+        self.points: Dict[int, str] = {}
+        try:
+            self.file = os.open(TABLE, os.O_RDONLY | os.O_CLOEXEC)
+        except OSError:
+            return
+        self.poll.register(self.file, select.POLLPRI)
+        self.points = read_points()
+
+    def below(self, directory: str) -> Dict[int, str]:
+        """The mount points at a directory and below it, in the order in which they came."""
+        if self.poll.poll(0):
+            self.points = read_points()
+        return {
+            number: point
+            for number, point in self.points.items()
+            if point == directory or point.startswith(os.path.join(directory, ''))
+        }
+
+    def unmount(self, points: Mapping[int, str]) -> List[str]:
+        """Unmounts what is there, the last one first, also if it is in use. Returns what stays."""
+        for point in reversed(list(points.values())):
+            any(succeeds([*words, point]) for words in UNMOUNTS)
+        left = self.below('/')
+        return [point for number, point in points.items() if left.get(number) == point]
+
+
+def read_points() -> Dict[int, str]:
+    with open(TABLE, 'rb') as lines:
+        fields = [line.split(b' ') for line in lines]
+    return {int(one[0]): os.fsdecode(OCTAL.sub(letter, one[4])) for one in fields}
+
+
+def letter(match: re.Match[bytes]) -> bytes:
+    return bytes([int(match[1], 8)])
+
+
+def succeeds(words: List[str]) -> bool:
+    try:
+        ran = subprocess.run(
+            words,
+            stdin=subprocess.DEVNULL,
+            stdout=subprocess.DEVNULL,
+            stderr=subprocess.DEVNULL,
+            check=False,
+        )
+    except OSError:
+        return False
+    return ran.returncode == 0

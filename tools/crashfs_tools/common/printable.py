@@ -1,0 +1,42 @@
+"""Text as a terminal may show it: what would control the terminal is shown as an escape."""
+
+from __future__ import annotations
+
+import io
+import re
+import sys
+
+# Control characters, marks that change the direction or join letters, separators of lines,
+# characters of no meaning, and halves of surrogate pairs, which are bytes that aren't UTF-8.
+UNPRINTABLE = re.compile(
+    '[\x00-\x1f\x7f-\x9f\xad\u061c\u180e\u200b-\u200f\u2028-\u202e\u2060-\u206f'
+    '\ufeff\ufff9-\ufffc\ufffe\uffff\ud800-\udfff\U000e0000-\U000e007f]'
+)
+SHORT = {'\n': '\\n', '\t': '\\t', '\r': '\\r'}
+
+
+def printable(text: str, allowed: str = '') -> str:
+    """The text with an escape (such as \\x1b or \\u202e) for each character that isn't shown, but
+    for those that are allowed."""
+    return UNPRINTABLE.sub(
+        lambda match: match[0] if match[0] in allowed else escape(match[0]), text
+    )
+
+
+def escape(letter: str) -> str:
+    """The escape of one character; that of a byte that isn't UTF-8 is the byte's."""
+    code = ord(letter)
+    if letter in SHORT:
+        return SHORT[letter]
+    if 0xDC80 <= code <= 0xDCFF:
+        return f'\\x{code - 0xDC00:02x}'
+    if code < 0x100:
+        return f'\\x{code:02x}'
+    return f'\\u{code:04x}' if code < 0x10000 else f'\\U{code:08x}'
+
+
+def print_utf8() -> None:
+    """Makes standard output and standard error UTF-8, whatever the locale is."""
+    for stream in (sys.stdout, sys.stderr):
+        if isinstance(stream, io.TextIOWrapper):
+            stream.reconfigure(encoding='utf-8', errors='backslashreplace')

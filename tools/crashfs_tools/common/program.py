@@ -1,0 +1,242 @@
+"""The program `crashfs`: where it is, and what it is asked. If there is none, the second reading of
+this package takes its place."""
+
+from __future__ import annotations
+
+import io
+import os
+import select
+import shutil
+import subprocess
+import sys
+from contextlib import contextmanager
+from functools import cached_property
+from itertools import groupby
+from typing import Any, Dict, Iterator, List, Optional, Tuple
+
+from .archive import ArchiveFault, Member, members
+from .command import Refused, ended
+from .entry import Entries
+
+PACKAGE = os.path.dirname(os.path.dirname(os.path.realpath(__file__)))
+LIBRARY = os.path.dirname(PACKAGE)
+TOP = os.path.dirname(LIBRARY)
+BUILT = os.path.join(TOP, 'crates', 'crashfs', 'out', 'crashfs')
+BUILDER = os.path.join(LIBRARY, 'build')
+READING = os.path.join(PACKAGE, 'reading', '__main__.py')
+# The status of a command line that the program doesn't know.
+UNKNOWN_OPTION = 2
+PIECE_BYTES = 1 << 16
+# So much of an archive is read at once.
+ARCHIVE_BYTES = 1 << 18
+# A shell's status for a program that can't be started.
+NOT_STARTED = 126
+# What the program says of a trace that it would take in parts.
+TOO_LARGE = ('plan too large', 'too many micro-operations')
+
+
+def can_be_built() -> bool:
+    """Whether these tools are those of a clone, which has `tools/build`; installed ones haven't."""
+    return os.access(BUILDER, os.X_OK) and os.path.isdir(os.path.join(TOP, 'crates'))
+
+
+class ProgramFault(Exception):
+    """`crashfs` refused what it was asked: its status, and its line."""
+
+    def __init__(self, status: int, error_text: bytes) -> None:
+        self.text = error_text.decode('utf-8', 'replace').strip()
+        lines = self.text.splitlines()
+        # A command line parser prints its usage after its first line.
+        line = lines[0 if status == UNKNOWN_OPTION else -1] if lines else f'crashfs {ended(status)}'
+        super().__init__(line)
+        self.status = status
+
+    @property
+    def is_unknown_option(self) -> bool:
+        return self.status == UNKNOWN_OPTION
+
+
+class Crashfs:
+    """One program file; or, unproved, the second reading."""
+
+    def __init__(self, path: str, unproved: bool = False) -> None:
+        self.path = path
+        self.unproved = unproved
+
+    @staticmethod
+    def find_or_read(given: Optional[str], unproved: bool) -> Crashfs:
+        """The program, or the second reading if there is none or it is asked for."""
+        program = None if unproved else Crashfs.find(given)
+        return program or Crashfs(READING, unproved=True)
+
+    @staticmethod
+    def find(given: Optional[str]) -> Optional[Crashfs]:
+        """The program that --crashfs names, else that of PATH, else the one that was installed with
+        these tools, else the one built here."""
+        if given is not None:
+            if shutil.which(given) is None:
+                raise Refused(f'--crashfs {given}: no such program')
+            return Crashfs(os.path.abspath(shutil.which(given) or given))
+        path = shutil.which('crashfs') or program_beside(LIBRARY)
+        return None if path is None else Crashfs(path)
+
+    @cached_property
+    def has_changes(self) -> bool:
+        """Whether it has `tar --changes`."""
+        try:
+            return '--changes' in self.text(['tar', '--help'])
+        except ProgramFault:
+            return False
+
+    def text(self, words: List[str], environment: Optional[Dict[str, str]] = None) -> str:
+        """What a command prints; ProgramFault where its status isn't 0."""
+        child = self.start(words, environment)
+        out, error_text = child.communicate()
+        if child.returncode != 0:
+            raise ProgramFault(child.returncode, error_text)
+        return out.decode('utf-8', 'surrogateescape')
+
+    def start(
+        self, words: List[str], environment: Optional[Dict[str, str]]
+    ) -> subprocess.Popen[bytes]:
+        interpreter = [sys.executable, '-S'] if self.unproved else []
+        try:
+            return subprocess.Popen(
+                [*interpreter, self.path, *words],
+                stdin=subprocess.DEVNULL,
+                stdout=subprocess.PIPE,
+                stderr=subprocess.PIPE,
+                env=environment,
+            )
+        except OSError as error:
+            error_text = f'{self.path}: {error.strerror}'
+            raise ProgramFault(NOT_STARTED, error_text.encode()) from error
+
+    @contextmanager
+    def archive(
+        self, words: List[str], environment: Optional[Dict[str, str]] = None
+    ) -> Iterator[Iterator[Member]]:
+        """The archive that `crashfs tar` writes, as a stream that is read once."""
+        child = self.start(['tar', *words], environment)
+        assert child.stdout is not None and child.stderr is not None
+        streams = Streams(child.stdout.fileno(), child.stderr.fileno())
+        try:
+            yield members(io.BufferedReader(streams, ARCHIVE_BYTES))
+        except ArchiveFault as error:
+            fault: Optional[str] = f'what it wrote is no archive: {error}'
+        except BaseException:
+            child.kill()
+            child.wait()
+            child.stdout.close()
+            child.stderr.close()
+            raise
+        else:
+            fault = None
+        error_text = read_to_end(child, streams)
+        if child.returncode != 0 or fault is not None:
+            how = f'crashfs tar {ended(child.returncode)}'
+            raise ProgramFault(
+                child.returncode, error_text or (f'{how}; {fault}' if fault else how).encode()
+            )
+
+    def states(self, trace: str, holes: bool = True) -> int:
+        """How many states a trace has: its prefixes, and with a hole each."""
+        lines = self.text(['list', '--trace', trace, *(['--holes'] if holes else [])])
+        last = lines.rstrip('\n').rpartition('\n')[2].split(' ')
+        if last[0] != 'state' or not last[1:2] or not last[1].isdigit():
+            raise ProgramFault(0, b'crashfs: what it printed is no list')
+        return int(last[1]) + 1
+
+    def tree(self, trace: str, state: int) -> Entries:
+        """The tree of a state, but for the root."""
+        return self.tree_of(['--trace', trace, '--state', str(state)])
+
+    def tree_of(self, words: List[str], environment: Optional[Dict[str, str]] = None) -> Entries:
+        """The tree of the one state that options name, but for the root."""
+        tree = self.whole_tree(words, environment)
+        tree.pop('/', None)
+        return tree
+
+    def trees(
+        self, words: List[str], environment: Optional[Dict[str, str]] = None
+    ) -> Iterator[Tuple[int, Entries]]:
+        """Each state that `--states` names, in ascending order: its number and its tree."""
+        with self.archive(words, environment) as archive:
+            for top, state in groupby(archive, top_of):
+                yield int(top), {'/' + path[len(top) + 1 :]: entry for path, entry in state}
+
+    def whole_tree(self, words: List[str], environment: Optional[Dict[str, str]] = None) -> Entries:
+        with self.archive(words, environment) as archive:
+            return {'/' + path: entry for path, entry in archive}
+
+
+def top_of(member: Member) -> str:
+    """The first name of an entry's path: with `--states` the number of its state."""
+    return member[0].partition('/')[0]
+
+
+def program_beside(library: str) -> Optional[str]:
+    """The program of bin/ if these tools are a release's, in lib/crashfs; else the built one."""
+    folder, name = os.path.split(library)
+    is_release = name == 'crashfs' and os.path.basename(folder) == 'lib'
+    path = os.path.join(os.path.dirname(folder), 'bin', 'crashfs') if is_release else BUILT
+    return path if os.access(path, os.X_OK) else None
+
+
+class Streams(io.RawIOBase):
+    """A program's standard output, as a stream. The end of what it prints as an error is kept
+    meanwhile: it would wait forever if nobody read that."""
+
+    def __init__(self, output: int, errors: int) -> None:
+        super().__init__()
+        self.output, self.errors = output, errors
+        self.error_text = b''
+        self.has_errors = True
+        self.poll = select.poll()
+        self.poll.register(output, select.POLLIN)
+        self.poll.register(errors, select.POLLIN)
+
+    def readable(self) -> bool:
+        return True
+
+    def readinto(self, buffer: Any) -> int:
+        while True:
+            ready = {one for one, _ in self.poll.poll()}
+            if self.errors in ready:
+                self.read_errors()
+            if self.output in ready:
+                return os.readv(self.output, [buffer])
+
+    def read_errors(self) -> bool:
+        """Reads some; returns False at the end."""
+        piece = os.read(self.errors, PIECE_BYTES)
+        self.error_text = (self.error_text + piece)[-PIECE_BYTES:]
+        if not piece and self.has_errors:
+            self.poll.unregister(self.errors)
+            self.has_errors = False
+        return bool(piece)
+
+
+def read_to_end(child: subprocess.Popen[bytes], streams: Streams) -> bytes:
+    """Waits for a program's end, so that it can write all; the end of what it printed as an
+    error."""
+    assert child.stdout is not None and child.stderr is not None
+    while streams.read(PIECE_BYTES):
+        pass
+    child.stdout.close()
+    while streams.read_errors():
+        pass
+    child.stderr.close()
+    child.wait()
+    return streams.error_text
+
+
+def is_too_large(fault: Exception) -> bool:
+    """Whether the program, or the second reading, refused a trace for its length."""
+    said = fault.text if isinstance(fault, ProgramFault) else str(fault)
+    return any(text in said for text in TOO_LARGE)
+
+
+def last_line(output: str) -> str:
+    lines = output.strip().splitlines()
+    return lines[-1] if lines else ''

@@ -1,0 +1,103 @@
+"""Removes directories of any depth, but nothing that is mounted in them."""
+
+from __future__ import annotations
+
+import os
+from typing import List, Optional
+
+FOLDER = os.O_RDONLY | os.O_DIRECTORY | os.O_NOFOLLOW | os.O_CLOEXEC
+OPEN_MODE = 0o700
+# What stays of a directory is beside it, in one whose name ends so.
+LEFT = '.left'
+
+
+def remove_tree(path: str, at: Optional[int] = None, aside: str = '') -> bool:
+    """Removes a file, or a directory whatever the modes in it. Returns whether it is gone: what is
+    mounted there, or may not be removed, stays in the directory `aside`, by default PATH + LEFT."""
+    try:
+        os.unlink(path, dir_fd=at)
+    except FileNotFoundError:
+        return True
+    except IsADirectoryError:
+        return remove_directory(path, at, aside or path + LEFT)
+    except OSError:
+        return False
+    return True
+
+
+def remove_directory(path: str, at: Optional[int], aside: str) -> bool:
+    """The same for a directory. An OSError comes only if `aside` can't be made."""
+    if not os.path.isdir(aside):
+        os.mkdir(aside, OPEN_MODE)
+    file = os.open(aside, FOLDER)
+    try:
+        is_gone = Removal(file).run(path, at)
+    finally:
+        os.close(file)
+    if is_gone:
+        os.rmdir(aside)
+    return is_gone
+
+
+class Removal:
+    """Moves each directory to one that is aside before it is emptied, so that no path has more than
+    two names. The system moves no mount point, and nothing to another file system: what is behind a
+    mount is never reached."""
+
+    def __init__(self, aside: int) -> None:
+        self.aside = aside
+        self.mark = os.urandom(4).hex()
+        self.count = 0
+        self.waiting: List[str] = []
+
+    def run(self, path: str, at: Optional[int]) -> bool:
+        """Removes a directory as far as it can; returns whether it is gone."""
+        is_gone = self.move(path, at)
+        while self.waiting:
+            name = self.waiting.pop()
+            try:
+                self.empty(name)
+                os.rmdir(name, dir_fd=self.aside)
+            except OSError:
+                is_gone = False
+        return is_gone
+
+    def move(self, name: str, at: Optional[int]) -> bool:
+        """Moves a directory aside under a name that is new; returns whether it may be moved."""
+        moved = f'{self.mark}-{self.count}'
+        self.count += 1
+        try:
+            try:
+                os.rename(name, moved, src_dir_fd=at, dst_dir_fd=self.aside)
+            except PermissionError:
+                os.chmod(name, OPEN_MODE, dir_fd=at)
+                os.rename(name, moved, src_dir_fd=at, dst_dir_fd=self.aside)
+        except OSError:
+            return False
+        self.waiting.append(moved)
+        return True
+
+    def empty(self, name: str) -> None:
+        """Removes the files of a directory, and moves its directories aside."""
+        directory = self.opened(name)
+        try:
+            with os.scandir(directory) as entries:
+                found = [(entry.name, entry.is_dir(follow_symlinks=False)) for entry in entries]
+            for inner, is_directory in found:
+                if is_directory:
+                    self.move(inner, directory)
+                else:
+                    os.unlink(inner, dir_fd=directory)
+        finally:
+            os.close(directory)
+
+    def opened(self, name: str) -> int:
+        """A directory that is aside, with the rights that removals need."""
+        try:
+            directory = os.open(name, FOLDER, dir_fd=self.aside)
+        except PermissionError:
+            os.chmod(name, OPEN_MODE, dir_fd=self.aside)
+            directory = os.open(name, FOLDER, dir_fd=self.aside)
+        if os.fstat(directory).st_mode & OPEN_MODE != OPEN_MODE:
+            os.fchmod(directory, OPEN_MODE)
+        return directory

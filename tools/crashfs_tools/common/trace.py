@@ -1,0 +1,273 @@
+"""The lines of a trace, as docs/FORMATS.md has them: what they are, and how they are written."""
+
+from __future__ import annotations
+
+import dataclasses
+import json
+from dataclasses import dataclass, field
+from typing import Any, Dict, Iterator, List, Optional, Type, Union
+
+from . import limits
+from .command import Refused
+
+BLOCKS, ORDERED = 'blocks', 'ordered'
+PROFILES = (BLOCKS, ORDERED)
+BLOCK_SIZES = (512, 1_024, 2_048, 4_096)
+# The version that the recorder writes. Version 2 has no links, no syncs of a part and no notes:
+# what a session has of them is then reported.
+WRITTEN_VERSION = 3
+
+
+class TraceError(Refused):
+    """A text that is no trace."""
+
+
+@dataclass(frozen=True)
+class Header:
+    """The root's owner, group and mode."""
+
+    owner: str
+    group: str
+    mode: int
+
+
+@dataclass(frozen=True)
+class Start:
+    """A directory (data is None) or file of the start tree."""
+
+    path: str
+    owner: str
+    group: str
+    mode: int
+    data: Optional[bytes]
+
+
+@dataclass(frozen=True)
+class StartLink:
+    """A second path of a file of the start tree."""
+
+    path: str
+    source: str
+
+
+@dataclass(frozen=True)
+class Creat:
+    path: str
+    owner: str
+    group: str
+    mode: int
+
+
+@dataclass(frozen=True)
+class Mkdir:
+    path: str
+    owner: str
+    group: str
+    mode: int
+
+
+@dataclass(frozen=True)
+class Unlink:
+    path: str
+
+
+@dataclass(frozen=True)
+class Rmdir:
+    path: str
+
+
+@dataclass(frozen=True)
+class Rename:
+    source: str
+    target: str
+
+
+@dataclass(frozen=True)
+class Link:
+    source: str
+    target: str
+
+
+@dataclass(frozen=True)
+class Write:
+    path: str
+    offset: int
+    data: bytes
+
+
+@dataclass(frozen=True)
+class Truncate:
+    path: str
+    length: int
+
+
+@dataclass(frozen=True)
+class Chmod:
+    path: str
+    mode: int
+
+
+@dataclass(frozen=True)
+class Chown:
+    path: str
+    owner: str
+    group: str
+
+
+@dataclass(frozen=True)
+class Fsync:
+    path: str
+
+
+@dataclass(frozen=True)
+class FsyncRange:
+    path: str
+    offset: int
+    length: int
+
+
+@dataclass(frozen=True)
+class Sync:
+    pass
+
+
+@dataclass(frozen=True)
+class Say:
+    text: str
+
+    @staticmethod
+    def cut(line: bytes) -> Say:
+        """The text of a line, as far as a trace can have it."""
+        text = line.decode('utf-8', 'replace').encode()[: limits.SAY_BYTES]
+        return Say(text.decode('utf-8', 'ignore'))
+
+
+Operation = Union[
+    Creat,
+    Mkdir,
+    Unlink,
+    Rmdir,
+    Rename,
+    Link,
+    Write,
+    Truncate,
+    Chmod,
+    Chown,
+    Fsync,
+    FsyncRange,
+    Sync,
+    Say,
+]
+
+KINDS: Dict[str, Type[Any]] = {
+    'creat': Creat,
+    'mkdir': Mkdir,
+    'unlink': Unlink,
+    'rmdir': Rmdir,
+    'rename': Rename,
+    'link': Link,
+    'write': Write,
+    'truncate': Truncate,
+    'chmod': Chmod,
+    'chown': Chown,
+    'fsync': Fsync,
+    'fsync_range': FsyncRange,
+    'sync': Sync,
+    'say': Say,
+}
+# The first version that has a kind of line, where that isn't version 1.
+SINCE: Dict[Type[Any], int] = {Chmod: 2, Chown: 2, Link: 3, FsyncRange: 3, StartLink: 3}
+KIND_OF = {made: kind for kind, made in KINDS.items()}
+# The keys of a line that have another name in Python.
+KEYS = {'source': 'from', 'target': 'to'}
+
+
+@dataclass
+class Trace:
+    """A whole trace. One of version 1 has no profile: its directory operations are in no order
+    but that of `blocks`. notes has the texts of lines by the operation's place, from 0."""
+
+    header: Header
+    start: List[Union[Start, StartLink]] = field(default_factory=list)
+    operations: List[Operation] = field(default_factory=list)
+    version: int = WRITTEN_VERSION
+    profile: str = BLOCKS
+    block: int = BLOCK_SIZES[-1]
+    notes: Dict[int, str] = field(default_factory=dict)
+
+    def has(self, kind: Type[Any]) -> bool:
+        """Whether the trace's version has a kind of line."""
+        return SINCE.get(kind, 1) <= self.version
+
+    def lines(self) -> Iterator[str]:
+        """The trace's lines, each without its line feed."""
+        yield as_json({**self.version_values(), **values_of(self.header)})
+        for entry in self.start:
+            yield start_line(entry, self.version)
+        for place, operation in enumerate(self.operations):
+            yield as_json(self.operation_values(place, operation))
+
+    def version_values(self) -> Dict[str, Any]:
+        values: Dict[str, Any] = {'trace': self.version}
+        if self.version >= 2:
+            values['profile'] = self.profile
+        if self.version >= 3:
+            values['block'] = self.block
+        return values
+
+    def operation_values(self, place: int, operation: Operation) -> Dict[str, Any]:
+        values = {'op': KIND_OF[type(operation)], **values_of(operation, self.version)}
+        if self.version >= 3 and place in self.notes:
+            values['note'] = self.notes[place]
+        return values
+
+    def line_of_operation(self, place: int) -> int:
+        """The line, from 1, of an operation in a trace that has no empty lines."""
+        return 2 + len(self.start) + place
+
+
+def start_line(entry: Union[Start, StartLink], version: int) -> str:
+    values = values_of(entry, version)
+    if isinstance(entry, StartLink):
+        return as_json({'start': 'link', **values})
+    if entry.data is None:
+        return as_json({'start': 'dir', **{key: values[key] for key in DIRECTORY_KEYS}})
+    return as_json({'start': 'file', **values})
+
+
+DIRECTORY_KEYS = ('path', 'owner', 'group', 'mode')
+
+
+def values_of(item: Any, version: int = 1) -> Dict[str, Any]:
+    """The keys and values of a line, in the order of its fields."""
+    values: Dict[str, Any] = {}
+    for part in dataclasses.fields(item):
+        value = getattr(item, part.name)
+        if part.name == 'data':
+            values.update(bytes_value(value or b'', version))
+        else:
+            key = KEYS.get(part.name, part.name)
+            values[key] = f'{value:03o}' if part.name == 'mode' else value
+    return values
+
+
+def bytes_value(data: bytes, version: int) -> Dict[str, str]:
+    """Bytes as a text if the version has texts and people can read it, else by numbers."""
+    if version >= 3:
+        text = readable_text(data)
+        if text:
+            return {'text': text}
+    return {'bytes': data.hex()}
+
+
+def readable_text(data: bytes) -> str:
+    """Bytes as a text that people can read; nothing if they aren't such a text."""
+    try:
+        text = data.decode('utf-8')
+    except UnicodeDecodeError:
+        return ''
+    return text if text.replace('\n', '').isprintable() else ''
+
+
+def as_json(fields: Dict[str, Any]) -> str:
+    return json.dumps(fields, separators=(',', ':'), ensure_ascii=False)

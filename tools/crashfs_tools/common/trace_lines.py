@@ -1,0 +1,109 @@
+"""A line of a trace in words, as reports show it, and the sync that makes it durable."""
+
+from __future__ import annotations
+
+import re
+from typing import Any, Dict, List, NamedTuple, Optional
+
+from . import limits
+from .entry import parent_of
+
+# Lines that change the file or directory of their path, and lines that change an entry.
+CHANGES = ('write', 'truncate', 'chmod', 'chown')
+ENTRY_CHANGES = ('creat', 'mkdir', 'unlink', 'rmdir', 'rename', 'link')
+SYNCS = ('fsync', 'fsync_range', 'sync')
+LARGEST_SAY = 40
+# What differs from run to run in a name or a cause: hashes, the directories that are named by two
+# digits of one, the six letters of mkstemp, and numbers.
+RANDOM = [
+    re.compile(form)
+    for form in (
+        r'(?<![0-9A-Za-z])(?=[0-9A-Za-z]*\d[A-Za-z]+\d)[0-9A-Za-z]{6,}',
+        r'(?<=[_.-])(?=[0-9A-Za-z]*[a-z])(?=[0-9A-Za-z]*[A-Z0-9])[0-9A-Za-z]{6}(?![0-9A-Za-z])',
+        r'(?<=/)[0-9a-f]{2}(?=/(?:[A-Za-z]+_)*#)|(?<=/objects/)[0-9a-f]{2}(?![^/])',
+        r'\d+',
+    )
+]
+
+
+def without_numbers(text: str) -> str:
+    """A name or a cause with the same sign in the place of each number and random part."""
+    for form in RANDOM:
+        text = form.sub('#', text)
+    return text
+
+
+class TraceLine(NamedTuple):
+    """A line of an operation. path is its first path, target the second one of a rename or link;
+    details are what else it says, but for the bytes."""
+
+    number: int
+    word: str
+    path: str = ''
+    target: str = ''
+    details: str = ''
+    note: str = ''
+
+    @property
+    def text(self) -> str:
+        if self.word == 'say':
+            return f'say "{self.details}"'
+        words = [self.word, self.path, f'to {self.target}' if self.target else '']
+        text = ' '.join(word for word in words if word)
+        return f'{text}, {self.details}' if self.details else text
+
+    @property
+    def kind(self) -> str:
+        """What lines of the same statement of a program have in common."""
+        return ' '.join([self.word, without_numbers(self.path), without_numbers(self.target)])
+
+    def is_apart_from(self, other: TraceLine) -> bool:
+        """Whether the lines name no path in common, and none in a directory that the other
+        names: then a program may change their order."""
+        return not any(
+            one.startswith(two) or two.startswith(one)
+            for one in self.folders
+            for two in other.folders
+        )
+
+    @property
+    def folders(self) -> List[str]:
+        """The paths, each with a slash at its end."""
+        return [path.rstrip('/') + '/' for path in (self.path, self.target) if path]
+
+    @property
+    def synced_by(self) -> Optional[str]:
+        """The path whose fsync makes the line durable; None for a line that no fsync does."""
+        if self.word in CHANGES:
+            return self.path
+        if self.word in ENTRY_CHANGES:
+            return parent_of(self.target or self.path)
+        return None
+
+
+def line_in_words(number: int, fields: Dict[str, Any]) -> TraceLine:
+    """A line of an operation, from its fields."""
+    path = fields.get('path', fields.get('from', ''))
+    return TraceLine(
+        number, fields['op'], path, fields.get('to', ''), details_of(fields), fields.get('note', '')
+    )
+
+
+def details_of(fields: Dict[str, Any]) -> str:
+    if fields['op'] == 'say':
+        text: str = fields['text']
+        return text if len(text) <= LARGEST_SAY else f'{text[:LARGEST_SAY]}..'
+    if fields['op'] == 'write':
+        data = fields['text'].encode() if 'text' in fields else fields['bytes'][::2]
+        return f"{len(data):,} bytes at {fields['offset']:,}"
+    if fields['op'] == 'truncate':
+        return f"{fields['length']:,} bytes"
+    if fields['op'] == 'fsync_range':
+        if fields['offset'] == 0 and fields['length'] == limits.FILE_BYTES:
+            return 'all bytes'
+        return f"{fields['length']:,} bytes at {fields['offset']:,}"
+    return ' '.join(
+        fields[key]
+        for key in ('mode', 'owner', 'group')
+        if key in fields and fields['op'] in ('chmod', 'chown')
+    )

@@ -1,0 +1,120 @@
+"""Reads a trace that `crashfs` judges: what it refuses needs no words here."""
+
+from __future__ import annotations
+
+import dataclasses
+from typing import Any, Dict, Iterable, Iterator, List, Optional, Tuple, Type
+
+from .trace import (
+    BLOCK_SIZES,
+    BLOCKS,
+    KEYS,
+    KINDS,
+    PROFILES,
+    Header,
+    Start,
+    StartLink,
+    Trace,
+    TraceError,
+)
+from .trace_text import fields_of_lines
+from .tree import Tree
+
+VERSIONS = (1, 2, 3)
+
+
+def read_trace(text: str) -> Trace:
+    """Reads a trace's text. A line that makes no sense is a TraceError."""
+    *_, (_, trace) = read_lines(text.split('\n'))
+    return trace
+
+
+def read_numbered(text: str) -> Tuple[Trace, List[int]]:
+    """Reads a trace's text; returns with it the number of each operation's line."""
+    numbers: List[int] = []
+    for number, trace in read_lines(text.split('\n')):
+        if len(trace.operations) > len(numbers):
+            numbers.append(number)
+    return trace, numbers
+
+
+def replay(lines: Iterable[str]) -> Tree:
+    """The tree at a trace's end, of which only one line is kept at a time. A trace that `crashfs`
+    would refuse is a ValueError."""
+    tree: Optional[Tree] = None
+    for number, trace in read_lines(lines):
+        tree = tree or Tree(trace.header.owner, trace.header.group, trace.header.mode, trace.block)
+        while trace.start:
+            tree.start(trace.start.pop())
+        while trace.operations:
+            operation = trace.operations.pop()
+            fault = tree.fault(operation)
+            if fault:
+                raise ValueError(f'line {number}: {fault}')
+            tree.apply(operation)
+    assert tree is not None
+    return tree
+
+
+def read_lines(lines: Iterable[str]) -> Iterator[Tuple[int, Trace]]:
+    """Each line's number, and the trace up to it; a reader may take out what it has."""
+    trace: Optional[Trace] = None
+    for number, fields in fields_of_lines(lines):
+        try:
+            if trace is None:
+                trace = read_header(fields)
+            else:
+                read_line(trace, fields)
+        except (ValueError, KeyError, TypeError, AttributeError) as error:
+            raise TraceError(f'line {number} is no line of a trace ({error})') from error
+        yield number, trace
+    if trace is None:
+        raise TraceError('it has no header')
+
+
+def read_header(fields: Dict[str, Any]) -> Trace:
+    version = fields['trace']
+    header = Header(fields['owner'], fields['group'], int(fields['mode'], 8))
+    profile, block = fields.get('profile'), fields.get('block')
+    is_known = (
+        version in VERSIONS
+        and (profile in PROFILES if version > 1 else profile is None)
+        and (block in BLOCK_SIZES if version > 2 else block is None)
+    )
+    if not is_known:
+        raise ValueError(f'a header of version {version}, profile {profile}, block {block}')
+    return Trace(header, version=version, profile=profile or BLOCKS, block=block or BLOCK_SIZES[-1])
+
+
+def read_line(trace: Trace, fields: Dict[str, Any]) -> None:
+    note = fields.pop('note', None) if trace.version >= 3 else None
+    made = kind_of(fields)
+    if not trace.has(made):
+        raise ValueError(f'{fields} in a trace of version {trace.version}')
+    item: Any = made(**read_values(fields, made, trace.version))
+    if 'start' in fields:
+        trace.start.append(item)
+        return
+    if note is not None:
+        trace.notes[len(trace.operations)] = note
+    trace.operations.append(item)
+
+
+def kind_of(fields: Dict[str, Any]) -> Type[Any]:
+    if 'start' in fields:
+        return StartLink if fields['start'] == 'link' else Start
+    return KINDS[fields['op']]
+
+
+def read_values(fields: Dict[str, Any], made: Type[Any], version: int) -> Dict[str, Any]:
+    return {part.name: read_value(part.name, fields, version) for part in dataclasses.fields(made)}
+
+
+def read_value(name: str, fields: Dict[str, Any], version: int) -> Any:
+    if name == 'data':
+        if fields.get('start') == 'dir':
+            return None
+        is_text = version >= 3 and 'bytes' not in fields
+        return fields['text'].encode() if is_text else bytes.fromhex(fields['bytes'])
+    value = fields[KEYS.get(name, name)]
+    return int(value, 8) if name == 'mode' else value

@@ -1,0 +1,16 @@
+"""Which version of the tools this is."""
+
+from __future__ import annotations
+
+from importlib import import_module
+
+from crashfs_tools import VERSION
+
+
+def version_of(command: str) -> str:
+    """What --version prints. A release has a module that names its commit and its kit."""
+    try:
+        built = import_module('crashfs_tools.built')
+    except ModuleNotFoundError:
+        return f'{command} {VERSION} (not a release)'
+    return f'{command} {VERSION} (commit {built.COMMIT}, kit {built.KIT})'

@@ -1,0 +1,224 @@
+"""Makes the operations of a trace again, with the calls that its program made."""
+
+from __future__ import annotations
+
+import ctypes
+import mmap
+import os
+from contextlib import contextmanager
+from typing import Any, Callable, Dict, Iterator, List, Type, Union
+
+from crashfs_tools.common.trace import (
+    Chmod,
+    Chown,
+    Creat,
+    Fsync,
+    FsyncRange,
+    Header,
+    Link,
+    Mkdir,
+    Operation,
+    Rename,
+    Rmdir,
+    Say,
+    Start,
+    StartLink,
+    Sync,
+    Trace,
+    Truncate,
+    Unlink,
+    Write,
+)
+
+from .owners import Owners
+
+# Filled before the session's modes are set.
+NEW_DIRECTORY, NEW_FILE = 0o700, os.O_RDWR | os.O_CREAT | os.O_EXCL | os.O_CLOEXEC
+SYNC_FILE_RANGE_WRITE_AND_WAIT = 7
+
+libc = ctypes.CDLL(None, use_errno=True)
+
+
+def lay_out_start(trace: Trace, top: str, owners: Owners) -> None:
+    """Makes the start tree of a trace in a new directory, and writes it to the disk."""
+    os.mkdir(top, NEW_DIRECTORY)
+    rights: List[Union[Start, Header]] = []
+    for entry in trace.start:
+        if isinstance(entry, StartLink):
+            os.link(top + entry.source, top + entry.path)
+            continue
+        rights.append(entry)
+        if entry.data is None:
+            os.mkdir(top + entry.path, NEW_DIRECTORY)
+        else:
+            with open(top + entry.path, 'xb') as file:
+                file.write(entry.data)
+    for one in reversed([trace.header, *rights]):
+        path = top + (one.path if isinstance(one, Start) else '')
+        os.chown(path, owners.users.number(one.owner), owners.groups.number(one.group))
+        os.chmod(path, one.mode)
+    sync_file_system(top)
+
+
+class Replay:
+    """The session in a directory, as root: modes don't hinder it. Files stay open, so that a file
+    is written and synced by the same descriptor. unsynced has the files with bytes that no sync
+    covers, in the order in which they were written."""
+
+    def __init__(self, top: str, owners: Owners) -> None:
+        self.top = top
+        self.owners = owners
+        self.files: Dict[int, int] = {}
+        self.unsynced: Dict[int, str] = {}
+
+    def __enter__(self) -> Replay:
+        return self
+
+    def __exit__(self, *_: object) -> None:
+        for descriptor in self.files.values():
+            os.close(descriptor)
+
+    def path(self, path: str) -> str:
+        return self.top if path == '/' else self.top + path
+
+    def descriptor(self, path: str) -> int:
+        """The descriptor of a file, by its inode: it may have several names."""
+        inode = os.stat(self.path(path)).st_ino
+        if inode not in self.files:
+            self.files[inode] = os.open(self.path(path), os.O_RDWR | os.O_CLOEXEC)
+        return self.files[inode]
+
+    def do(self, operation: Operation) -> None:
+        """Makes an operation."""
+        CALLS[type(operation)](self, operation)
+
+    def creat(self, made: Creat) -> None:
+        descriptor = os.open(self.path(made.path), NEW_FILE, made.mode)
+        self.files[os.fstat(descriptor).st_ino] = descriptor
+        self.set_rights(made)
+
+    def mkdir(self, made: Mkdir) -> None:
+        os.mkdir(self.path(made.path), made.mode)
+        self.set_rights(made)
+
+    def set_rights(self, made: Union[Creat, Mkdir]) -> None:
+        """Its owner, group and mode, if they aren't those that it has already: each change is one
+        that the session didn't make."""
+        user = self.owners.users.number(made.owner)
+        group = self.owners.groups.number(made.group)
+        status = os.stat(self.path(made.path))
+        if (status.st_uid, status.st_gid) != (user, group):
+            os.chown(self.path(made.path), user, group)
+        if status.st_mode & 0o777 != made.mode:
+            os.chmod(self.path(made.path), made.mode)
+
+    def unlink(self, one: Unlink) -> None:
+        os.unlink(self.path(one.path))
+
+    def rmdir(self, one: Rmdir) -> None:
+        os.rmdir(self.path(one.path))
+
+    def rename(self, one: Rename) -> None:
+        os.rename(self.path(one.source), self.path(one.target))
+
+    def link(self, one: Link) -> None:
+        os.link(self.path(one.source), self.path(one.target))
+
+    def write(self, one: Write) -> None:
+        left, at = one.data, one.offset
+        while left:
+            count = os.pwrite(self.descriptor(one.path), left, at)
+            left, at = left[count:], at + count
+        self.changed(one.path)
+
+    def truncate(self, one: Truncate) -> None:
+        os.ftruncate(self.descriptor(one.path), one.length)
+        self.changed(one.path)
+
+    def changed(self, path: str) -> None:
+        self.unsynced.setdefault(os.stat(self.path(path)).st_ino, path)
+
+    def chmod(self, one: Chmod) -> None:
+        os.chmod(self.path(one.path), one.mode)
+
+    def chown(self, one: Chown) -> None:
+        users, groups = self.owners.users, self.owners.groups
+        os.chown(self.path(one.path), users.number(one.owner), groups.number(one.group))
+
+    def fsync(self, one: Fsync) -> None:
+        if os.path.isdir(self.path(one.path)):
+            sync_directory(self.path(one.path))
+        else:
+            os.fsync(self.descriptor(one.path))
+            self.unsynced.pop(os.stat(self.path(one.path)).st_ino, None)
+
+    def fsync_range(self, one: FsyncRange) -> None:
+        """A sync of the whole file is an fdatasync; one of a part is made by msync, which syncs
+        only the pages of the part."""
+        descriptor = self.descriptor(one.path)
+        size = os.fstat(descriptor).st_size
+        if one.offset == 0 and one.length >= size:
+            os.fdatasync(descriptor)
+            self.unsynced.pop(os.stat(self.path(one.path)).st_ino, None)
+            return
+        begin = one.offset // mmap.PAGESIZE * mmap.PAGESIZE
+        end = min(one.offset + one.length, size)
+        if begin < end:
+            with mmap.mmap(descriptor, end - begin, offset=begin) as pages:
+                pages.flush()
+
+    def sync(self, _: Sync) -> None:
+        sync_file_system(self.top)
+        self.unsynced.clear()
+
+    def say(self, _: Say) -> None:
+        pass
+
+    def write_back(self, inode: int) -> None:
+        """Writes the bytes of a file to the disk, and nothing of the log."""
+        if inode in self.files and libc.sync_file_range(
+            self.files[inode],
+            ctypes.c_int64(0),
+            ctypes.c_int64(0),
+            SYNC_FILE_RANGE_WRITE_AND_WAIT,
+        ):
+            raise OSError(ctypes.get_errno(), os.strerror(ctypes.get_errno()))
+
+
+CALLS: Dict[Type[Any], Callable[[Replay, Any], None]] = {
+    Creat: Replay.creat,
+    Mkdir: Replay.mkdir,
+    Unlink: Replay.unlink,
+    Rmdir: Replay.rmdir,
+    Rename: Replay.rename,
+    Link: Replay.link,
+    Write: Replay.write,
+    Truncate: Replay.truncate,
+    Chmod: Replay.chmod,
+    Chown: Replay.chown,
+    Fsync: Replay.fsync,
+    FsyncRange: Replay.fsync_range,
+    Sync: Replay.sync,
+    Say: Replay.say,
+}
+
+
+def sync_directory(path: str) -> None:
+    with directory(path) as descriptor:
+        os.fsync(descriptor)
+
+
+def sync_file_system(path: str) -> None:
+    """Writes all of the file system that a directory is in."""
+    with directory(path) as descriptor:
+        if libc.syncfs(descriptor):
+            raise OSError(ctypes.get_errno(), os.strerror(ctypes.get_errno()), path)
+
+
+@contextmanager
+def directory(path: str) -> Iterator[int]:
+    descriptor = os.open(path, os.O_RDONLY | os.O_DIRECTORY | os.O_CLOEXEC)
+    try:
+        yield descriptor
+    finally:
+        os.close(descriptor)

@@ -1,0 +1,102 @@
+"""All crash states: every allowed set of a trace, how many there are, and sets drawn from them.
+
+The *future* of a set of places below k has the places from k on that can still be added: those that
+need no place below k which the set lacks. Two sets with one future are extended by the same sets.
+"""
+
+from __future__ import annotations
+
+import random
+from typing import Dict, Iterator, List
+
+from .faults import ReadingFault
+from .order import Order
+
+MOST_FUTURES = 1_048_576
+MOST_MEMBERS = 2**64 - 1
+
+
+def every_set(order: Order) -> Iterator[int]:
+    """All allowed sets, ascending: the sets without a place come before those with it, for the
+    first place in which two sets differ."""
+    waiting = [(0, order.full)]
+    while waiting:
+        places, future = waiting.pop()
+        if not future:
+            yield places
+            continue
+        lowest = future & -future
+        waiting.append((places | lowest, future ^ lowest))
+        waiting.append((places, order.future_without(future, lowest)))
+
+
+def futures(order: Order) -> List[Dict[int, int]]:
+    """For each k the futures of the allowed sets of places below k, each with how many sets have
+    it; ReadingFault if there are too many for one k."""
+    levels = [{order.full: 1}]
+    for place in range(order.count):
+        lowest = 1 << place
+        level: Dict[int, int] = {}
+        for future, sets in levels[-1].items():
+            for longer in steps(order, future, lowest):
+                level[longer] = level.get(longer, 0) + sets
+        if len(level) > MOST_FUTURES:
+            raise ReadingFault('too many sets to count')
+        levels.append(level)
+    return levels
+
+
+def steps(order: Order, future: int, lowest: int) -> List[int]:
+    """The futures that follow one: without its lowest place, and with it; or itself."""
+    if not future & lowest:
+        return [future]
+    return [order.future_without(future, lowest), future ^ lowest]
+
+
+def count_sets(order: Order) -> int:
+    """How many allowed sets there are."""
+    return sum(futures(order)[-1].values())
+
+
+def sample(order: Order, wanted: int, seed: int) -> Iterator[int]:
+    """So many allowed sets, drawn one after the other, each with the same chance for every set."""
+    extensions = count_extensions(order)
+    total = extensions[0][order.full]
+    if total > MOST_MEMBERS:
+        raise ReadingFault('too many sets to count')
+    draw = random.Random(seed)
+    for _ in range(wanted):
+        yield set_at(order, extensions, draw.randrange(total))
+
+
+def count_extensions(order: Order) -> List[Dict[int, int]]:
+    """For each k and each future there, how many sets extend a set that has it."""
+    levels = futures(order)
+    found: List[Dict[int, int]] = [{0: 1}]
+    for place in range(order.count - 1, -1, -1):
+        above = found[-1]
+        found.append(
+            {
+                future: sum(above[longer] for longer in steps(order, future, 1 << place))
+                for future in levels[place]
+            }
+        )
+    found.reverse()
+    return found
+
+
+def set_at(order: Order, extensions: List[Dict[int, int]], number: int) -> int:
+    """The allowed set that has so many before it."""
+    places, future = 0, order.full
+    for place in range(order.count):
+        lowest = 1 << place
+        if future & lowest:
+            without = order.future_without(future, lowest)
+            before = extensions[place + 1][without]
+            if number < before:
+                future = without
+            else:
+                number -= before
+                places |= lowest
+                future ^= lowest
+    return places

@@ -1,0 +1,1 @@
+"""crashfs-record: what a program does to a directory becomes a trace."""

@@ -1,0 +1,45 @@
+"""A trace that begins after an acknowledged line: its start tree is what was there then."""
+
+from __future__ import annotations
+
+import fnmatch
+from crashfs_tools.common.trace import Say, Trace
+from crashfs_tools.common.tree import Tree, start_lines
+
+from .recording import Recording
+
+
+class LateStart:
+    """Waits for the line that is wanted: the one of a number, or the first that a pattern
+    matches."""
+
+    def __init__(self, recording: Recording, wanted: str) -> None:
+        self.recording, self.wanted = recording, wanted
+        self.count = 0
+        self.has_begun = False
+        recording.on_acknowledged = self.count_line
+
+    def count_line(self, said: Say) -> None:
+        """Counts an acknowledged line; at the wanted one the trace begins."""
+        self.count += 1
+        if not self.has_begun and self.is_wanted(said.text):
+            self.has_begun = True
+            begin_here(self.recording)
+
+    def is_wanted(self, text: str) -> bool:
+        if self.wanted.isdigit():
+            return self.count == int(self.wanted)
+        return fnmatch.fnmatchcase(text, self.wanted)
+
+
+def begin_here(recording: Recording) -> None:
+    """Begins the trace again. What wasn't synced up to here counts as durable."""
+    old = recording.trace
+    header, start = start_lines(recording.tree.entries, recording.tree.files)
+    trace = Trace(header, start, version=old.version, profile=old.profile, block=old.block)
+    tree = Tree(header.owner, header.group, header.mode, old.block)
+    for line in start:
+        tree.start(line)
+    recording.trace, recording.tree = trace, tree
+    recording.troubles.forget_lines()
+    recording.begins_later = True

@@ -1,0 +1,147 @@
+"""The order of calls in the trace: calls of several threads overlap in the log.
+
+A change, and an acknowledged line, is placed where it begins; a sync, and anything else, where it
+ends. So a sync covers no change that began after it. A change that overlaps a sync of the same file
+may not be covered: it is placed where it ends, after the sync.
+"""
+
+from __future__ import annotations
+
+import bisect
+import os.path
+from typing import Dict, List, Optional, Set, Tuple
+
+from . import arguments
+from .strace_log import Call
+
+DATA_CHANGES = {
+    'write',
+    'writev',
+    'pwrite64',
+    'pwritev',
+    'pwritev2',
+    'ftruncate',
+    'ftruncate64',
+    'fallocate',
+    'sendfile',
+    'sendfile64',
+    'copy_file_range',
+    'splice',
+    'tee',
+    'vmsplice',
+    'sendto',
+    'sendmsg',
+    'sendmmsg',
+}
+NAME_CHANGES = {
+    'rename',
+    'renameat',
+    'renameat2',
+    'unlink',
+    'unlinkat',
+    'rmdir',
+    'mkdir',
+    'mkdirat',
+    'link',
+    'linkat',
+    'symlink',
+    'symlinkat',
+    'mknod',
+    'mknodat',
+    'truncate',
+    'truncate64',
+}
+RIGHT_CHANGES = {
+    'chmod',
+    'fchmodat',
+    'fchmodat2',
+    'chown',
+    'lchown',
+    'fchownat',
+    'chown32',
+    'lchown32',
+}
+# The changes of a descriptor's file, beside those of its bytes.
+DESCRIPTOR_CHANGES = DATA_CHANGES | {'fchmod', 'fchown', 'fchown32'}
+FILE_SYNCS = {'fsync', 'fdatasync', 'msync'}
+WHOLE_SYNCS = {'sync', 'syncfs'}
+TARGET_PLACES = {'copy_file_range': 2, 'splice': 2, 'tee': 1}
+
+Moment = Tuple[int, int]
+
+
+def in_order(calls: List[Call]) -> List[Tuple[int, Call]]:
+    """The calls in the order of their operations in the trace, each with the log's line that it
+    counts from."""
+    moments: Dict[int, Moment] = {id(call): moment_of(call) for call in calls}
+    changes = ChangeIndex([call for call in calls if is_change(call)])
+    for sync in calls:
+        if sync.name in FILE_SYNCS or sync.name in WHOLE_SYNCS:
+            stand_apart(sync, changes.beside(sync), moments)
+    ordered = sorted(calls, key=lambda call: moments[id(call)])
+    return [(moments[id(call)][0], call) for call in ordered]
+
+
+def is_change(call: Call) -> bool:
+    return call.name in DESCRIPTOR_CHANGES | NAME_CHANGES | RIGHT_CHANGES
+
+
+def moment_of(call: Call) -> Moment:
+    begins = is_change(call) or call.name in ('close', 'close_range')
+    return (call.begin if begins else call.end, 1)
+
+
+class ChangeIndex:
+    """The changes of a log. Most are one line, and are found by a binary search."""
+
+    def __init__(self, changes: List[Call]) -> None:
+        self.long = [call for call in changes if call.begin != call.end]
+        self.short = [call for call in changes if call.begin == call.end]
+        self.lines = [call.begin for call in self.short]
+
+    def beside(self, sync: Call) -> List[Call]:
+        """The changes that overlap a sync."""
+        first = bisect.bisect_left(self.lines, sync.begin)
+        last = bisect.bisect_right(self.lines, sync.end)
+        return [call for call in self.short[first:last] + self.long if overlaps(sync, call)]
+
+
+def overlaps(sync: Call, change: Call) -> bool:
+    """Whether a change ran while a sync did, in another thread, and on what the sync covers."""
+    if sync.process == change.process or sync.end < change.begin or change.end < sync.begin:
+        return False
+    synced, changed = synced_path(sync), changed_paths(change)
+    if synced is None or changed is None:
+        return changed != set()
+    return synced in changed
+
+
+def stand_apart(sync: Call, changes: List[Call], moments: Dict[int, Moment]) -> None:
+    for change in changes:
+        moments[id(change)] = (change.end, 1)
+        moments[id(sync)] = min(moments[id(sync)], (change.end, 0))
+
+
+def synced_path(sync: Call) -> Optional[str]:
+    """The path that a sync covers; None if it may be any."""
+    return sync.descriptor().path if sync.name in ('fsync', 'fdatasync') else None
+
+
+def changed_paths(change: Call) -> Optional[Set[str]]:
+    """The paths whose syncs cover a change; None if that isn't known."""
+    if change.name in DESCRIPTOR_CHANGES:
+        path = change.descriptor(TARGET_PLACES.get(change.name, 0)).path
+        return set() if path is None else {path}
+    paths: Set[str] = set()
+    base: Optional[str] = None
+    for word in change.words:
+        shown = arguments.descriptor(word).path
+        if shown is not None:
+            base = shown
+        elif word.startswith('"'):
+            path = arguments.path(word)
+            if path is None or base is None and not path.startswith('/'):
+                return None
+            full = os.path.normpath(os.path.join(base or '/', path))
+            paths |= {full, os.path.dirname(full)}
+    return paths

@@ -1,0 +1,1 @@
+"""The system calls that the recorder translates, by what they change."""

@@ -1,0 +1,118 @@
+"""Calls that change modes and owners."""
+
+from __future__ import annotations
+
+from typing import Optional
+
+from crashfs_tools.common.trace import Chmod, Chown
+from crashfs_tools.recorder import acl, arguments
+from crashfs_tools.recorder.arguments import integer, octal
+from crashfs_tools.recorder.directory import group_name, user_name
+from crashfs_tools.recorder.live_tree import Node
+from crashfs_tools.recorder.processes import Process
+from crashfs_tools.recorder.live_files import LiveFiles
+from crashfs_tools.recorder.strace_log import Call
+
+UNCHANGED = {'-1', '4294967295', '0xffffffff'}
+PERMISSIONS = 0o777
+
+
+def on_chmod(files: LiveFiles, process: Process, call: Call) -> None:
+    set_mode(files, files.node_argument(process, call, 0), call.word(1))
+
+
+def on_fchmod(files: LiveFiles, process: Process, call: Call) -> None:
+    file = files.open_file(process, call)
+    set_mode(files, file.node if file else None, call.word(1))
+
+
+def on_fchmodat(files: LiveFiles, process: Process, call: Call) -> None:
+    set_mode(files, files.node_argument_at(process, call, 0), call.word(2))
+
+
+def set_mode(files: LiveFiles, node: Optional[Node], word: str) -> None:
+    # Some programs pass the kind of the file too, which the kernel ignores.
+    mode = octal(word) & 0o7777
+    if node is not None:
+        node.mode = mode & PERMISSIONS
+    path = path_in_trace(node)
+    if node is None or path is None:
+        return
+    if mode & ~PERMISSIONS:
+        files.recording.note(f'it gets the mode bits {mode & ~PERMISSIONS:o}, beyond 777', path)
+    if mode & PERMISSIONS != files.recording.tree.entries[path].mode:
+        node.has_new_rights = files.recording.add(Chmod(path, mode & PERMISSIONS))
+
+
+def on_chown(files: LiveFiles, process: Process, call: Call) -> None:
+    node = files.node_argument(process, call, 0)
+    set_owner(files, node, call.word(1), call.word(2))
+
+
+def on_fchown(files: LiveFiles, process: Process, call: Call) -> None:
+    file = files.open_file(process, call)
+    set_owner(files, file.node if file else None, call.word(1), call.word(2))
+
+
+def on_fchownat(files: LiveFiles, process: Process, call: Call) -> None:
+    node = files.node_argument_at(process, call, 0)
+    set_owner(files, node, call.word(2), call.word(3))
+
+
+def set_owner(files: LiveFiles, node: Optional[Node], user: str, group: str) -> None:
+    path = path_in_trace(node)
+    if node is None or path is None:
+        return
+    entry = files.recording.tree.entries[path]
+    owner = entry.owner if user in UNCHANGED else user_name(integer(user))
+    owning_group = entry.group if group in UNCHANGED else group_name(integer(group))
+    if (owner, owning_group) != (entry.owner, entry.group):
+        node.has_new_rights = files.recording.add(Chown(path, owner, owning_group))
+
+
+def path_in_trace(node: Optional[Node]) -> Optional[str]:
+    """The path at which the trace has a file or directory, or None if it has no name."""
+    return node.traced_path if node is not None and node.names else None
+
+
+def on_attribute(files: LiveFiles, process: Process, call: Call) -> None:
+    """Notes extended attributes, which no trace has; but a list of rights is a mode, too."""
+    node = attribute_node(files, process, call)
+    path = path_in_trace(node)
+    if path is None:
+        return
+    if call.name.endswith('setxattr') and arguments.path(call.word(1)) == acl.NAME:
+        entries = acl.entries_of(arguments.data(call.word(2)) or b'')
+        if entries is not None:
+            set_mode(files, node, f'{acl.mode_of(entries):o}')
+            if acl.is_mode(entries):
+                return
+    files.recording.note('its extended attributes change, which no trace has', path)
+
+
+def attribute_node(files: LiveFiles, process: Process, call: Call) -> Optional[Node]:
+    """The file whose attributes a call changes."""
+    if not call.name.startswith('f'):
+        return files.node_argument(process, call, 0)
+    file = files.open_file(process, call)
+    return file.node if file else None
+
+
+HANDLERS = {
+    'chmod': on_chmod,
+    'fchmod': on_fchmod,
+    'fchmodat': on_fchmodat,
+    'fchmodat2': on_fchmodat,
+    'chown': on_chown,
+    'lchown': on_chown,
+    'fchown': on_fchown,
+    'fchownat': on_fchownat,
+    'chown32': on_chown,
+    'lchown32': on_chown,
+    'fchown32': on_fchown,
+    **{
+        f'{kind}{name}': on_attribute
+        for kind in ('', 'l', 'f')
+        for name in ('setxattr', 'removexattr')
+    },
+}

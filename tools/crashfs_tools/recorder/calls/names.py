@@ -1,0 +1,288 @@
+"""Calls that make, rename and remove names."""
+
+from __future__ import annotations
+
+from typing import Optional
+
+from crashfs_tools.common.entry import parent_of
+from crashfs_tools.common.trace import Link, Rename, Rmdir, Unlink
+from crashfs_tools.recorder.arguments import octal
+from crashfs_tools.recorder.live_tree import Node
+from crashfs_tools.recorder.processes import Process
+from crashfs_tools.recorder.live_files import LiveFiles
+from crashfs_tools.recorder.strace_log import Call
+
+
+def on_unlink(files: LiveFiles, process: Process, call: Call) -> None:
+    remove_name(files, files.path_argument(process, call, 0))
+
+
+def on_rmdir(files: LiveFiles, process: Process, call: Call) -> None:
+    remove_directory(files, files.path_argument(process, call, 0))
+
+
+def on_unlinkat(files: LiveFiles, process: Process, call: Call) -> None:
+    path = files.path_argument_at(process, call, 0)
+    if 'AT_REMOVEDIR' in call.word(2):
+        remove_directory(files, path)
+    else:
+        remove_name(files, path)
+
+
+def remove_name(files: LiveFiles, path: Optional[str]) -> None:
+    """Removes a name. If the file keeps a name that the trace lacks, the trace renames it to
+    that."""
+    if path is None or path not in files.tree.nodes:
+        return
+    node = files.tree.remove(path)
+    if path not in node.traced_paths:
+        if node.names and node.traced_paths:
+            files.report('a hard link was made, and removed again', path)
+        return
+    node.traced_paths.discard(path)
+    if node.names and not node.traced_paths:
+        rename_traced(files, node, path, node.name)
+    else:
+        files.recording.add(Unlink(path))
+
+
+def rename_traced(files: LiveFiles, node: Node, source: str, target: str) -> None:
+    """Renames a file in the trace, from source to target."""
+    node.traced_paths.discard(source)
+    if files.recording.add(Rename(source, target)):
+        node.traced_paths.add(target)
+
+
+def remove_directory(files: LiveFiles, path: Optional[str]) -> None:
+    if path is None or path not in files.tree.nodes:
+        return
+    if path == '/':
+        files.report('the directory itself was removed', path)
+        return
+    node = files.tree.remove(path)
+    if path in node.traced_paths:
+        files.recording.add(Rmdir(path))
+        node.traced_paths.discard(path)
+
+
+def on_mkdir(files: LiveFiles, process: Process, call: Call) -> None:
+    make_directory(files, process, files.path_argument(process, call, 0), call.word(1))
+
+
+def on_mkdirat(files: LiveFiles, process: Process, call: Call) -> None:
+    make_directory(files, process, files.path_argument_at(process, call, 0), call.word(2))
+
+
+def make_directory(files: LiveFiles, process: Process, path: Optional[str], mode: str) -> None:
+    if path is not None:
+        bits = octal(mode) & ~process.paths.umask & 0o777
+        files.add_new(path, Node.directory(bits))
+
+
+def on_rename(files: LiveFiles, process: Process, call: Call) -> None:
+    rename_path(
+        files, files.path_argument(process, call, 0), files.path_argument(process, call, 1), ''
+    )
+
+
+def on_renameat(files: LiveFiles, process: Process, call: Call) -> None:
+    source, target = files.path_argument_at(process, call, 0), files.path_argument_at(
+        process, call, 2
+    )
+    rename_path(files, source, target, call.word(4))
+
+
+def rename_path(files: LiveFiles, source: Optional[str], target: Optional[str], flags: str) -> None:
+    if source is None and target is None:
+        return
+    if '/' in (source, target):
+        files.report('the directory itself was renamed, or replaced', '/')
+        return
+    node = files.tree.get(source)
+    if source is not None and 'RENAME_WHITEOUT' in flags:
+        files.report('RENAME_WHITEOUT left a device', source)
+    if source is None or node is None:
+        add_from_outside(files, target)
+    elif target is None:
+        move_outside(files, source, node)
+    elif 'RENAME_EXCHANGE' in flags:
+        exchange_names(files, source, target)
+    elif files.tree.get(target) is not node:
+        rename_file(files, source, target, node)
+
+
+def add_from_outside(files: LiveFiles, target: Optional[str]) -> None:
+    """Takes a file from outside, or from an ignored name: its bytes aren't known."""
+    if target is None:
+        return
+    files.report('renamed to from outside the directory, or from an ignored name', target)
+    if target in files.tree.nodes:
+        files.tree.remove(target)
+    files.tree.add(target, Node.unknown())
+
+
+def move_outside(files: LiveFiles, source: str, node: Node) -> None:
+    """Removes what was renamed to the outside, or to an ignored name."""
+    if node.is_directory and files.tree.below(source):
+        files.report('a directory with entries was renamed out of the directory', source)
+        forget_below(files, source)
+    elif node.is_directory:
+        remove_directory(files, source)
+    else:
+        remove_name(files, source)
+
+
+def forget_below(files: LiveFiles, path: str) -> None:
+    """Forgets a path and what is below it. The trace keeps both."""
+    for gone in [path] + files.tree.below(path):
+        files.tree.remove(gone).traced_paths.discard(gone)
+
+
+def exchange_names(files: LiveFiles, source: str, target: str) -> None:
+    files.report(f'exchanged with {target}, which no trace can say', source)
+    files.recording.differing.add(target)
+    for path in (source, target):
+        node = files.tree.get(path)
+        if node is not None and node.is_directory:
+            forget_below(files, path)
+        elif node is not None:
+            node.traced_paths.discard(path)
+    one, other = files.tree.get(source), files.tree.get(target)
+    if one is not None and other is not None:
+        files.tree.remove(source)
+        files.tree.remove(target)
+        files.tree.add(target, one)
+        files.tree.add(source, other)
+
+
+def rename_file(files: LiveFiles, source: str, target: str, node: Node) -> None:
+    if target in files.tree.nodes:
+        replace_name(files, files.tree.remove(target), target)
+    files.tree.move(source, target)
+    if node.is_directory:
+        rename_directory(files, source, target)
+    elif source in node.traced_paths:
+        rename_traced(files, node, source, target)
+    elif not node.traced_paths:
+        files.report('renamed to from a file that is not in the trace', target)
+
+
+def replace_name(files: LiveFiles, node: Node, path: str) -> None:
+    """Takes a path from a file: another file is renamed to it."""
+    if path in node.traced_paths:
+        node.traced_paths.discard(path)
+        if node.names and not node.traced_paths:
+            files.report('a file was replaced that has another name by a link', path)
+
+
+def rename_directory(files: LiveFiles, source: str, target: str) -> None:
+    files.report(
+        f'a directory was renamed to {target}: no trace can say it; what is done '
+        'below it is left out',
+        source,
+    )
+    files.recording.differing.add(target)
+    for path in [target] + files.tree.below(target):
+        files.tree.nodes[path].traced_paths.discard(source + path[len(target) :])
+
+
+def on_link(files: LiveFiles, process: Process, call: Call) -> None:
+    add_link(files, files.node_argument(process, call, 0), files.path_argument(process, call, 1))
+
+
+def on_linkat(files: LiveFiles, process: Process, call: Call) -> None:
+    add_link(
+        files, files.node_argument_at(process, call, 0), files.path_argument_at(process, call, 2)
+    )
+
+
+def add_link(files: LiveFiles, node: Optional[Node], target: Optional[str]) -> None:
+    """Adds a second name, or the first one of a file of O_TMPFILE."""
+    if target is None:
+        return
+    if node is None:
+        files.report('a link to a file without a name, or from outside the directory', target)
+        files.tree.add(target, Node.unknown())
+    elif node.is_temporary and not node.names:
+        name_temporary_file(files, node, target)
+    else:
+        files.tree.add(target, node)
+        source = node.traced_path
+        if source is not None and files.recording.add(Link(source, target)):
+            node.traced_paths.add(target)
+
+
+def name_temporary_file(files: LiveFiles, node: Node, path: str) -> None:
+    """Gives a file of O_TMPFILE its first name: the trace makes it there, with all its bytes."""
+    files.add_new(path, node)
+    if node.data and path in node.traced_paths:
+        files.write_bytes(node, 0, bytes(node.data))
+    if node.was_synced:
+        files.report(
+            'a file of O_TMPFILE that was synced before it had this name: the trace '
+            'has the sync after the name',
+            path,
+        )
+        files.sync_file(node)
+
+
+def on_symlink(files: LiveFiles, process: Process, call: Call) -> None:
+    add_untraceable(files, files.path_argument(process, call, 1), 'a symbolic link was made')
+
+
+def on_symlinkat(files: LiveFiles, process: Process, call: Call) -> None:
+    add_untraceable(files, files.path_argument_at(process, call, 1), 'a symbolic link was made')
+
+
+def on_mknod(files: LiveFiles, process: Process, call: Call) -> None:
+    make_node(files, process, files.path_argument(process, call, 0), call.word(1))
+
+
+def on_mknodat(files: LiveFiles, process: Process, call: Call) -> None:
+    make_node(files, process, files.path_argument_at(process, call, 0), call.word(2))
+
+
+def make_node(files: LiveFiles, process: Process, path: Optional[str], mode: str) -> None:
+    if path is None:
+        return
+    if 'S_IFREG' in mode or not mode.startswith('S_IF'):
+        bits = octal(mode.rpartition('|')[2]) & ~process.paths.umask & 0o777
+        files.add_new(path, Node.file(bits))
+    else:
+        add_untraceable(files, path, 'a device or a named pipe was made')
+
+
+def on_bind(files: LiveFiles, process: Process, call: Call) -> None:
+    """Reports a socket that is bound to a path."""
+    shown = call.word(1).partition('sun_path=')[2].partition('}')[0]
+    if shown.startswith('"'):
+        path = files.join_path(process.paths.directory, shown)
+        add_untraceable(files, path, 'a socket was bound')
+
+
+def add_untraceable(files: LiveFiles, path: Optional[str], what: str) -> None:
+    if path is None:
+        return
+    parent = files.tree.get(parent_of(path))
+    if parent is not None and parent.traced_path is not None:
+        files.report(what, path)
+    files.tree.add(path, Node.unknown())
+
+
+HANDLERS = {
+    'unlink': on_unlink,
+    'unlinkat': on_unlinkat,
+    'rmdir': on_rmdir,
+    'mkdir': on_mkdir,
+    'mkdirat': on_mkdirat,
+    'rename': on_rename,
+    'renameat': on_renameat,
+    'renameat2': on_renameat,
+    'link': on_link,
+    'linkat': on_linkat,
+    'symlink': on_symlink,
+    'symlinkat': on_symlinkat,
+    'mknod': on_mknod,
+    'mknodat': on_mknodat,
+    'bind': on_bind,
+}

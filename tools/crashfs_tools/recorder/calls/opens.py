@@ -1,0 +1,155 @@
+"""Calls that open, close and duplicate."""
+
+from __future__ import annotations
+
+import re
+from typing import Optional
+
+from crashfs_tools.recorder.arguments import integer, octal
+from crashfs_tools.recorder.live_tree import Node
+from crashfs_tools.recorder.processes import OpenFile, Process
+from crashfs_tools.recorder.live_files import UNKNOWN, LiveFiles
+from crashfs_tools.recorder.strace_log import Call
+
+
+def on_open(files: LiveFiles, process: Process, call: Call) -> None:
+    path = files.path_argument(process, call, 0)
+    open_path(files, process, call, call.word(0), path, call.word(1), call.word(2))
+
+
+def on_openat(files: LiveFiles, process: Process, call: Call) -> None:
+    path = files.path_argument_at(process, call, 0)
+    open_path(files, process, call, call.word(1), path, call.word(2), call.word(3))
+
+
+def on_openat2(files: LiveFiles, process: Process, call: Call) -> None:
+    how = call.word(2)
+    mode = re.search(r'mode=(0[0-7]*)', how)
+    path = files.path_argument_at(process, call, 0)
+    open_path(files, process, call, call.word(1), path, how, mode[1] if mode else '')
+
+
+def on_creat(files: LiveFiles, process: Process, call: Call) -> None:
+    path = files.path_argument(process, call, 0)
+    open_path(files, process, call, call.word(0), path, 'O_WRONLY|O_CREAT|O_TRUNC', call.word(1))
+
+
+def open_path(
+    files: LiveFiles,
+    process: Process,
+    call: Call,
+    word: str,
+    path: Optional[str],
+    flags: str,
+    mode: str,
+) -> None:
+    """Opens a path; word is the path as the call has it."""
+    known = files.open_file_of_path(process, word)
+    if known is not None and known.node is None:
+        process.descriptors.put(
+            call.result, OpenFile(None, stream=known.stream), 'O_CLOEXEC' in flags
+        )
+        return
+    if known is not None:
+        node = reopen(files, known, flags)
+    elif call.made.text is not None and not call.made.deleted:
+        made = call.made.path and files.relative_path(call.made.path)
+        node = node_to_open(files, process, made, flags, mode)
+    else:
+        node = node_to_open(files, process, path, flags, mode)
+    file = None if node is None else OpenFile.of(node, flags)
+    process.descriptors.put(call.result, file, 'O_CLOEXEC' in flags)
+
+
+def reopen(files: LiveFiles, known: OpenFile, flags: str) -> Optional[Node]:
+    """Opens a file again by its descriptor, also one that has no name any more."""
+    node = known.node
+    if node is not None and 'O_TRUNC' in flags and node.size:
+        files.set_length(node, 0)
+    return node
+
+
+def node_to_open(
+    files: LiveFiles, process: Process, path: Optional[str], flags: str, mode: str
+) -> Optional[Node]:
+    """The file that an open returns, created or truncated as its flags say."""
+    if path is None:
+        return None
+    if 'O_PATH' in flags:
+        return files.tree.get(path)
+    bits = octal(mode or '0') & ~process.paths.umask & 0o777
+    if 'O_TMPFILE' in flags:
+        made = Node.file(bits)
+        made.is_temporary = True
+        return made
+    node = files.tree.get(path)
+    if node is None and 'O_CREAT' in flags:
+        made = Node.file(bits)
+        files.add_new(path, made)
+        return made
+    if node is None:
+        files.report(f'opened, and it was made {UNKNOWN}', path)
+    elif 'O_TRUNC' in flags and not node.is_directory and node.size:
+        files.set_length(node, 0)
+    return node
+
+
+def on_close(files: LiveFiles, process: Process, call: Call) -> None:
+    process.descriptors.close(call.descriptor().number)
+
+
+def on_close_range(files: LiveFiles, process: Process, call: Call) -> None:
+    descriptors = process.descriptors
+    if 'UNSHARE' in call.word(2):
+        descriptors = process.descriptors = descriptors.copy()
+    first, last = integer(call.word(0)), integer(call.word(1))
+    for number in [n for n in descriptors.files if first <= n <= last]:
+        if 'CLOEXEC' in call.word(2):
+            descriptors.closed_by_exec.add(number)
+        else:
+            descriptors.close(number)
+
+
+def duplicate(files: LiveFiles, process: Process, call: Call, closed_by_exec: bool) -> None:
+    """Duplicates a descriptor; of one that acknowledges something, both are one stream."""
+    old, streams = call.descriptor(), files.recording.streams
+    if old.number == call.result:
+        return
+    file = process.descriptors.files.get(old.number)
+    if file is None and streams.is_asked(old.number):
+        file = OpenFile(None, stream=streams.find(old.number, old.text))
+        process.descriptors.files[old.number] = file
+    if file is not None and file.stream is not None and streams.is_asked(call.result):
+        file.stream.is_acknowledged = True
+    process.descriptors.put(call.result, file, closed_by_exec)
+
+
+def on_dup(files: LiveFiles, process: Process, call: Call) -> None:
+    duplicate(files, process, call, 'O_CLOEXEC' in call.word(2))
+
+
+def on_fcntl(files: LiveFiles, process: Process, call: Call) -> None:
+    number, command = call.descriptor().number, call.word(1)
+    if command.startswith('F_DUPFD'):
+        duplicate(files, process, call, 'CLOEXEC' in command)
+    elif command == 'F_SETFD' and 'FD_CLOEXEC' in call.word(2):
+        process.descriptors.closed_by_exec.add(number)
+    elif command == 'F_SETFD':
+        process.descriptors.closed_by_exec.discard(number)
+    elif command == 'F_SETFL' and number in process.descriptors.files:
+        process.descriptors.files[number].appends = 'O_APPEND' in call.word(2)
+
+
+HANDLERS = {
+    'open': on_open,
+    'openat': on_openat,
+    'openat2': on_openat2,
+    'creat': on_creat,
+    'close': on_close,
+    'close_range': on_close_range,
+    'dup': on_dup,
+    'dup2': on_dup,
+    'dup3': on_dup,
+    'fcntl': on_fcntl,
+    'fcntl64': on_fcntl,
+}

@@ -1,0 +1,140 @@
+"""Compares the directory at the end with the trace's last state: a difference is an error of the
+recording."""
+
+from __future__ import annotations
+
+from abc import ABC, abstractmethod
+from typing import Dict, Iterable, List, Optional, Set
+
+from crashfs_tools.common.entry import Entries, Entry
+from crashfs_tools.common.program import Crashfs
+from crashfs_tools.common.trace_read import replay
+from crashfs_tools.common.tree import Tree
+
+from .directory import Scan
+from .troubles import Trouble
+
+
+class LastState(ABC):
+    """A way to compute a trace's last state."""
+
+    name: str
+
+    @abstractmethod
+    def entries(self, trace: str) -> Entries:
+        """The entries of the last state of a trace's file, without the root."""
+
+
+class Replayed(LastState):
+    """By the recorder's own replay, from these lines if the trace is not in a file."""
+
+    name = "the recorder's replay"
+
+    def __init__(self, lines: Optional[Iterable[str]] = None) -> None:
+        self.lines = lines
+
+    def entries(self, trace: str) -> Entries:
+        if self.lines is not None:
+            tree = replay(self.lines)
+        else:
+            with open(trace, encoding='utf-8', newline='\n') as lines:
+                tree = replay(lines)
+        del tree.entries['/']
+        return tree.entries
+
+
+class ByProgram(LastState):
+    """By `crashfs tar`: the last prefix is the state with the number of all micro-operations."""
+
+    name = 'crashfs tar'
+
+    def __init__(self, program: Crashfs) -> None:
+        self.program = program
+
+    def entries(self, trace: str) -> Entries:
+        return self.program.tree(trace, self.program.states(trace, holes=False) - 1)
+
+
+def differences(directory: Scan, last: Entries, reported: Iterable[str]) -> List[str]:
+    """Lines on what differs, except for paths of which something is reported already."""
+    known = set(reported)
+    there = {entry.path: entry for entry in directory.entries}
+    lines = []
+    for path in sorted(there.keys() | last.keys()):
+        if is_below(path, known):
+            continue
+        if path not in last:
+            lines.append(f'{path}: it is there at the end, and the trace has it not')
+        elif path not in there:
+            lines.append(f'{path}: the trace has it, and at the end it is not there')
+        else:
+            start = there[path]
+            data = None if start.data is None else bytearray(start.data)
+            real = Entry(start.owner, start.group, start.mode, data)
+            lines += [f'{path}: {text}' for text in entry_differences(real, last[path])]
+    return lines
+
+
+def is_below(path: str, known: Set[str]) -> bool:
+    parts = path.split('/')
+    return any('/'.join(parts[:count]) in known for count in range(2, len(parts) + 1))
+
+
+def entry_differences(real: Entry, traced: Entry) -> List[str]:
+    found = []
+    if real.data != traced.data:
+        found.append('its bytes at the end are not those that the trace gives it')
+    if real.mode != traced.mode:
+        found.append(f'its mode is {real.mode:03o} at the end, and {traced.mode:03o} in the trace')
+    if (real.owner, real.group) != (traced.owner, traced.group):
+        found.append(
+            f'its owner is {real.owner}:{real.group} at the end, and '
+            f'{traced.owner}:{traced.group} in the trace'
+        )
+    return found
+
+
+def links_that_differ(directory: Scan, last: Tree, reported: Iterable[str]) -> List[str]:
+    """Lines on paths that are one file in the directory, and two in the trace, or the other way."""
+    known = set(reported)
+    groups: Dict[int, List[str]] = {}
+    for path, entry in last.entries.items():
+        groups.setdefault(id(entry), []).append(path)
+    traced = {path: min(group) for group in groups.values() for path in group}
+    lines = []
+    for path in sorted(traced.keys() & {entry.path for entry in directory.entries}):
+        real = directory.links.get(path, path)
+        if real != traced[path] and not is_below(path, known):
+            what = 'a link to' if real != path else 'no link to'
+            lines.append(
+                f'{path}: it is {what} {min(real, traced[path])} at the end, and not so in '
+                'the trace'
+            )
+    return lines
+
+
+def notes_on(before: Scan, now: Scan, troubles: List[Trouble]) -> List[str]:
+    """What a scan sees and no trace has, if nothing was reported of it."""
+    reported = {trouble.where for trouble in troubles}
+    changed = [
+        path
+        for path in sorted(before.attributes.keys() | now.attributes.keys())
+        if before.attributes.get(path) != now.attributes.get(path)
+    ]
+    lines = [f'{path}: its extended attributes differ, which no trace has' for path in changed]
+    lines += [
+        f'{path}: it has {why} at the end'
+        for path, why in now.noted
+        if (path, why) not in before.noted and 'mode bits' not in why
+    ]
+    return [f'not in the trace: {line}' for line in lines if line.partition(':')[0] not in reported]
+
+
+def left_out_at_the_end(before: Scan, now: Scan, reported: Iterable[str]) -> List[str]:
+    """Lines on devices, links and such that are new, if nothing was reported of them."""
+    known = set(reported)
+    return [
+        f'{path}: at the end it is {why}, which no trace has'
+        for path, why in now.left_out
+        if (path, why) not in before.left_out and not is_below(path, known)
+    ]

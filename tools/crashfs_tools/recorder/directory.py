@@ -1,0 +1,143 @@
+"""Scans a directory on the disk: what a trace can have of it, and what it can't."""
+
+from __future__ import annotations
+
+import grp
+import os
+import pwd
+import stat
+from dataclasses import dataclass, field
+from typing import Callable, Dict, List, Tuple
+
+from crashfs_tools.common import limits
+from crashfs_tools.common.trace import Header, Start
+from crashfs_tools.common.tree import path_fault
+
+Ignored = Callable[[str], bool]
+
+
+@dataclass
+class Scan:
+    """The entries of a directory, each after its own directory. links gives the first path of a
+    file that has several; left_out and noted have (path, why), and noted changes no verdict;
+    attributes has the extended ones of each path that has some."""
+
+    header: Header
+    entries: List[Start] = field(default_factory=list)
+    links: Dict[str, str] = field(default_factory=dict)
+    left_out: List[Tuple[str, str]] = field(default_factory=list)
+    noted: List[Tuple[str, str]] = field(default_factory=list)
+    attributes: Dict[str, Dict[str, bytes]] = field(default_factory=dict)
+
+
+def user_name(number: int) -> str:
+    try:
+        return pwd.getpwuid(number).pw_name
+    except KeyError:
+        return f'u{number}'
+
+
+def group_name(number: int) -> str:
+    try:
+        return grp.getgrgid(number).gr_name
+    except KeyError:
+        return f'g{number}'
+
+
+def permission_bits(status: os.stat_result) -> int:
+    return status.st_mode & 0o777
+
+
+def scan(top: str, ignored: Ignored) -> Scan:
+    """Reads a directory; OSError if it can't be read."""
+    return Scanner(top, ignored).scan()
+
+
+class Scanner:
+    """Reads a directory; firsts has the first path of each file that has several."""
+
+    def __init__(self, top: str, ignored: Ignored) -> None:
+        self.top, self.ignored = top, ignored
+        status = os.stat(top)
+        self.found = Scan(
+            Header(user_name(status.st_uid), group_name(status.st_gid), permission_bits(status))
+        )
+        self.firsts: Dict[Tuple[int, int], str] = {}
+        self.seen: Dict[Tuple[int, int], int] = {}
+
+    def scan(self) -> Scan:
+        self.below('')
+        for inode, path in self.firsts.items():
+            if self.seen[inode] > 0:
+                self.found.noted.append((path, 'that it has a name outside the directory'))
+        return self.found
+
+    def below(self, base: str) -> None:
+        with os.scandir(self.top + base) as listed:
+            names = sorted(entry.name for entry in listed)
+        for name in names:
+            path = f'{base}/{name}'
+            if not self.ignored(path):
+                self.entry(path, os.lstat(self.top + path))
+
+    def entry(self, path: str, status: os.stat_result) -> None:
+        fault = path_fault(path) or kind_fault(status)
+        if fault:
+            self.found.left_out.append((path, fault))
+            return
+        odd_bits = stat.S_IMODE(status.st_mode) & ~0o777
+        if odd_bits:
+            self.found.noted.append((path, f'its mode bits {odd_bits:o}, beyond 777'))
+        attributes = attributes_of(self.top + path)
+        if attributes:
+            self.found.attributes[path] = attributes
+        if stat.S_ISREG(status.st_mode) and status.st_nlink > 1:
+            self.link(path, status)
+        self.found.entries.append(entry_of(self.top, path, status))
+        if stat.S_ISDIR(status.st_mode):
+            self.below(path)
+
+    def link(self, path: str, status: os.stat_result) -> None:
+        inode = status.st_dev, status.st_ino
+        first = self.firsts.setdefault(inode, path)
+        self.seen[inode] = self.seen.get(inode, status.st_nlink) - 1
+        if first != path:
+            self.found.links[path] = first
+
+
+def attributes_of(path: str) -> Dict[str, bytes]:
+    """The extended attributes of a file; none if they can't be read."""
+    try:
+        return {name: os.getxattr(path, name) for name in os.listxattr(path)}
+    except OSError:
+        return {}
+
+
+def kind_fault(status: os.stat_result) -> str:
+    """Why a trace can't have a file of this kind, or nothing."""
+    if stat.S_ISDIR(status.st_mode):
+        return ''
+    if not stat.S_ISREG(status.st_mode):
+        return kind_of(status.st_mode)
+    if status.st_size > limits.FILE_BYTES:
+        return f'a file of more than {limits.FILE_BYTES} bytes'
+    return ''
+
+
+def kind_of(mode: int) -> str:
+    kinds = {
+        stat.S_IFLNK: 'a symbolic link',
+        stat.S_IFSOCK: 'a socket',
+        stat.S_IFIFO: 'a named pipe',
+    }
+    return kinds.get(stat.S_IFMT(mode), 'a device')
+
+
+def entry_of(top: str, path: str, status: os.stat_result) -> Start:
+    data = None
+    if stat.S_ISREG(status.st_mode):
+        with open(top + path, 'rb') as file:
+            data = file.read()
+    return Start(
+        path, user_name(status.st_uid), group_name(status.st_gid), permission_bits(status), data
+    )

@@ -1,0 +1,268 @@
+"""The files below the directory as the calls leave them: by path and by descriptor, and what each
+call adds to the recording."""
+
+from __future__ import annotations
+
+import os.path
+import re
+from dataclasses import dataclass
+from typing import Callable, Dict, List, Optional, Tuple
+
+from crashfs_tools.common import limits
+from crashfs_tools.common.entry import parent_of
+from crashfs_tools.common.trace import (
+    Creat,
+    Fsync,
+    FsyncRange,
+    Mkdir,
+    Operation,
+    StartLink,
+    Truncate,
+    Write,
+)
+
+from . import arguments
+from .directory import Ignored, Scan
+from .live_tree import Change, LiveTree, Node
+from .output_streams import OutputStream
+from .processes import Descriptors, OpenFile, PathContext, Process
+from .recording import Recording
+from .strace_log import Call
+
+UNKNOWN = 'by something that the log has not'
+# Paths that mean a descriptor of a process.
+BY_DESCRIPTOR = re.compile(r'^(?:/proc/(self|thread-self|\d+)(?:/task/\d+)?|/dev)/fd/(\d+)$')
+STANDARD_NAMES = {'/dev/stdin': 0, '/dev/stdout': 1, '/dev/stderr': 2}
+
+
+@dataclass(frozen=True)
+class StartConditions:
+    """What COMMAND started with: the directory's path as the calls name it, the umask, and the
+    owner and group of new files. resolve gives a path without symbolic links."""
+
+    top: str
+    umask: int
+    owner: str
+    group: str
+    resolve: Callable[[str], str] = os.path.normpath
+
+
+class LiveFiles:
+    """The state that the calls change. Handlers of calls are in the modules of `calls`."""
+
+    def __init__(
+        self, recording: Recording, conditions: StartConditions, scan: Scan, ignored: Ignored
+    ) -> None:
+        self.recording = recording
+        self.conditions = conditions
+        self.ignored = ignored
+        root = Node.directory(scan.header.mode)
+        root.traced_paths = {'/'}
+        self.tree = LiveTree(root)
+        self.processes: Dict[int, Process] = {}
+        # Syncs of writes that had not ended where the writes are, with their calls.
+        self.late_syncs: List[Tuple[Call, Node, int, int]] = []
+        self.has_copies = False
+        self.add_scan(scan)
+
+    def add_scan(self, scan: Scan) -> None:
+        """Takes what the directory has at the start, as the trace's start tree."""
+        trace = self.recording.trace
+        for entry in scan.entries[: limits.RECORDS - 1]:
+            source = scan.links.get(entry.path)
+            if source is not None and trace.has(StartLink):
+                node = self.tree.nodes[source]
+                trace.start.append(StartLink(entry.path, source))
+            else:
+                data = entry.data
+                node = Node.directory(entry.mode) if data is None else Node.file(entry.mode, data)
+                trace.start.append(entry)
+            node.traced_paths.add(entry.path)
+            self.tree.add(entry.path, node)
+            self.recording.tree.start(trace.start[-1])
+            if source is not None and not trace.has(StartLink):
+                self.report(f'the start tree leaves out that it is a link to {source}', entry.path)
+        self.add_left_out(scan)
+
+    def add_left_out(self, scan: Scan) -> None:
+        """Reports what the start tree doesn't have. Entries come after their directories."""
+        too_many = scan.entries[limits.RECORDS - 1 :]
+        if too_many:
+            self.report(
+                f'the start tree leaves out {len(too_many):,} of its files and directories: a '
+                f'trace has {limits.RECORDS - 1:,} at most',
+                '/',
+            )
+        for entry in too_many:
+            self.recording.differing.add(entry.path)
+            self.tree.add(entry.path, Node.unknown())
+        for path, why in scan.left_out:
+            self.report(f'the start tree leaves out {why}', path)
+            if path not in self.tree.nodes:
+                self.tree.add(path, Node.unknown())
+        for path, why in scan.noted:
+            self.recording.note(f'the start tree leaves out {why}', path)
+
+    def report(self, what: str, where: str) -> None:
+        """Reports what the trace doesn't have."""
+        self.recording.report(what, where)
+
+    def first_process(self) -> Process:
+        inherited = self.recording.streams.inherited()
+        files = {number: OpenFile(None, stream=stream) for number, stream in inherited.items()}
+        return Process(Descriptors(files), PathContext(self.conditions.top, self.conditions.umask))
+
+    # Paths
+
+    def relative_path(self, path: str) -> Optional[str]:
+        """A path as the trace has it; None for one outside the directory, or ignored."""
+        top = self.conditions.top
+        full = self.conditions.resolve(path)
+        if full == top:
+            return '/'
+        if not full.startswith(top.rstrip('/') + '/'):
+            return None
+        below = full[len(top.rstrip('/')) :]
+        return None if self.ignored(below) else below
+
+    def path_argument(self, process: Process, call: Call, place: int) -> Optional[str]:
+        """The path of an argument that has no descriptor before it."""
+        return self.join_path(process.paths.directory, call.word(place))
+
+    def path_argument_at(self, process: Process, call: Call, place: int) -> Optional[str]:
+        """The path of the argument after a directory's descriptor, which is at place."""
+        base = call.descriptor(place).path or process.paths.directory
+        return self.join_path(base, call.word(place + 1))
+
+    def join_path(self, base: str, word: str) -> Optional[str]:
+        path = arguments.path(word)
+        return None if path is None else self.relative_path(os.path.join(base, path))
+
+    def node_argument(self, process: Process, call: Call, place: int) -> Optional[Node]:
+        """The file of a path, also by /proc/self/fd."""
+        file = self.open_file_of_path(process, call.word(place))
+        return file.node if file else self.tree.get(self.path_argument(process, call, place))
+
+    def node_argument_at(self, process: Process, call: Call, place: int) -> Optional[Node]:
+        """The file of a path after a directory's descriptor; an empty one is the descriptor's."""
+        file = self.open_file_of_path(process, call.word(place + 1))
+        if call.word(place + 1) == '""':
+            file = process.descriptors.files.get(call.descriptor(place).number)
+        return file.node if file else self.tree.get(self.path_argument_at(process, call, place))
+
+    def open_file_of_path(self, process: Process, word: str) -> Optional[OpenFile]:
+        """The open file that a path of /proc or /dev means."""
+        path = arguments.path(word) or ''
+        if path in STANDARD_NAMES:
+            return process.descriptors.files.get(STANDARD_NAMES[path])
+        match = BY_DESCRIPTOR.match(path)
+        if not match:
+            return None
+        of = self.processes.get(int(match[1]), process) if (match[1] or '').isdigit() else process
+        return of.descriptors.files.get(int(match[2]))
+
+    def open_file(self, process: Process, call: Call, place: int = 0) -> Optional[OpenFile]:
+        """The open file of a descriptor; one below the directory that isn't known is reported."""
+        shown = call.descriptor(place)
+        file = process.descriptors.files.get(shown.number)
+        if file is None and shown.path is not None and not shown.deleted:
+            below = self.relative_path(shown.path)
+            if below is not None:
+                self.report(f'{call.name} by a descriptor that was opened {UNKNOWN}', below)
+        return file
+
+    def stream_of(self, process: Process, call: Call, place: int = 0) -> Optional[OutputStream]:
+        """The output stream that a descriptor's bytes go to, or None."""
+        shown = call.descriptor(place)
+        streams = self.recording.streams
+        file = process.descriptors.files.get(shown.number)
+        if file is not None and file.node is None and file.stream is not None:
+            if file.stream is streams.standard[1]:
+                streams.set_standard_output(shown.text)
+            return file.stream
+        return None if file is not None else streams.find(shown.number, shown.text)
+
+    # Changes
+
+    def add_new(self, path: str, node: Node) -> None:
+        """Adds a new file or directory; to the trace too, if that has its parent."""
+        self.tree.add(path, node)
+        parent = self.tree.get(parent_of(path))
+        if parent is None or parent.traced_path is None:
+            return
+        owner, group = self.conditions.owner, self.conditions.group
+        made: Operation = Creat(path, owner, group, node.mode)
+        if node.is_directory:
+            made = Mkdir(path, owner, group, node.mode)
+        if self.recording.add(made):
+            node.traced_paths.add(path)
+
+    def write_by_call(self, node: Node, offset: int, data: bytes, floats: object = None) -> None:
+        """Writes the bytes of the current call; floats is what gave them their place. Reports
+        changes that two calls made at once, if their order matters."""
+        if not data:
+            return
+        call, end = self.recording.call, offset + len(data)
+        if call is not None and node.add_change(
+            Change(call.process, call.begin, call.end, offset, end, floats, end > node.size)
+        ):
+            self.report(
+                'two calls changed it at once, and their order is not in the log', node.name
+            )
+        self.write_bytes(node, offset, data)
+
+    def write_bytes(self, node: Node, offset: int, data: bytes) -> None:
+        path = node.path_of_traced_bytes
+        node.put(offset, data)
+        if path is not None and not self.recording.add(Write(path, offset, bytes(data))):
+            node.drop_bytes()
+
+    def set_length(self, node: Node, length: int) -> None:
+        path = node.path_of_traced_bytes
+        node.resize(length)
+        if path is not None and not self.recording.add(Truncate(path, length)):
+            node.drop_bytes()
+
+    def drop_bytes(self, node: Node, what: str) -> None:
+        """Stops following a file's bytes after a change that no trace has."""
+        if node.names:
+            self.report(f'{what}; its later bytes are not recorded', node.name)
+        node.drop_bytes()
+
+    # Syncs
+
+    def sync_file(self, node: Node) -> None:
+        node.was_synced, node.has_new_rights = True, False
+        if node.traced_path is not None:
+            self.recording.add(Fsync(node.traced_path))
+
+    def sync_data(self, node: Node) -> None:
+        """Syncs a file's size and all its bytes, but not its mode and owner. Of a directory no
+        trace has such a sync: it is written as one that has both."""
+        if not node.is_directory:
+            self.sync_range(node, 0, limits.FILE_BYTES)
+            return
+        if node.has_new_rights:
+            self.report('fdatasync of a directory whose mode or owner was changed', node.name)
+        self.sync_file(node)
+
+    def sync_range(self, node: Node, offset: int, length: int) -> None:
+        node.was_synced = True
+        if node.traced_path is not None:
+            self.recording.add(FsyncRange(node.traced_path, offset, length))
+
+    def sync_when_ended(self, node: Node, offset: int, length: int) -> None:
+        """Adds the sync that a write makes when its call has ended."""
+        call = self.recording.call
+        if call is None or call.begin == call.end:
+            self.sync_range(node, offset, length)
+        else:
+            self.late_syncs.append((call, node, offset, length))
+
+    def add_ended_syncs(self, line: Optional[int]) -> None:
+        """Adds the syncs of writes that had ended before a line of the log; all for None."""
+        for late in sorted(self.late_syncs, key=lambda late: late[0].end):
+            if line is None or late[0].end < line:
+                self.late_syncs.remove(late)
+                self.recording.call = late[0]
+                self.sync_range(*late[1:])

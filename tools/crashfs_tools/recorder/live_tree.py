@@ -1,0 +1,136 @@
+"""The directory as the calls leave it: files with all their names, also those that no trace has."""
+
+from __future__ import annotations
+
+from dataclasses import dataclass, field
+from typing import Dict, List, Optional, Set
+
+from crashfs_tools.common import limits
+from crashfs_tools.common.tree import resize
+
+# What a write floats on that goes to the file's end.
+END = 'end'
+
+
+@dataclass(frozen=True)
+class Change:
+    """A change of a file's bytes, by the log's lines at which its call began and ended. floats is
+    what gave it its place: END, an open file whose offset is shared, or None."""
+
+    process: int
+    begin: int
+    end: int
+    first: int
+    last: int
+    floats: object
+    grows: bool
+
+    def is_unordered(self, other: Change) -> bool:
+        """Whether two changes ran at once, and their order decides the file's bytes."""
+        if self.process == other.process or self.begin > other.end or other.begin > self.end:
+            return False
+        meet = self.first < other.last and other.first < self.last
+        at_end = self.floats == END and other.grows or other.floats == END and self.grows
+        return meet or at_end or self.floats is not None and self.floats is other.floats
+
+
+@dataclass(eq=False)
+class Node:
+    """A file or directory.
+
+    traced_paths has the paths at which the trace has it. data is None for a directory, and for a
+    file whose bytes are not followed any more. size is kept. was_synced counts for a file that has
+    no name yet; has_new_rights, of a directory, means a mode or owner since its last fsync.
+    """
+
+    is_directory: bool
+    mode: int
+    data: Optional[bytearray] = None
+    size: int = 0
+    traced_paths: Set[str] = field(default_factory=set)
+    names: Set[str] = field(default_factory=set)
+    is_temporary: bool = False
+    was_synced: bool = False
+    has_new_rights: bool = False
+    recent: List[Change] = field(default_factory=list)
+
+    @staticmethod
+    def file(mode: int, data: bytes = b'') -> Node:
+        return Node(False, mode, bytearray(data), len(data))
+
+    @staticmethod
+    def directory(mode: int) -> Node:
+        return Node(True, mode)
+
+    @staticmethod
+    def unknown() -> Node:
+        """A file whose bytes aren't known: no trace has it."""
+        return Node(False, 0)
+
+    @property
+    def name(self) -> str:
+        return min(self.names) if self.names else '(a file without a name)'
+
+    @property
+    def traced_path(self) -> Optional[str]:
+        """One of the paths at which the trace has it, or None."""
+        return min(self.traced_paths, default=None)
+
+    @property
+    def path_of_traced_bytes(self) -> Optional[str]:
+        """The path in the trace of a file whose bytes it has up to now."""
+        return None if self.data is None else self.traced_path
+
+    def drop_bytes(self) -> None:
+        self.data = None
+
+    def put(self, offset: int, data: bytes) -> None:
+        end = offset + len(data)
+        self.resize(max(self.size, end))
+        if self.data is not None:
+            self.data[offset:end] = data
+
+    def resize(self, length: int) -> None:
+        """Cuts the file, or adds zeros; bytes of one that is too large are lost."""
+        self.size = length
+        if length > limits.FILE_BYTES:
+            self.drop_bytes()
+        if self.data is not None:
+            resize(self.data, length)
+
+    def add_change(self, change: Change) -> bool:
+        """Adds a change, and returns whether another ran at once whose order counts."""
+        self.recent = [one for one in self.recent if one.end >= change.begin]
+        unordered = any(change.is_unordered(one) for one in self.recent)
+        self.recent.append(change)
+        return unordered
+
+
+class LiveTree:
+    """Nodes by path; the root's is `/`."""
+
+    def __init__(self, root: Node) -> None:
+        self.nodes: Dict[str, Node] = {}
+        self.add('/', root)
+
+    def get(self, path: Optional[str]) -> Optional[Node]:
+        return None if path is None else self.nodes.get(path)
+
+    def add(self, path: str, node: Node) -> None:
+        self.nodes[path] = node
+        node.names.add(path)
+
+    def remove(self, path: str) -> Node:
+        node = self.nodes.pop(path)
+        node.names.discard(path)
+        return node
+
+    def below(self, path: str) -> List[str]:
+        return [other for other in self.nodes if other.startswith(path + '/')]
+
+    def move(self, source: str, target: str) -> None:
+        """Moves a node, and what is below it."""
+        below = self.below(source)
+        self.add(target, self.remove(source))
+        for path in below:
+            self.add(target + path[len(source) :], self.remove(path))

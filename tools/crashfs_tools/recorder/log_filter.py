@@ -1,0 +1,79 @@
+"""Which lines of strace's log need no reading: most calls of a program are on files elsewhere.
+
+A call on one descriptor counts only if the descriptor is of a file below the directory or of an
+output stream. A line that shows the directory's path, or the number of a descriptor that may be
+one, is read.
+"""
+
+from __future__ import annotations
+
+import re
+from typing import Iterable, Optional, Set
+
+# Calls that change nothing but what their first argument, a descriptor, is of.
+BY_DESCRIPTOR = frozenset(
+    ('read', 'readv', 'preadv2', 'lseek', '_llseek')
+    + ('write', 'pwrite64', 'writev', 'pwritev', 'pwritev2')
+    + ('ftruncate', 'ftruncate64', 'fallocate', 'fsync', 'fdatasync')
+    + ('sync_file_range', 'sync_file_range2', 'fcntl', 'fcntl64', 'close', 'ioctl')
+    + ('fchmod', 'fchown', 'fchown32', 'fsetxattr', 'fremovexattr')
+)
+# Calls that count only once a file of the directory is mapped.
+ON_MEMORY = frozenset(('mmap', 'mmap2', 'munmap', 'mremap', 'mprotect', 'msync'))
+# Calls whose result is a descriptor.
+MAKERS = frozenset(
+    ('open', 'openat', 'openat2', 'creat', 'dup', 'dup2', 'dup3', 'fcntl', 'fcntl64')
+)
+MAPPERS = ('mmap', 'mmap2')
+# The process, the call, its first descriptor, and whether strace shows a path for it.
+HEAD = re.compile(r'\d+\s+(\w+)\((?:(0x[0-9a-f]+|\d+)(?:<(\\x2f)?|[, )]))?')
+RESULT = re.compile(r' = (\d+)(?:<([^>]*)>)?[^>]*$')
+# Paths that may mean a descriptor.
+OF_DESCRIPTORS = tuple(''.join(f'\\x{byte:02x}' for byte in path) for path in (b'/dev/', b'/proc/'))
+
+
+class LogFilter:
+    """Knows which descriptors may be of files below a directory, or of streams, by the lines that
+    are read. The same number counts for all processes."""
+
+    def __init__(self, top: bytes, descriptors: Iterable[int] = ()) -> None:
+        self.top = ''.join(f'\\x{byte:02x}' for byte in top.rstrip(b'/') or b'/')
+        self.descriptors: Set[int] = {0, 1, 2, *descriptors}
+        self.has_mapped = False
+
+    def is_needless(self, line: str) -> bool:
+        """Whether a line of a call, or of a call's beginning, needs no reading."""
+        match = HEAD.match(line)
+        if match is None:
+            return False
+        name, number, path = match.groups()
+        if name in BY_DESCRIPTOR:
+            return (
+                number is not None
+                and int(number, 0) not in self.descriptors
+                and (path is not None or '<' not in match[0])
+                and self.top not in line
+            )
+        if name in ON_MEMORY:
+            return not self.has_mapped and self.top not in line
+        return False
+
+    def note(self, name: str, line: str) -> None:
+        """Takes a whole line that is read: it may make a descriptor, or map a file."""
+        if name in MAPPERS:
+            self.has_mapped |= self.top in line
+        elif name in MAKERS:
+            result = RESULT.search(line)
+            if result is not None and (self.may_count(line, result[2]) or self.is_known(line)):
+                self.descriptors.add(int(result[1]))
+
+    def may_count(self, line: str, shown: Optional[str]) -> bool:
+        """Whether a line makes a descriptor that may count, by what strace shows for it."""
+        if shown is None or self.top in shown:
+            return True
+        return any(path in line for path in OF_DESCRIPTORS)
+
+    def is_known(self, line: str) -> bool:
+        """Whether a line's first argument is a descriptor that may count."""
+        match = HEAD.match(line)
+        return match is not None and match[2] is not None and int(match[2], 0) in self.descriptors

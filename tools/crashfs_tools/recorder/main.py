@@ -1,0 +1,222 @@
+"""The command crashfs-record."""
+
+from __future__ import annotations
+
+import os
+import subprocess
+import sys
+from dataclasses import dataclass
+from typing import List, Optional, Tuple
+
+from crashfs_tools.common import descendants
+from crashfs_tools.common.command import Refused, print_line, write_whole
+from crashfs_tools.common.guard import Guard, Stopped, stop_by_exception
+from crashfs_tools.common.own_faults import prepare_standard_streams, print_own_fault
+from crashfs_tools.common.printable import printable
+from crashfs_tools.common.program import Crashfs
+from crashfs_tools.common.trace import Say
+
+from . import stacks, strace_run, summary
+from .begin_after import LateStart
+from .arguments import LogError
+from .directory import Scan, group_name, scan, user_name
+from .log_filter import LogFilter
+from .live_files import LiveFiles, StartConditions
+from .log_stream import LogStream
+from .mapped_files import FileCopies, MappedFiles
+from .options import NAME, RecordOptions, check, read_options
+from .output_streams import SayEach
+from .own_path import NOTE as OWN_PATH
+from .own_path import files_with_path
+from .recording import Recording, TraceSettings, is_private
+from .strace_log import Log, read_log
+from .translate import Translator
+
+NOTHING = 1
+WRITTEN, NOT_WRITTEN = 'the trace is written', 'no trace is written'
+BEGINS = 'it begins after an acknowledged line: what was not yet synced then counts as durable'
+
+
+@dataclass
+class RecordedRun:
+    """The results of a run of COMMAND: strace's log, the copies of mapped files, its status, the
+    signals that were passed to it, the processes that could not be ended, and why the log was not
+    kept whole."""
+
+    log: Log
+    copies: Optional[FileCopies] = None
+    status: int = 0
+    stops: Tuple[int, ...] = ()
+    output: Optional[str] = None
+    left: str = ''
+    log_fault: str = ''
+
+
+def run_command(options: RecordOptions, guard: Guard) -> RecordedRun:
+    strace = strace_run.find_strace()
+    mapped = MappedFiles(options.directory, options.ignored) if options.mapped else None
+    # Copies of mapped files are placed by all calls, also those on other files.
+    needed = None if options.mapped else log_filter(options, options.directory)
+    stream = LogStream(guard.directory, options.keep_log, mapped, needed)
+    line = strace_run.command_line(strace, stream.pipe, options)
+    running = strace_run.StraceRun(line, options, stream, guard)
+    try:
+        status = running.run()
+    finally:
+        left = guard.end_processes()
+    log = stream.end()
+    if log.first is None:
+        raise Refused('strace recorded nothing (it may not trace here: see its message)')
+    if not log.is_whole:
+        raise Refused("strace's log ends before COMMAND did")
+    if not log.has_begun:
+        raise Refused(f'{options.command[0]} could not be started (strace prints why)')
+    return RecordedRun(
+        log,
+        mapped.copies if mapped else None,
+        status,
+        tuple(running.stops),
+        running.output,
+        descendants.shown(left),
+        stream.fault.strerror if stream.fault else '',
+    )
+
+
+def log_filter(options: RecordOptions, top: str) -> LogFilter:
+    """Which lines of the log need reading, for a directory that the calls name so."""
+    numbers = [int(number) for number in options.acknowledged if number.isdigit()]
+    return LogFilter(os.fsencode(top), numbers)
+
+
+def load_log(path: str, needed: LogFilter) -> Log:
+    """Reads a log from a file; Refused if no process called anything."""
+    with open(path, encoding='ascii', errors='replace') as lines:
+        log = read_log(lines, needed)
+    if log.first is None:
+        raise Refused(f'{path} has no call of any process: strace -f -o FILE writes such a log')
+    return log
+
+
+def start_conditions(options: RecordOptions) -> StartConditions:
+    is_here = options.from_log is None
+    umask = os.umask(0)
+    os.umask(umask)
+    top = options.directory if is_here else options.log_directory or options.directory
+    return StartConditions(
+        top if is_here else os.path.normpath(top),
+        umask if is_here else 0o022,
+        user_name(os.geteuid()),
+        group_name(os.getegid()),
+        resolve if is_here else os.path.normpath,
+    )
+
+
+def resolve(path: str) -> str:
+    """A path without symbolic links, except for its last name."""
+    parent, name = os.path.split(os.path.normpath(path))
+    return os.path.join(os.path.realpath(parent), name) if name else path
+
+
+def record(options: RecordOptions) -> int:
+    check(options)
+    Crashfs.find(options.crashfs)
+    before = scan(options.directory, options.ignored)
+    settings = TraceSettings(
+        options.acknowledged,
+        SayEach(options.each) if options.each else None,
+        options.profile,
+        options.block,
+    )
+    recording = Recording(before.header, settings)
+    files = LiveFiles(recording, start_conditions(options), before, options.ignored)
+    if options.from_log is not None:
+        run = RecordedRun(load_log(options.from_log, log_filter(options, files.conditions.top)))
+        if not run.log.is_whole:
+            recording.report('the log ends before the program did', '/')
+    else:
+        with Guard('crashfs-record-') as guard:
+            run = run_command(options, guard)
+    translate(options, files, run)
+    write_trace(options, recording)
+    try:
+        return finish(options, recording, before, run)
+    except OSError as error:
+        print_text(f'{error.filename or options.out}: {error.strerror}; {WRITTEN}')
+    except Exception as error:
+        print_own_fault(NAME, error, WRITTEN)
+    return summary.NOT_WHOLE
+
+
+def write_trace(options: RecordOptions, recording: Recording) -> None:
+    """Writes the trace; only for its owner if a file that it has is not for everybody."""
+    mode = 0o600 if is_private(recording.trace) else 0o666
+    write_whole(options.out, (line + '\n' for line in recording.trace.lines()), mode)
+
+
+def finish(options: RecordOptions, recording: Recording, before: Scan, run: RecordedRun) -> int:
+    """Compares the trace, which is written, prints what it doesn't have, and returns the status."""
+    found = summary.final_report(recording, options, summary.ending_of(run.status, run.stops))
+    how = summary.NOT_COMPARED
+    if options.from_log is None:
+        how = summary.compare(options, recording, before, found)
+    also = [BEGINS] if recording.begins_later else []
+    also += summary.without_stack(recording.trace) if options.stacks else []
+    for line in found.lines + found.notes + also:
+        print_text(line)
+    print_text(summary.summary(options, recording, how))
+    return found.status
+
+
+def print_text(text: str) -> None:
+    """Prints a line on standard error; names in it can't control the terminal."""
+    print_line(NAME, printable(text))
+
+
+def translate(options: RecordOptions, files: LiveFiles, run: RecordedRun) -> None:
+    """Translates the log into the recording's operations."""
+    recording = files.recording
+    if run.log.cut is not None:
+        recording.report(f'line {run.log.cut} of the log is not a whole call, and is left out', '/')
+    if run.log_fault:
+        recording.report(f'its log is cut: {run.log_fault}', options.keep_log or '')
+    if run.left:
+        recording.report(f'a process that COMMAND left could not be ended: {run.left}', '/')
+    recording.streams.set_standard_output(run.output)
+    if options.stacks or any(call.frames for call in run.log.calls):
+        for program in stacks.note_all(run.log.calls):
+            print_text(f'--stacks: no source line of {program} is known{stacks.reason()}')
+    wanted = options.begin_after
+    start = None if wanted is None else LateStart(recording, wanted)
+    Translator(files, run.log, run.copies).run()
+    if start is not None and not start.has_begun:
+        recording.report(
+            f'no acknowledged line is {wanted}: the trace begins with COMMAND', '--begin-after'
+        )
+    for path in files_with_path(recording.trace, files.conditions.top):
+        recording.note(OWN_PATH, path)
+    operations = recording.trace.operations
+    if options.from_log is not None and all(isinstance(it, Say) for it in operations):
+        raise Refused(
+            f'{options.from_log} changes nothing below {files.conditions.top}: '
+            '--log-dir is the path that DIR had there'
+        )
+
+
+def main(arguments: Optional[List[str]] = None) -> int:
+    prepare_standard_streams()
+    options = read_options(sys.argv[1:] if arguments is None else arguments)
+    stop_by_exception()
+    try:
+        return record(options)
+    except Stopped as stopped:
+        print_text(f'stopped by {stopped}; nothing is written')
+        return stopped.status
+    except (Refused, LogError) as refused:
+        print_text(f'{refused}')
+    except OSError as error:
+        print_text(f'{error.filename or options.out}: {error.strerror}; {NOT_WRITTEN}')
+    except subprocess.SubprocessError as error:
+        print_text(f'{error}')
+    except Exception as error:
+        print_own_fault(NAME, error, NOT_WRITTEN)
+    return NOTHING

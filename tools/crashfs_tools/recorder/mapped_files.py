@@ -1,0 +1,139 @@
+"""Copies of files that are mapped for writing: strace sees no stores, so the program is stopped
+at each call that syncs, writes or prints, and the files are read."""
+
+from __future__ import annotations
+
+import os
+import re
+from dataclasses import dataclass, field
+from typing import Dict, Iterable, List, Set, Tuple
+
+from crashfs_tools.common import limits
+
+from . import arguments, stopped_processes
+from .directory import Ignored
+
+STOPPING_CALLS = (
+    'msync',
+    'fsync',
+    'fdatasync',
+    'sync',
+    'syncfs',
+    'write',
+    'pwrite64',
+    'writev',
+    'pwritev',
+    'pwritev2',
+    'sendto',
+    'sendmsg',
+    'sendfile',
+    'splice',
+    'ftruncate',
+    'truncate',
+    'ftruncate64',
+    'truncate64',
+    'fallocate',
+    'rename',
+    'renameat',
+    'renameat2',
+    'link',
+    'linkat',
+    'unlink',
+    'unlinkat',
+    'mmap',
+    'mmap2',
+    'munmap',
+    'mremap',
+    'copy_file_range',
+)
+MAPPED = re.compile(
+    r'^(\d+) +mmap2?\([^,]*, \d+, [^,]*, [^,]*MAP_SHARED[^,]*, ' r'(\d+)<((?:\\x[0-9a-f]{2})+)>'
+)
+
+
+@dataclass
+class FileCopy:
+    """The bytes of files that changed since the copy before, by the file's number; taken when so
+    many lines of the log had been read. It is alone if the process has no other thread; shared
+    has the files that other processes have mapped too. process is 0 for the copy at the end."""
+
+    line: int
+    process: int
+    is_alone: bool
+    files: Dict[int, bytes]
+    shared: Set[int] = field(default_factory=set)
+
+    def is_sure(self, number: int) -> bool:
+        """Whether only the stopped process could store to a file."""
+        return self.is_alone and number not in self.shared
+
+
+@dataclass
+class FileCopies:
+    """All copies of a run. numbers gives the files' by the log's lines of their mappings; missed
+    has the paths of mapped files that could not be opened."""
+
+    taken: List[FileCopy] = field(default_factory=list)
+    numbers: Dict[int, int] = field(default_factory=dict)
+    missed: List[str] = field(default_factory=list)
+
+
+class MappedFiles:
+    """The files below a directory that were mapped."""
+
+    def __init__(self, top: str, ignored: Ignored) -> None:
+        self.top, self.ignored = top, ignored
+        self.copies = FileCopies()
+        self.inodes: Dict[Tuple[int, int], int] = {}
+        self.descriptors: List[int] = []
+        self.last: Dict[int, bytes] = {}
+
+    def note(self, line: str, number: int) -> None:
+        """Looks for a mapping in a line of strace's. Its file is held open from then on, since
+        it may be renamed or unlinked later."""
+        match = MAPPED.match(line)
+        path = arguments.shown_path(match[3]) if match else None
+        if match is None or path is None or not path.startswith(self.top.rstrip('/') + '/'):
+            return
+        if self.ignored(path[len(self.top.rstrip('/')) :]):
+            return
+        for way in (path, f'/proc/{match[1]}/fd/{match[2]}'):
+            try:
+                self.hold(os.open(way, os.O_RDONLY), number)
+                return
+            except OSError:
+                continue
+        self.copies.missed.append(path[len(self.top.rstrip('/')) :])
+
+    def hold(self, descriptor: int, number: int) -> None:
+        status = os.fstat(descriptor)
+        inode = status.st_dev, status.st_ino
+        if inode in self.inodes:
+            os.close(descriptor)
+        else:
+            self.inodes[inode] = len(self.descriptors)
+            self.descriptors.append(descriptor)
+        self.copies.numbers[number] = self.inodes[inode]
+
+    def copy(self, line: int, process: int, is_alone: bool, others: Iterable[int] = ()) -> None:
+        """Takes a copy of what changed since the last one."""
+        changed: Dict[int, bytes] = {}
+        for number, descriptor in enumerate(self.descriptors):
+            data = os.pread(descriptor, limits.FILE_BYTES + 1, 0)
+            if self.last.get(number) != data:
+                changed[number] = self.last[number] = data
+        shared = self.mapped_by(others) & changed.keys() if changed else set()
+        self.copies.taken.append(FileCopy(line, process, is_alone, changed, shared))
+
+    def mapped_by(self, processes: Iterable[int]) -> Set[int]:
+        """The files that processes have mapped."""
+        mapped: Set[str] = set()
+        for process in processes:
+            mapped |= stopped_processes.inodes_mapped(process)
+        return {number for (_, inode), number in self.inodes.items() if str(inode) in mapped}
+
+    def end(self, line: int) -> None:
+        """The last copy, of what the program left."""
+        self.copy(line, 0, True)
+        for descriptor in self.descriptors:
+            os.close(descriptor)

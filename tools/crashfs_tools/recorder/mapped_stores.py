@@ -1,0 +1,68 @@
+"""Finds stores through mappings, by copies of the mapped files, and their place in the trace."""
+
+from __future__ import annotations
+
+import bisect
+from typing import Dict, List, Tuple
+
+from crashfs_tools.common import limits
+
+from .live_tree import Node
+from .mapped_files import STOPPING_CALLS, FileCopies, FileCopy
+from .live_files import LiveFiles
+from .strace_log import Call
+
+NOT_ALONE = (
+    'stored through its mapping while other threads or processes ran: which of their '
+    'calls it came before is not sure'
+)
+
+
+def copies_by_call(
+    calls: List[Call], ordered: List[Call], copies: FileCopies
+) -> Dict[int, List[FileCopy]]:
+    """For each call, by its id, the copies whose stores were made before it: the last call of the
+    stopped process; of several threads, the first of the trace that could have been."""
+    ends = [call.end for call in calls]
+    places = {id(call): place for place, call in enumerate(ordered)}
+    latest: Dict[int, Call] = {}
+    found: Dict[int, List[FileCopy]] = {}
+    before = 0
+    for copy in [copy for copy in copies.taken if copy.process]:
+        after = bisect.bisect_right(ends, copy.line)
+        window = calls[before:after]
+        before = after
+        latest.update((call.process, call) for call in window)
+        if copy.files and after:
+            stopping = [call for call in window if call.name in STOPPING_CALLS]
+            own = latest.get(copy.process, calls[after - 1])
+            is_own = copy.is_alone or not stopping
+            chosen = own if is_own else min(stopping, key=lambda call: places[id(call)])
+            found.setdefault(id(chosen), []).append(copy)
+    return found
+
+
+def add_stores(files: LiveFiles, node: Node, data: bytes, is_sure: bool) -> None:
+    """Adds the stores that a copy of a mapped file shows: each page that differs is one."""
+    if node.data is None:
+        return
+    if len(data) != node.size:
+        files.report('a copy of the mapped file has another size than is known', node.name)
+        return
+    for begin in range(0, len(data), limits.BLOCK_BYTES):
+        end = begin + limits.BLOCK_BYTES
+        first, last = difference(node.data[begin:end], data[begin:end])
+        if first < last and not is_sure:
+            files.report(NOT_ALONE, node.name)
+        if first < last:
+            files.write_bytes(node, begin + first, data[begin + first : begin + last])
+        if node.data is None:
+            return
+
+
+def difference(old: bytes, new: bytes) -> Tuple[int, int]:
+    """The smallest range that has all bytes in which two pages of one size differ."""
+    if old == new:
+        return 0, 0
+    places = [place for place in range(len(new)) if old[place] != new[place]]
+    return places[0], places[-1] + 1

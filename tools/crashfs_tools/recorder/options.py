@@ -1,0 +1,209 @@
+"""The command line of crashfs-record."""
+
+from __future__ import annotations
+
+import argparse
+import os
+from dataclasses import dataclass, field
+from typing import List, Optional
+
+from crashfs_tools.common.command import Refused, folder_of, found, parse
+from crashfs_tools.common.trace import BLOCK_SIZES, BLOCKS, PROFILES
+from crashfs_tools.common.version import version_of
+
+from .ignore import Ignore, Rule
+from .output_streams import SOCKETS, SayEach
+
+NAME = 'crashfs-record'
+
+DESCRIPTION = """\
+Records what COMMAND does to the directory DIR, as a trace that crashfs reads.
+
+COMMAND runs in DIR under strace, and changes DIR as it would without crashfs-record. The content of
+DIR before the run becomes the start lines. Each call that changes something below DIR becomes an
+operation. Each line that COMMAND writes to its standard output becomes a `say`: COMMAND
+acknowledged it to its user."""
+
+EPILOG = """\
+status: 0 the trace is complete; 4 it is complete except for things that can't make a state good or
+bad (each is printed); 3 it is written, but can't say all that happened, or no loss can be seen
+(each is printed); 1 nothing is written; 2 the command line is refused. Ctrl-C and SIGTERM are
+passed to COMMAND, and what was recorded is written; a second one kills COMMAND.
+
+example: crashfs-record store.d store.trace -- sqlite3 test.db ".read session.sql" """
+
+
+@dataclass
+class RecordOptions:
+    directory: str
+    out: str
+    command: List[str]
+    ignore: List[str]
+    mapped: bool
+    stacks: bool
+    begin_after: Optional[str]
+    acknowledged: List[str]
+    each: Optional[str]
+    no_say: bool
+    keep_log: Optional[str]
+    from_log: Optional[str]
+    log_directory: Optional[str]
+    crashfs: Optional[str]
+    profile: str
+    block: int
+    ignored: Ignore = field(init=False)
+
+    def __post_init__(self) -> None:
+        self.acknowledged = self.acknowledged or ['1']
+        self.ignored = Ignore(self.ignore, self.directory)
+
+
+def parser() -> argparse.ArgumentParser:
+    made = argparse.ArgumentParser(
+        prog=NAME,
+        description=DESCRIPTION,
+        epilog=EPILOG,
+        usage='crashfs-record [OPTION].. DIR OUT.trace -- COMMAND [ARG]..',
+        formatter_class=argparse.RawDescriptionHelpFormatter,
+    )
+    made.add_argument('--version', action='version', version=version_of(NAME))
+    made.add_argument('directory', metavar='DIR', help='the directory that COMMAND changes')
+    made.add_argument('out', metavar='OUT.trace', help='the trace to write; - is standard output')
+    add_what_is_recorded(made)
+    add_the_trace(made)
+    add_logs(made)
+    return made
+
+
+def add_what_is_recorded(made: argparse.ArgumentParser) -> None:
+    made.add_argument(
+        '--mapped',
+        action='store_true',
+        help='also record stores through shared mappings: COMMAND is stopped at each '
+        'call that syncs, writes, maps or changes a name (slower)',
+    )
+    made.add_argument(
+        '--ignore',
+        metavar='GLOB',
+        action='append',
+        type=glob,
+        default=[],
+        help='leave out files that match, by the rules of .gitignore (may be ' 'repeated)',
+    )
+    made.add_argument(
+        '--say-fd',
+        metavar='N',
+        action='append',
+        default=[],
+        dest='acknowledged',
+        type=descriptor,
+        help="take the acknowledged lines from COMMAND's descriptor N, not from "
+        f"standard output; `{SOCKETS}`: from each connection that it accepts "
+        '(may be repeated)',
+    )
+    made.add_argument(
+        '--say-each',
+        metavar='WHAT',
+        dest='each',
+        choices=[each.value for each in SayEach],
+        help='what acknowledges something: each `line`, or each `write`, as in binary '
+        'protocols (default: line; over a connection without line feeds: write)',
+    )
+    made.add_argument(
+        '--no-say',
+        action='store_true',
+        help='do not warn if no line is acknowledged, if all are in one write, or if one is held '
+        'for long',
+    )
+    made.add_argument(
+        '--stacks',
+        action='store_true',
+        help="note at each operation which of COMMAND's functions made it (slower)",
+    )
+
+
+def add_the_trace(made: argparse.ArgumentParser) -> None:
+    made.add_argument(
+        '--begin-after',
+        metavar='LINE',
+        help='begin the trace after the acknowledged line with this number, or after '
+        'the first that matches; earlier changes belong to the start tree',
+    )
+    made.add_argument(
+        '--profile',
+        choices=PROFILES,
+        default=BLOCKS,
+        help='which directory operations the file system keeps in order: only those '
+        'of the same names (blocks, the default), or all (ordered)',
+    )
+    made.add_argument(
+        '--block',
+        type=int,
+        choices=BLOCK_SIZES,
+        default=BLOCK_SIZES[-1],
+        help='how many bytes the disk writes whole; with 512, records inside a page '
+        'may be torn (default: 4096)',
+    )
+    made.add_argument(
+        '--crashfs',
+        metavar='PATH',
+        help='the program crashfs, for the comparison at the end (default: the one ' 'on PATH)',
+    )
+
+
+def add_logs(made: argparse.ArgumentParser) -> None:
+    made.add_argument('--keep-log', metavar='FILE', help="keep strace's log")
+    made.add_argument(
+        '--from-log',
+        metavar='FILE',
+        help='run nothing, but convert the log of an earlier run; DIR must be as it '
+        'was before that run',
+    )
+    made.add_argument(
+        '--log-dir',
+        metavar='PATH',
+        dest='log_directory',
+        help="with --from-log: DIR's path where the log was written",
+    )
+
+
+def glob(text: str) -> str:
+    """A pattern of --ignore, as it is."""
+    try:
+        Rule.of(text)
+    except ValueError as error:
+        raise argparse.ArgumentTypeError(str(error)) from error
+    return text
+
+
+def descriptor(word: str) -> str:
+    if word != SOCKETS and not word.isdigit():
+        raise argparse.ArgumentTypeError(f'{word} is neither a number nor `{SOCKETS}`')
+    return word
+
+
+def read_options(arguments: List[str]) -> RecordOptions:
+    made = parser()
+    values, command = parse(made, arguments)
+    if values.from_log is None and not command:
+        made.error('COMMAND is missing: put -- before it')
+    if values.from_log is not None and (
+        command or values.mapped or values.keep_log or values.stacks
+    ):
+        made.error('--from-log goes with no COMMAND, --mapped, --stacks or --keep-log')
+    return RecordOptions(command=command, **vars(values))
+
+
+def check(options: RecordOptions) -> None:
+    """Refuses, before anything runs, options that can't work."""
+    if not os.path.isdir(options.directory):
+        raise Refused(f'{options.directory} is no directory')
+    options.directory = os.path.realpath(options.directory)
+    options.ignored = Ignore(options.ignore, options.directory)
+    for path in (options.out, options.keep_log):
+        if path is None or path == '-':
+            continue
+        folder = folder_of(path)
+        if (folder + '/').startswith(options.directory.rstrip('/') + '/'):
+            raise Refused(f'{path} would be in {options.directory}, which is recorded')
+    options.command = found(options.command) if options.command else []

@@ -1,0 +1,170 @@
+"""The streams that COMMAND writes to: those that acknowledge something, and others.
+
+Some streams acknowledge by lines: each counts from the write that ends it. Others acknowledge by
+writes, as binary protocols do: each write counts.
+"""
+
+from __future__ import annotations
+
+from dataclasses import dataclass, field
+from enum import Enum
+from typing import Dict, FrozenSet, Iterable, Iterator, List, Optional, Sequence, Set
+
+from . import arguments
+from .strace_log import WRITES, Call
+
+OUTPUT, ERRORS = 'standard output', 'standard error'
+# What --say-fd takes for every connection that COMMAND accepts.
+SOCKETS = 'socket'
+ACCEPTS = ('accept', 'accept4')
+SENDS = ('sendto', 'sendmsg', 'sendmmsg')
+
+
+class SayEach(Enum):
+    """What counts as one acknowledgement: a line or a write."""
+
+    LINE = 'line'
+    WRITE = 'write'
+
+
+@dataclass(eq=False)
+class OutputStream:
+    """A stream that COMMAND writes to.
+
+    pieces has the bytes of a line that has no end yet, and moment how many changes the recording
+    had at the newest of them. gaps is how often changes came between two pieces of the newest line,
+    and most_gaps the largest number of any line. is_held means that changes came between the last
+    line, which has no end, and the end. writes counts those that brought something whole.
+    """
+
+    name: str
+    is_acknowledged: bool
+    each: SayEach = SayEach.LINE
+    pieces: List[bytes] = field(default_factory=list)
+    lines: int = 0
+    writes: int = 0
+    moment: int = 0
+    gaps: int = 0
+    most_gaps: int = 0
+    is_held: bool = False
+
+    def texts_of(self, data: bytes, moment: int) -> List[bytes]:
+        """Takes the bytes of a write, and returns the texts that it acknowledges."""
+        if self.each is SayEach.WRITE:
+            texts = [as_line(data)] if data else []
+        else:
+            texts = self.complete_lines(data, moment)
+        self.lines += len(texts)
+        self.writes += bool(texts)
+        return texts
+
+    def complete_lines(self, data: bytes, moment: int) -> List[bytes]:
+        """The lines that a write completes, without their ends."""
+        if not self.pieces:
+            self.gaps = 0
+        elif moment != self.moment:
+            self.gaps += 1
+            self.most_gaps = max(self.most_gaps, self.gaps)
+        self.moment = moment
+        head, end, rest = data.rpartition(b'\n')
+        if not end:
+            self.pieces.append(data)
+            return []
+        lines = b''.join([*self.pieces, head]).split(b'\n')
+        self.pieces = [rest] if rest else []
+        return [line[:-1] if line.endswith(b'\r') else line for line in lines]
+
+
+def as_line(data: bytes) -> bytes:
+    r"""The bytes of a write as one line: without the line's end, and with escapes (`\n`, `\r`,
+    `\x80`) for other line feeds, carriage returns, and bytes that aren't UTF-8."""
+    for end in (b'\n', b'\r'):
+        data = data[:-1] if data.endswith(end) else data
+    text = data.decode('utf-8', 'backslashreplace')
+    return text.replace('\n', '\\n').replace('\r', '\\r').encode()
+
+
+@dataclass
+class OutputStreams:
+    """All streams of a session, by the text that strace shows for a descriptor, as `pipe:[7]`, so
+    that every way to the same pipe is one stream.
+
+    acknowledged has the descriptors that count. each is what counts as an acknowledgement; None is
+    lines, but writes for connections over which no line feed is sent. with_lines has the
+    connections over which one is sent.
+    """
+
+    acknowledged: Sequence[str] = ('1',)
+    each: Optional[SayEach] = None
+    with_lines: FrozenSet[str] = frozenset()
+    by_text: Dict[str, OutputStream] = field(default_factory=dict)
+    standard: Dict[int, OutputStream] = field(default_factory=dict)
+
+    def __post_init__(self) -> None:
+        self.standard = {1: self.new(OUTPUT, 1), 2: self.new(ERRORS, 2)}
+
+    def new(self, name: str, number: int) -> OutputStream:
+        return OutputStream(name, str(number) in self.acknowledged, self.each or SayEach.LINE)
+
+    def is_asked(self, number: int) -> bool:
+        """Whether --say-fd names a descriptor that isn't a standard one."""
+        return number > 2 and str(number) in self.acknowledged
+
+    def inherited(self) -> Dict[int, OutputStream]:
+        """The streams that COMMAND may start with, by their descriptors."""
+        asked = [int(number) for number in self.acknowledged if number.isdigit()]
+        named = {
+            number: self.by_text.setdefault(f'{number}', self.new(f'descriptor {number}', number))
+            for number in asked
+            if number > 2
+        }
+        return {**self.standard, **named}
+
+    def set_standard_output(self, text: Optional[str]) -> None:
+        """Takes the pipe that is COMMAND's standard output."""
+        if text is not None and text.startswith('pipe:'):
+            self.by_text.setdefault(text, self.standard[1])
+
+    def add_connection(self, text: Optional[str]) -> None:
+        """Takes a connection that COMMAND accepted."""
+        if SOCKETS in self.acknowledged and text is not None:
+            each = SayEach.LINE if text in self.with_lines else SayEach.WRITE
+            self.by_text[text] = OutputStream('a socket', True, self.each or each)
+
+    def find(self, number: int, text: Optional[str]) -> Optional[OutputStream]:
+        """The stream of a descriptor that isn't known as a standard one. Two descriptors of a
+        device may be two streams."""
+        if text is None:
+            return None
+        known = self.by_text.get(text)
+        if known is not None or not self.is_asked(number):
+            return known
+        key = f'{number}<{text}>' if text.startswith('/dev/') else text
+        return self.by_text.setdefault(key, self.new(f'descriptor {number}', number))
+
+    def all(self) -> Iterator[OutputStream]:
+        yield from dict.fromkeys([*self.standard.values(), *self.by_text.values()])
+
+
+def connections_with_lines(calls: Iterable[Call]) -> FrozenSet[str]:
+    """The connections that were accepted and over which a line feed is sent, as strace shows
+    them."""
+    accepted: Set[str] = set()
+    found: Set[str] = set()
+    for call in calls:
+        if call.name in ACCEPTS and call.made.text is not None:
+            accepted.add(call.made.text)
+        elif call.name in WRITES or call.name in SENDS:
+            text = call.descriptor().text
+            if text in accepted and text not in found and b'\n' in bytes_of(call):
+                found.add(text)
+    return frozenset(found)
+
+
+def bytes_of(call: Call) -> bytes:
+    """The bytes that a call sends, as far as the log has them."""
+    if call.name == 'sendmmsg':
+        return arguments.vectors(call.word(1)) or b''
+    is_text = call.name in ('write', 'pwrite64', 'sendto')
+    data = arguments.data(call.word(1)) if is_text else arguments.vector(call.word(1))
+    return (data or b'')[: max(0, call.result)]

@@ -1,0 +1,34 @@
+"""Files that have the path of the recorded directory: a recovery that follows it reads the recorded
+files instead of those of a crash state."""
+
+from __future__ import annotations
+
+import os
+import re
+from typing import Iterator, List, Tuple
+
+from crashfs_tools.common.trace import Start, Trace, Write
+
+NOTE = (
+    'it has the path of the recorded directory: a recovery that opens that path reads no crash '
+    'state'
+)
+
+
+def files_with_path(trace: Trace, top: str) -> List[str]:
+    """The paths of the files whose bytes have a directory's path, in the order of the trace."""
+    if top == '/':
+        return []
+    # A longer name, as `/store2` for `/store`, is another path.
+    pattern = re.compile(re.escape(os.fsencode(top)) + rb'(?![\w.-])')
+    return list(dict.fromkeys(path for path, data in bytes_of(trace) if pattern.search(data)))
+
+
+def bytes_of(trace: Trace) -> Iterator[Tuple[str, bytes]]:
+    """The bytes that a trace has, with the path of their file there."""
+    for entry in trace.start:
+        if isinstance(entry, Start) and entry.data:
+            yield entry.path, entry.data
+    for operation in trace.operations:
+        if isinstance(operation, Write):
+            yield operation.path, operation.data

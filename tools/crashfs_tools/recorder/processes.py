@@ -1,0 +1,90 @@
+"""What each process has: its descriptors, its directory, its umask and its memory."""
+
+from __future__ import annotations
+
+from dataclasses import dataclass, field
+from typing import Dict, Optional, Set
+
+from .live_tree import Node
+from .mappings import Memory
+from .output_streams import OutputStream
+from .strace_log import Call
+
+
+@dataclass(eq=False)
+class OpenFile:
+    """An open file: shared by all descriptors that were duplicated or inherited from one."""
+
+    node: Optional[Node]
+    position: int = 0
+    appends: bool = False
+    syncs: bool = False
+    stream: Optional[OutputStream] = None
+
+    @staticmethod
+    def of(node: Node, flags: str) -> OpenFile:
+        return OpenFile(
+            node,
+            appends='O_APPEND' in flags,
+            syncs='O_SYNC' in flags or 'O_DSYNC' in flags,
+        )
+
+
+@dataclass
+class Descriptors:
+    """A process's table of open files; threads share one."""
+
+    files: Dict[int, OpenFile] = field(default_factory=dict)
+    closed_by_exec: Set[int] = field(default_factory=set)
+
+    def put(self, number: int, file: Optional[OpenFile], closed_by_exec: bool) -> None:
+        """Adds a descriptor that a call made; None for a file outside the directory."""
+        self.close(number)
+        if file is not None:
+            self.files[number] = file
+        if closed_by_exec:
+            self.closed_by_exec.add(number)
+
+    def close(self, number: int) -> None:
+        self.files.pop(number, None)
+        self.closed_by_exec.discard(number)
+
+    def copy(self) -> Descriptors:
+        return Descriptors(dict(self.files), set(self.closed_by_exec))
+
+    def after_exec(self) -> Descriptors:
+        kept = {n: file for n, file in self.files.items() if n not in self.closed_by_exec}
+        return Descriptors(kept)
+
+
+@dataclass
+class PathContext:
+    """The working directory and the umask; threads share one."""
+
+    directory: str
+    umask: int
+
+    def copy(self) -> PathContext:
+        return PathContext(self.directory, self.umask)
+
+
+@dataclass
+class Process:
+    descriptors: Descriptors
+    paths: PathContext
+    memory: Memory = field(default_factory=Memory)
+
+    def child(self, fork: Call) -> Process:
+        """The process that a fork makes."""
+        flags = ' '.join(fork.words)
+        shares_memory = 'CLONE_VM' in flags or fork.name == 'vfork'
+        return Process(
+            self.descriptors if 'CLONE_FILES' in flags else self.descriptors.copy(),
+            self.paths if 'CLONE_FS' in flags else self.paths.copy(),
+            self.memory if shares_memory else self.memory.copy(),
+        )
+
+    def exec(self) -> None:
+        self.descriptors = self.descriptors.after_exec()
+        self.paths = self.paths.copy()
+        self.memory = Memory()

@@ -1,0 +1,109 @@
+"""Shows strace which line of a Python program makes a call: for --stacks of crashfs-record.
+
+Before each built-in function that may write, sync or rename, `access` is called with a path that
+has the line. The directory of this file is first on PYTHONPATH; a `sitecustomize` that is found
+after it is run too.
+"""
+
+from __future__ import annotations
+
+import os
+import sys
+import threading
+from importlib.machinery import PathFinder
+from importlib.util import module_from_spec
+from types import FrameType
+from typing import Any, Callable, List, Optional
+
+PREFIX = '/proc/crashfs-frame/'
+FRAMES = 3
+WATCHED = frozenset(
+    (
+        'open',
+        'write',
+        'writelines',
+        'flush',
+        'close',
+        'truncate',
+        'ftruncate',
+        'pwrite',
+        'pwritev',
+        'writev',
+        'fsync',
+        'fdatasync',
+        'sync',
+        'rename',
+        'replace',
+        'renames',
+        'unlink',
+        'remove',
+        'rmdir',
+        'mkdir',
+        'link',
+        'symlink',
+        'chmod',
+        'fchmod',
+        'chown',
+        'fchown',
+        'mkfifo',
+        'mknod',
+        'posix_fallocate',
+        'copy_file_range',
+        'sendfile',
+        'splice',
+        'print',
+        '__exit__',
+        'sendall',
+        'send',
+        'execute',
+        'executemany',
+        'executescript',
+        'commit',
+        'rollback',
+        'put',
+        'delete',
+    )
+)
+LIBRARY = os.path.dirname(os.__file__) + os.sep
+
+
+def profile(
+    frame: FrameType,
+    event: str,
+    called: Any,
+    last: Any = threading.local(),
+    access: Callable[[str, int], bool] = os.access,
+) -> None:
+    """Called at each call and return; only calls of built-in functions count."""
+    if event == 'c_call' and called.__name__ in WATCHED:
+        place = frame.f_code, frame.f_lineno
+        if getattr(last, 'place', None) != place:
+            last.place = place
+            access(PREFIX + place_of(frame), os.F_OK)
+
+
+def place_of(innermost: FrameType) -> str:
+    """The program's own innermost frames, with those of the standard library left out."""
+    found: List[str] = []
+    frame: Optional[FrameType] = innermost
+    while frame is not None and len(found) < FRAMES:
+        code = frame.f_code
+        if not code.co_filename.startswith((LIBRARY, '<frozen')):
+            name = os.path.basename(code.co_filename)
+            found.append(f'{name}:{frame.f_lineno} {code.co_name}')
+        frame = frame.f_back
+    return ' < '.join(found)
+
+
+def run_next() -> None:
+    """Runs the sitecustomize that this one took the place of."""
+    here = os.path.dirname(os.path.abspath(__file__))
+    path = [one for one in sys.path if os.path.abspath(one or '.') != here]
+    spec = PathFinder.find_spec('sitecustomize', path)
+    if spec is not None and spec.loader is not None:
+        spec.loader.exec_module(module_from_spec(spec))
+
+
+run_next()
+threading.setprofile(profile)
+sys.setprofile(profile)

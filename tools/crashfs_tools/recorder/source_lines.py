@@ -1,0 +1,114 @@
+"""The source lines of places in programs, by `addr2line`."""
+
+from __future__ import annotations
+
+import shutil
+import struct
+import subprocess
+from typing import BinaryIO, Dict, Iterable, List, NamedTuple, Tuple
+
+# A program's file, and an offset in it.
+Address = Tuple[str, int]
+LOAD = 1
+
+
+class Frame(NamedTuple):
+    """A function, with the file and line of a place in it, as `/src/kv.c:85`."""
+
+    function: str
+    place: str
+
+
+class Segment(NamedTuple):
+    """A part of a program's file that is loaded: from an offset on, to an address."""
+
+    offset: int
+    address: int
+    size: int
+
+
+def segments_of(path: str) -> List[Segment]:
+    """The loaded parts of an ELF file; none if it isn't one, or can't be read."""
+    try:
+        with open(path, 'rb') as file:
+            return read_segments(file)
+    except (OSError, struct.error):
+        return []
+
+
+def read_segments(file: BinaryIO) -> List[Segment]:
+    head = file.read(64)
+    if head[:4] != b'\x7fELF' or head[5] != 1:
+        return []
+    is_64 = head[4] == 2
+    start = (
+        struct.unpack_from('<Q', head, 32)[0] if is_64 else struct.unpack_from('<I', head, 28)[0]
+    )
+    size, count = struct.unpack_from('<HH', head, 54 if is_64 else 42)
+    found = []
+    for place in range(count):
+        file.seek(start + place * size)
+        header = file.read(size)
+        if is_64:
+            kind, _, offset, address, _, length = struct.unpack_from('<IIQQQQ', header)
+        else:
+            kind, offset, address, _, length = struct.unpack_from('<IIIII', header)
+        if kind == LOAD:
+            found.append(Segment(offset, address, length))
+    return found
+
+
+def address_of(offset: int, segments: Iterable[Segment]) -> int:
+    """Where the byte at an offset of a program's file is, in the program's own addresses."""
+    for segment in segments:
+        if segment.offset <= offset < segment.offset + segment.size:
+            return offset - segment.offset + segment.address
+    return offset
+
+
+def source_frames(addresses: Iterable[Address]) -> Dict[Address, List[Frame]]:
+    """The functions at each address, the innermost first: more than one if some are inlined. None
+    without addr2line, or if a program has no debugging information."""
+    tool = shutil.which('addr2line')
+    by_file: Dict[str, List[int]] = {}
+    for path, offset in dict.fromkeys(addresses) if tool else []:
+        by_file.setdefault(path, []).append(offset)
+    found: Dict[Address, List[Frame]] = {}
+    for path, offsets in by_file.items():
+        for offset, frames in zip(offsets, ask(str(tool), path, offsets)):
+            if frames:
+                found[path, offset] = frames
+    return found
+
+
+def ask(tool: str, path: str, offsets: List[int]) -> List[List[Frame]]:
+    """What addr2line prints for offsets of a file. Each is where a call returns to: the call is
+    before it."""
+    segments = segments_of(path)
+    asked = ''.join(f'{address_of(offset, segments) - 1:#x}\n' for offset in offsets)
+    ran = subprocess.run(
+        [tool, '-a', '-C', '-f', '-i', '-e', path],
+        input=asked,
+        check=False,
+        stdout=subprocess.PIPE,
+        stderr=subprocess.DEVNULL,
+        encoding='utf-8',
+        errors='replace',
+    )
+    answers: List[List[str]] = []
+    for line in ran.stdout.splitlines():
+        if line.startswith('0x'):
+            answers.append([])
+        elif answers:
+            answers[-1].append(line)
+    return [frames_of(answer) for answer in answers]
+
+
+def frames_of(lines: List[str]) -> List[Frame]:
+    """Pairs of lines as frames, without those that have no source line."""
+    pairs = zip(lines[::2], lines[1::2])
+    return [
+        Frame(function, place.partition(' ')[0])
+        for function, place in pairs
+        if not place.startswith('?') and not place.split(' ')[0].endswith((':?', ':0'))
+    ]

@@ -1,0 +1,125 @@
+"""Which of COMMAND's functions made a call: by strace -k, and by a hook in Python programs."""
+
+from __future__ import annotations
+
+import os
+import re
+import shutil
+from typing import Dict, List, NamedTuple, Optional
+
+from . import arguments
+from .source_lines import Address, Frame, source_frames
+from .strace_log import Call
+
+HOOK = os.path.join(os.path.dirname(os.path.realpath(__file__)), 'python_hook')
+# What the hook calls `access` with, before the line.
+PREFIX = '/proc/crashfs-frame/'
+# Traced beside the calls that are followed.
+MARKS = ('access', 'faccessat', 'faccessat2')
+# A frame: the program's file, the function with an offset in it, and the offset in the file.
+FRAME = re.compile(r'^(/[^(]*)\((.*)\) \[(0x[0-9a-f]+)\]$')
+OFFSET = re.compile(r'\+0x[0-9a-f]+$')
+SYSTEM = re.compile(r'/(?:libc|libpthread|ld-linux[^/]*|libm|libdl|libstdc\+\+|libgcc_s)[.-][^/]*$')
+# What calls `main`.
+STARTS = ('_start', '__libc_start_main', '__libc_start_call_main')
+# Functions of the libraries and runtimes of C++, Rust and Go: a Go package without a dot in the
+# first name is of Go itself, unless it is `main`.
+RUNTIME = re.compile(
+    r'(?:[\w:<>*& ]+ )?(?:std|__gnu_cxx|core|alloc)::|<(?:[^<>]|<[^<>]*>)* as (?:std|core|alloc)::|'
+    r'<(?:std|core|alloc)::|__rust_|rust_begin|'
+    r'(?:runtime|syscall|os|io|bufio|fmt|net|sync|log|time|internal|encoding|reflect|testing)'
+    r'(?:/[\w/]+)?\.|(?:internal|runtime)/'
+)
+LIBRARY_SOURCE = re.compile(
+    r'^/rustc/|/rustlib/src/|/include/c\+\+/|/library/(?:std|core|alloc)/|/go(?:-[\d.]+)?/src/'
+    r'(?:runtime|syscall|os|io|bufio|fmt|net|sync|log|time|internal)/|crtstuff\.c'
+)
+SHOWN = 3
+
+
+def environment(before: Dict[str, str]) -> Dict[str, str]:
+    """The environment with the hook, which Python programs load by themselves."""
+    paths = [HOOK, *filter(None, [before.get('PYTHONPATH')])]
+    return {**before, 'PYTHONPATH': os.pathsep.join(paths)}
+
+
+def is_python(path: str) -> bool:
+    """Whether a program is Python, by its name or its first line: it needs the hook only."""
+    try:
+        with open(path, 'rb') as file:
+            first = file.readline(200)
+    except OSError:
+        return False
+    name = os.path.basename(path)
+    return name.startswith(('python', 'pypy')) or first.startswith(b'#!') and b'python' in first
+
+
+def note_all(calls: List[Call]) -> List[str]:
+    """Gives each call its note. A Python program's line goes before the interpreter's frames.
+    Returns the programs of which no source line is known."""
+    frames = {id(call): program_frames(call.frames) for call in calls}
+    lines = source_frames(frame.address for own in frames.values() for frame in own)
+    python: Dict[int, str] = {}
+    for call in calls:
+        if call.name in ('execve', 'execveat') and call.result == 0:
+            python.pop(call.process, None)
+        mark = mark_of(call)
+        if mark is not None:
+            python[call.process] = mark
+        call.note = python.get(call.process) or note_of(frames[id(call)], lines)
+    programs = {frame.address[0] for own in frames.values() for frame in own}
+    return sorted(programs - {path for path, _ in lines})
+
+
+def mark_of(call: Call) -> Optional[str]:
+    """The line that the hook named, or None for any other call."""
+    if call.name not in MARKS:
+        return None
+    path = arguments.path(call.word(0 if call.name == 'access' else 1))
+    is_mark = path is not None and path.startswith(PREFIX)
+    return path[len(PREFIX) :] if is_mark and path is not None else None
+
+
+class ShownFrame(NamedTuple):
+    """A frame as strace shows it: its function, or nothing, and its address."""
+
+    function: str
+    address: Address
+
+
+def program_frames(frames: List[str]) -> List[ShownFrame]:
+    """The frames that are not the system libraries', the innermost first."""
+    found = []
+    for frame in frames:
+        match = FRAME.match(frame)
+        if match and not SYSTEM.search(match[1]):
+            function = OFFSET.sub('', match[2])
+            found.append(ShownFrame(function, (match[1], int(match[3], 16))))
+    return found
+
+
+def note_of(frames: List[ShownFrame], lines: Dict[Address, List[Frame]]) -> str:
+    """The innermost functions of the program's own, each with its source line if that is known."""
+    texts: List[str] = []
+    for frame in frames:
+        if frame.address in lines:
+            texts += [
+                f'{os.path.basename(one.place)} {one.function}'
+                for one in lines[frame.address]
+                if is_own(one.function) and not LIBRARY_SOURCE.search(one.place)
+            ]
+        elif is_own(frame.function):
+            name = os.path.basename(frame.address[0])
+            function = frame.function
+            texts.append(f'{function} ({name})' if function else f'{name}+{frame.address[1]:#x}')
+    return ' < '.join(texts[:SHOWN])
+
+
+def is_own(function: str) -> bool:
+    """Whether a function is the program's own, and not of its language's library or runtime."""
+    return function not in STARTS and not RUNTIME.match(function)
+
+
+def reason() -> str:
+    """Why no source line is known, as far as it can be seen."""
+    return ' (addr2line is not there)' if shutil.which('addr2line') is None else ''

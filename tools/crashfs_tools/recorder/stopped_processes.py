@@ -1,0 +1,66 @@
+"""Processes that are stopped under strace: their threads, and what they have mapped."""
+
+from __future__ import annotations
+
+import os
+import time
+from enum import Enum
+from typing import List, Optional, Set
+
+# So long a group of threads may take until all of them are stopped: one may be in a slow sync.
+SECONDS = 2.0
+STOPPED = {'t', 'T'}
+
+
+class Stop(Enum):
+    """How the wait for a process's stop ended: all its threads are stopped, some still run, or
+    the thread runs again, since its stop was one with another's."""
+
+    ALL_STOPPED = 'all threads are stopped'
+    SOME_RUN = 'some threads still run'
+    RESUMED = 'the thread runs again'
+
+
+def group_of(thread: int) -> Optional[int]:
+    """The process of a thread, or None if it has ended."""
+    try:
+        with open(f'/proc/{thread}/status', encoding='ascii', errors='replace') as lines:
+            return next(int(line.split()[1]) for line in lines if line.startswith('Tgid:'))
+    except (OSError, StopIteration):
+        return None
+
+
+def threads_of(process: int) -> List[int]:
+    try:
+        return [int(name) for name in os.listdir(f'/proc/{process}/task')]
+    except OSError:
+        return []
+
+
+def is_stopped(thread: int) -> bool:
+    try:
+        with open(f'/proc/{thread}/stat', encoding='utf-8', errors='replace') as file:
+            return file.read().rpartition(')')[2].split()[0] in STOPPED
+    except OSError:
+        return False
+
+
+def wait_until_stopped(thread: int, process: int) -> Stop:
+    """Waits until all threads of a process are stopped, up to a limit."""
+    deadline = time.monotonic() + SECONDS
+    while is_stopped(thread):
+        if all(map(is_stopped, threads_of(process))):
+            return Stop.ALL_STOPPED
+        if time.monotonic() > deadline:
+            return Stop.SOME_RUN
+        time.sleep(0.0005)
+    return Stop.RESUMED
+
+
+def inodes_mapped(process: int) -> Set[str]:
+    """The inodes of the files that a process has mapped, as /proc prints them."""
+    try:
+        with open(f'/proc/{process}/maps', encoding='utf-8', errors='replace') as lines:
+            return {line.split()[4] for line in lines}
+    except OSError:
+        return set()

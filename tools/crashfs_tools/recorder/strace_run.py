@@ -1,0 +1,191 @@
+"""Runs COMMAND under strace."""
+
+from __future__ import annotations
+
+import os
+import re
+import select
+import shutil
+import signal
+import subprocess
+import sys
+import time
+from typing import List, Optional, Sequence
+
+from crashfs_tools.common.command import Refused, standard_output
+from crashfs_tools.common.guard import Guard, stops_heard
+
+from . import stacks
+from .log_stream import LogStream
+from .mapped_files import STOPPING_CALLS
+from .options import NAME, RecordOptions
+from .progress import CallProgress
+from .strace_log import FORKS
+from .translate import HANDLERS, SOCKET_HANDLERS
+
+OLDEST = (5, 18)
+# Longer texts than the largest file are cut by strace; a cut text is reported.
+TEXT_BYTES = 1 << 25
+# For so many seconds a second signal is the same stop: `timeout` sends its signal twice.
+SAME_STOP = 1.0
+# So long the recorder waits for output before it looks whether strace has ended.
+IDLE_SECONDS = 0.5
+
+
+def find_strace() -> str:
+    """strace's path; Refused if it isn't there, or too old to print AT_FDCWD's path."""
+    path = shutil.which('strace')
+    if path is None:
+        raise Refused('strace: command not found; it is in the package strace of most systems')
+    version_text = subprocess.run(
+        [path, '-V'], stdin=subprocess.DEVNULL, check=False, text=True, stdout=subprocess.PIPE
+    ).stdout
+    version = re.search(r'version (\d+)\.(\d+)', version_text)
+    if version and (int(version[1]), int(version[2])) < OLDEST:
+        raise Refused(f'strace is {version[1]}.{version[2]}; 5.18 or later is needed')
+    return path
+
+
+def command_line(strace: str, log: str, options: RecordOptions) -> List[str]:
+    """The command line of strace, with COMMAND."""
+    sockets = [] if set(options.acknowledged) <= {'1', '2'} else SOCKET_HANDLERS
+    marks = stacks.MARKS if options.stacks else ()
+    traced = dict.fromkeys([*FORKS, *HANDLERS, *sockets, *marks])
+    calls = ','.join(f'?{name}' for name in traced)
+    line = [
+        strace,
+        '-f',
+        '-y',
+        '-xx',
+        '-s',
+        str(TEXT_BYTES),
+        '-e',
+        'raw=read,readv',
+        '-e',
+        f'trace={calls}',
+        '-o',
+        log,
+    ]
+    if options.stacks and not stacks.is_python(options.command[0]):
+        line.append('-k')
+    if options.mapped:
+        # Signals that are injected don't arrive together with --seccomp-bpf.
+        stops = ','.join(f'?{name}' for name in STOPPING_CALLS)
+        line += ['-e', f'inject={stops}:signal=SIGSTOP']
+    else:
+        line.append('--seccomp-bpf')
+    return line + options.command
+
+
+class StraceRun:
+    """COMMAND while it runs under strace. SIGINT, SIGTERM and SIGHUP are passed on to it, and a
+    second one kills it: what it did up to there is recorded."""
+
+    def __init__(
+        self, line: List[str], options: RecordOptions, stream: LogStream, guard: Guard
+    ) -> None:
+        self.line, self.options, self.stream, self.guard = line, options, stream, guard
+        self.stops: List[int] = []
+        self.first_stop = 0.0
+        self.wanted: Optional[int] = None
+        self.output: Optional[str] = None
+        self.strace = 0
+
+    def run(self) -> int:
+        """Runs to the end, passes standard output on, and returns COMMAND's status.
+
+        Its standard output is a pipe: a program that writes by stdio has to flush its lines.
+        """
+        before = {number: signal.signal(number, self.note_stop) for number in stops_heard()}
+        try:
+            environment = self.guard.environment
+            if self.options.stacks:
+                environment = stacks.environment(environment)
+            child = subprocess.Popen(
+                self.line,
+                cwd=self.options.directory,
+                stdout=subprocess.PIPE,
+                env=environment,
+                pass_fds=inherited(self.options.acknowledged),
+            )
+            self.strace = child.pid
+            assert child.stdout is not None
+            self.output = f'pipe:[{os.fstat(child.stdout.fileno()).st_ino}]'
+            self.stream.begin()
+            with CallProgress(NAME, lambda: len(self.stream.reader.log.calls)):
+                self.pass_output(child, child.stdout.fileno())
+                return self.status_of(child)
+        finally:
+            signal.set_wakeup_fd(-1)
+            for number, handler in before.items():
+                signal.signal(number, handler)
+
+    def pass_output(self, child: subprocess.Popen[bytes], source: int) -> None:
+        """Copies a pipe to standard output until it ends, or until strace has: a process that
+        strace doesn't follow may keep the pipe open. If nobody reads standard output any more, the
+        pipe is still read, so that COMMAND continues. A signal ends the wait, whichever thread
+        takes it."""
+        waiting, wake = os.pipe2(os.O_NONBLOCK | os.O_CLOEXEC)
+        signal.set_wakeup_fd(wake, warn_on_full_buffer=False)
+        while True:
+            seconds = IDLE_SECONDS if self.wanted is None else 0.1
+            ready = select.select([source, waiting], [], [], seconds)[0]
+            if waiting in ready:
+                os.read(waiting, 64)
+            self.send_wanted()
+            piece = os.read(source, 65_536) if source in ready else None
+            if piece == b'' or piece is None and not ready and child.poll() is not None:
+                break
+            with standard_output():
+                sys.stdout.buffer.write(piece or b'')
+        signal.set_wakeup_fd(-1)
+        os.close(waiting)
+        os.close(wake)
+
+    def status_of(self, child: subprocess.Popen[bytes]) -> int:
+        """COMMAND's status, when it has ended; until then signals are passed on."""
+        while True:
+            try:
+                return child.wait(0.2)
+            except subprocess.TimeoutExpired:
+                self.send_wanted()
+
+    def note_stop(self, number: int, _: object) -> None:
+        """Notes a signal. The first one is passed to COMMAND, unless the terminal sent it there."""
+        if self.stops and time.monotonic() < self.first_stop + SAME_STOP:
+            return
+        self.stops.append(number)
+        if len(self.stops) > 1:
+            self.wanted = signal.SIGKILL
+            return
+        self.first_stop = time.monotonic()
+        if number != signal.SIGINT or not is_on_terminal():
+            self.wanted = number
+
+    def send_wanted(self) -> None:
+        """Sends COMMAND the signal that is wanted, as soon as it has begun; a kill again and
+        again, since a process may have just forked."""
+        if self.wanted is not None and self.guard.signal(self.wanted, spared=self.strace):
+            self.wanted = self.wanted if self.wanted == signal.SIGKILL else None
+
+
+def inherited(acknowledged: Sequence[str]) -> List[int]:
+    """The descriptors that acknowledge something and that COMMAND inherits. Those that the recorder
+    has opened itself aren't inherited."""
+    numbers = [int(number) for number in acknowledged if number.isdigit() and int(number) > 2]
+    return [number for number in numbers if is_inherited(number)]
+
+
+def is_inherited(number: int) -> bool:
+    try:
+        return os.get_inheritable(number)
+    except OSError:
+        return False
+
+
+def is_on_terminal() -> bool:
+    """Whether Ctrl-C goes to all processes of this group."""
+    try:
+        return os.tcgetpgrp(0) == os.getpgrp()
+    except OSError:
+        return False

@@ -1,0 +1,206 @@
+"""Translates strace's calls into the operations of a trace."""
+
+from __future__ import annotations
+
+from typing import Callable, Dict, List, Optional
+
+from . import call_order, mapped_stores
+from .arguments import LogError
+from .calls import data as data_calls
+from .calls import modes, names, opens
+from .calls import processes as process_calls
+from .calls import syncs
+from .live_files import LiveFiles
+from .live_tree import Node
+from .mapped_files import FileCopies, FileCopy
+from .output_streams import SOCKETS, connections_with_lines
+from .processes import Descriptors, PathContext, Process
+from .strace_log import EXIT, FORKS, SUPERSEDE, WRITES, Call, Log
+
+Handler = Callable[[LiveFiles, Process, Call], None]
+
+HANDLERS: Dict[str, Handler] = {
+    **process_calls.HANDLERS,
+    **opens.HANDLERS,
+    **data_calls.HANDLERS,
+    **names.HANDLERS,
+    **syncs.HANDLERS,
+    **modes.HANDLERS,
+}
+SOCKET_HANDLERS: Dict[str, Handler] = dict(data_calls.SOCKET_HANDLERS)
+
+
+class Translator:
+    """Takes the calls one by one; a process is known from its parent's state at its first call.
+
+    stores has the copies that each call comes with; mapped has the files of the copies' numbers;
+    early has what copies show of files before the calls that mapped them are in the trace; newest
+    has the newest copy of each file, since two processes' copies may come in the order of their
+    calls.
+    """
+
+    def __init__(self, files: LiveFiles, log: Log, copies: Optional[FileCopies] = None) -> None:
+        self.files = files
+        self.recording = files.recording
+        self.log = log
+        self.copies = copies or FileCopies()
+        self.files.has_copies = copies is not None
+        self.stores: Dict[int, List[FileCopy]] = {}
+        self.mapped: Dict[int, Node] = {}
+        self.early: Dict[int, bytes] = {}
+        self.newest: Dict[int, FileCopy] = {}
+        self.places = {id(copy): place for place, copy in enumerate(self.copies.taken)}
+        self.parents: Dict[int, List[Call]] = {}
+        for call in log.calls:
+            if call.name in FORKS and call.result > 0:
+                self.parents.setdefault(call.result, []).append(call)
+
+    def run(self) -> None:
+        """Translates the whole log; LogError if a line isn't as strace writes it."""
+        try:
+            self.translate_calls()
+        except LogError as error:
+            where = f', in line {self.recording.call.end}' if self.recording.call else ''
+            raise LogError(f'{error}{where}') from error
+        self.recording.call = None
+        self.end()
+
+    def translate_calls(self) -> None:
+        if SOCKETS in self.recording.streams.acknowledged:
+            self.recording.streams.with_lines = connections_with_lines(self.log.calls)
+        ordered = call_order.in_order(self.log.calls)
+        self.stores = mapped_stores.copies_by_call(
+            self.log.calls, [call for _, call in ordered], self.copies
+        )
+        for line, call in ordered:
+            self.files.add_ended_syncs(line)
+            self.recording.call = call
+            self.translate_call(call)
+            # The trace has its bytes now.
+            call.words = [] if call.name in WRITES else call.words
+        self.files.add_ended_syncs(None)
+
+    def end(self) -> None:
+        """Adds what is left when all calls are translated."""
+        self.recording.end_streams()
+        for copy in self.copies.taken:
+            if copy.process == 0:
+                self.add_stores(copy, None, False)
+        for path in self.copies.missed:
+            self.files.report('mapped, and it could not be opened to be followed', path)
+        self.report_links()
+
+    def translate_call(self, call: Call) -> None:
+        is_mark = call.name in (EXIT, SUPERSEDE)
+        if not is_mark and not call.is_cut and call.result >= 0:
+            self.handle(call)
+            return
+        # The program was stopped and copied from after a call that failed, too.
+        for copy in self.stores.get(id(call), []):
+            self.add_stores(copy, None, False)
+        if call.name == EXIT:
+            self.files.processes.pop(call.process, None)
+        elif call.name == SUPERSEDE:
+            self.supersede(call)
+        elif call.is_cut:
+            self.report_cut(call)
+
+    def report_cut(self, call: Call) -> None:
+        """Reports a change that its thread's end cut: the log doesn't show whether it was made."""
+        if not call_order.is_change(call):
+            return
+        process = self.process(call.process, call.end)
+        stream = self.files.stream_of(process, call)
+        path = call.descriptor().path
+        below = self.files.relative_path(path) if path else None
+        where = stream.name if stream else below
+        if where is not None:
+            self.files.report(
+                f'{call.name} was cut by the end of its thread: whether it was '
+                'done is not in the log',
+                where,
+            )
+
+    def handle(self, call: Call) -> None:
+        """Translates a call that returned, with what was stored before it and at once after it."""
+        process = self.process(call.process, call.end)
+        handler = HANDLERS.get(call.name) or SOCKET_HANDLERS.get(call.name)
+        own = self.changed_file(process, call)
+        # What was stored before the call is before it; but a copy of the file that the
+        # call itself changed has that change in it already.
+        for copy in self.stores.get(id(call), []):
+            self.add_stores(copy, own, False)
+        if handler is not None:
+            handler(self.files, process, call)
+        if call.begin in self.copies.numbers:
+            self.add_mapped(process, call, self.copies.numbers[call.begin])
+        for copy in self.stores.get(id(call), []):
+            self.add_stores(copy, own, True)
+
+    def add_mapped(self, process: Process, call: Call, number: int) -> None:
+        """A call mapped a file: what was stored to it at once is after the call."""
+        file = process.descriptors.files.get(call.descriptor(4).number)
+        if file is None or file.node is None:
+            return
+        self.mapped[number] = file.node
+        if number in self.early:
+            mapped_stores.add_stores(self.files, file.node, self.early.pop(number), False)
+
+    def changed_file(self, process: Process, call: Call) -> Optional[Node]:
+        """The file whose bytes a call changes."""
+        if call.name in ('truncate', 'truncate64'):
+            return self.files.node_argument(process, call, 0)
+        if call.name not in call_order.DATA_CHANGES:
+            return None
+        number = call.descriptor(call_order.TARGET_PLACES.get(call.name, 0)).number
+        file = process.descriptors.files.get(number)
+        return file.node if file else None
+
+    def add_stores(self, copy: FileCopy, own: Optional[Node], is_own: bool) -> None:
+        """Adds what a copy shows of the call's own file, or of all others."""
+        for number, data in copy.files.items():
+            node = self.mapped.get(number)
+            if self.is_outdated(copy, number):
+                continue
+            if node is None:
+                self.early[number] = data
+            elif (node is own) == is_own:
+                mapped_stores.add_stores(self.files, node, data, copy.is_sure(number))
+
+    def is_outdated(self, copy: FileCopy, number: int) -> bool:
+        """Whether a newer copy of the file is in the trace already."""
+        newest = self.newest.setdefault(number, copy)
+        if self.places[id(newest)] > self.places[id(copy)]:
+            return True
+        self.newest[number] = copy
+        return False
+
+    def process(self, number: int, moment: int) -> Process:
+        """The process of a call. A child may call before its parent's fork has returned."""
+        known = self.files.processes
+        if number not in known:
+            if number == self.log.first:
+                known[number] = self.files.first_process()
+            else:
+                known[number] = self.child(number, moment)
+        return known[number]
+
+    def child(self, number: int, moment: int) -> Process:
+        forks = [fork for fork in self.parents.get(number, []) if fork.begin <= moment]
+        if not forks:
+            self.files.report('a process whose parent is not in the log', '/')
+            conditions = self.files.conditions
+            return Process(Descriptors(), PathContext(conditions.top, conditions.umask))
+        return self.process(forks[-1].process, moment).child(forks[-1])
+
+    def supersede(self, call: Call) -> None:
+        """A thread's exec takes the number of its process."""
+        known = self.files.processes
+        if call.result in known:
+            known[call.process] = known.pop(call.result)
+
+    def report_links(self) -> None:
+        """Reports the other names of files that the trace lacks."""
+        for node in set(self.files.tree.nodes.values()):
+            for name in sorted(node.names - node.traced_paths) if node.traced_paths else []:
+                self.files.report(f'stays another name of {node.traced_path}, by a link', name)

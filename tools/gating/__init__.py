@@ -1,0 +1,1 @@
+"""What the gate needs beside `rt ci`: times, the tools' tests, and its last lines."""

@@ -1,0 +1,91 @@
+"""The processes that prove crates, as proc(5) has them."""
+
+from __future__ import annotations
+
+import os
+from collections import defaultdict
+from dataclasses import dataclass
+from pathlib import Path
+from typing import Dict, Iterator, List, Optional
+
+TICKS = os.sysconf('SC_CLK_TCK')
+PAGE = os.sysconf('SC_PAGE_SIZE')
+PROCESSES = Path('/proc')
+
+
+@dataclass(frozen=True)
+class Prover:
+    """A process that proves: times in seconds, memory in bytes."""
+
+    number: int
+    begun: float
+    seconds: float
+    memory: int
+    crate: str
+    kind: str
+
+
+def kind_of(words: List[str], folder: str) -> str:
+    """What a prover with these arguments works on. An edit is tried in a copy of its crate, which
+    isn't below a folder `crates`."""
+    if '--test' in words:
+        return 'tests'
+    if '--crate-checked' in words:
+        return 'programs'
+    if words[1:2] == ['check'] and '/crates/' not in folder:
+        return 'edits'
+    return 'proof'
+
+
+def fields_of(process: Path) -> List[str]:
+    """The fields of proc(5)'s stat that follow the name: its field 3 and on."""
+    return (process / 'stat').read_text().rsplit(')', 1)[1].split()
+
+
+def parent_of(process: Path) -> int:
+    """The number of the process that started it; 0 if it has ended."""
+    try:
+        return int(fields_of(process)[1])
+    except (OSError, IndexError):
+        return 0
+
+
+def prover_at(process: Path) -> Optional[Prover]:
+    """The process, if it proves a crate and hasn't ended."""
+    try:
+        words = (process / 'cmdline').read_bytes().decode(errors='replace').split('\0')
+        if not words[0].endswith('/rattle') or '--crate-name' not in words:
+            return None
+        folder = os.readlink(process / 'cwd')
+        stat = fields_of(process)
+    except (OSError, IndexError):
+        return None
+    return Prover(
+        number=int(process.name),
+        begun=int(stat[19]) / TICKS,
+        # its own time, and that of the children that have ended
+        seconds=sum(int(field) for field in stat[11:15]) / TICKS,
+        memory=int(stat[21]) * PAGE,
+        crate=words[words.index('--crate-name') + 1],
+        kind=kind_of(words, folder),
+    )
+
+
+def ancestors(number: int, parents: Dict[int, int]) -> Iterator[int]:
+    """A process, the one that started it, and so on, as far as they are known."""
+    while number in parents:
+        yield number
+        number = parents[number]
+
+
+def provers_below(top: int) -> List[List[Prover]]:
+    """The provers below a process: each that no other started, followed by those it started."""
+    processes = [path for path in PROCESSES.iterdir() if path.name.isdigit()]
+    parents = {int(path.name): parent_of(path) for path in processes}
+    running = {prover.number: prover for prover in map(prover_at, processes) if prover}
+    groups: Dict[int, List[Prover]] = defaultdict(list)
+    for prover in running.values():
+        line = list(ancestors(prover.number, parents))
+        if top in line:
+            groups[[number for number in line if number in running][-1]].append(prover)
+    return [sorted(group, key=lambda it: it.number != first) for first, group in groups.items()]

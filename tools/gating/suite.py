@@ -1,0 +1,77 @@
+"""Runs the tools' tests for the gate: `python3 -m gating.suite`, in the folder tools/.
+
+It runs what `python3 -m unittest discover` runs, and its last line counts the skipped tests by what
+they need. With --program a test that is skipped because there is no `crashfs` counts as failed: the
+gate has built it. With --quick it runs only a few modules, which start no program.
+"""
+
+from __future__ import annotations
+
+import argparse
+import sys
+import unittest
+from collections import Counter
+from pathlib import Path
+from typing import List, Optional
+
+TOOLS = Path(__file__).resolve().parent.parent
+# What takes a second or two each, and needs no program.
+QUICK = (
+    'archive',
+    'gate',
+    'ignore',
+    'inventories',
+    'lint',
+    'log',
+    'order',
+    'pages',
+    'pairs',
+    'rooms',
+    'translate',
+    'untranslated',
+    'voices',
+)
+
+
+def tests(is_quick: bool) -> unittest.TestSuite:
+    """All tests, or those of the quick modules that are there."""
+    if not is_quick:
+        return unittest.defaultTestLoader.discover(str(TOOLS), top_level_dir=str(TOOLS))
+    names = [f'test_{name}' for name in QUICK if (TOOLS / 'tests' / f'test_{name}.py').is_file()]
+    return unittest.defaultTestLoader.loadTestsFromNames([f'tests.{name}' for name in names])
+
+
+def skipped_for_program(result: unittest.TestResult) -> int:
+    """How many tests were skipped because they need `crashfs`."""
+    return sum('crashfs' in reason for _, reason in result.skipped)
+
+
+def summary(result: unittest.TestResult, needs_program: bool) -> str:
+    """How many tests ran, failed and were skipped, and why."""
+    failed = len(result.failures) + len(result.errors) + len(result.unexpectedSuccesses)
+    line = f'{result.testsRun} run, {failed} failed, {len(result.skipped)} skipped'
+    reasons = Counter(reason for _, reason in result.skipped)
+    if reasons:
+        line += f' ({"; ".join(f"{count}: {why}" for why, count in reasons.most_common())})'
+    lacking = skipped_for_program(result) if needs_program else 0
+    return f'{line}; {lacking} must not be skipped, as crashfs is built' if lacking else line
+
+
+def passed(result: unittest.TestResult, needs_program: bool) -> bool:
+    """Whether tests ran, none failed, and none was skipped that must run."""
+    is_complete = not (needs_program and skipped_for_program(result))
+    return result.wasSuccessful() and result.testsRun > 0 and is_complete
+
+
+def main(words: Optional[List[str]] = None) -> int:
+    parser = argparse.ArgumentParser(prog='gating.suite', description=__doc__)
+    parser.add_argument('--program', action='store_true', help='crashfs is built')
+    parser.add_argument('--quick', action='store_true', help='run a few modules only')
+    given = parser.parse_args(words)
+    result = unittest.TextTestRunner().run(tests(given.quick))
+    print(f"tools' tests: {summary(result, given.program)}", flush=True)
+    return 0 if passed(result, given.program) else 1
+
+
+if __name__ == '__main__':
+    sys.exit(main())

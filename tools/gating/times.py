@@ -1,0 +1,102 @@
+"""The command gate-times: sums the processor time of the provers below a process."""
+
+from __future__ import annotations
+
+import argparse
+import signal
+import sys
+import threading
+import time
+from collections import defaultdict
+from dataclasses import dataclass, field
+from pathlib import Path
+from typing import Dict, List, Optional, Tuple
+
+from .provers import Prover, provers_below
+
+ABOUT = """\
+Samples the provers below a process until it gets SIGTERM or SIGINT, or the process ends, and prints
+the processor time of each crate, by kind: proof, tests, must-fail edits, programs.
+
+It runs beside the gate and has no part in its verdict. It reads /proc, so it needs Linux. What a
+prover takes between the last sample and its end is missed, so the sums are a little low."""
+KINDS = ('proof', 'tests', 'edits', 'programs')
+
+
+@dataclass
+class Share:
+    """What the provers of one crate and kind took: seconds by process, and the most memory."""
+
+    seconds: Dict[Tuple[int, float], float] = field(default_factory=dict)
+    walls: Dict[Tuple[int, float], float] = field(default_factory=dict)
+    memory: int = 0
+
+    def add(self, group: List[Prover], now: float) -> None:
+        """Counts a prover with those that it started, as they are now."""
+        first = group[0]
+        process = first.number, first.begun
+        seconds = sum(prover.seconds for prover in group)
+        self.seconds[process] = max(seconds, self.seconds.get(process, 0))
+        self.walls[process] = now - first.begun
+        self.memory = max(self.memory, sum(prover.memory for prover in group))
+
+
+Shares = Dict[Tuple[str, str], Share]
+
+
+def sample(shares: Shares, groups: List[List[Prover]], now: float) -> None:
+    """Adds what each running prover has taken so far."""
+    for group in groups:
+        shares.setdefault((group[0].crate, group[0].kind), Share()).add(group, now)
+
+
+def row_of(crate: str, shares: Shares) -> List[str]:
+    """A crate's row: seconds by kind, their sum, the longest prover's wall seconds, megabytes."""
+    own = {kind: share for (name, kind), share in shares.items() if name == crate}
+    taken = [sum(own[kind].seconds.values()) if kind in own else 0.0 for kind in KINDS]
+    longest = max(wall for share in own.values() for wall in share.walls.values())
+    memory = max(share.memory for share in own.values()) // 1_000_000
+    return [crate, *(f'{seconds:.0f}' for seconds in [*taken, sum(taken), longest]), str(memory)]
+
+
+def table_of(shares: Shares, wall: float) -> str:
+    """A line for each crate, those with the most seconds first, and the sum of all."""
+    crates: Dict[str, float] = defaultdict(float)
+    for (crate, _), share in shares.items():
+        crates[crate] += sum(share.seconds.values())
+    rows = [['crate', *KINDS, 'all', 'longest wall', 'most MB']]
+    rows += [row_of(crate, shares) for crate in sorted(crates, key=lambda it: -crates[it])]
+    minutes = sum(crates.values()) / 60
+    rows.append([f'all: {minutes:.0f} processor minutes in {wall / 60:.0f} minutes'])
+    return ''.join('\t'.join(row) + '\n' for row in rows)
+
+
+def is_running(process: int) -> bool:
+    return Path(f'/proc/{process}').exists()
+
+
+def watch(process: int, every: float, has_ended: threading.Event) -> str:
+    """Samples until the event or the process's end, and returns the table."""
+    shares: Shares = {}
+    begun = time.monotonic()
+    while is_running(process):
+        sample(shares, provers_below(process), time.clock_gettime(time.CLOCK_BOOTTIME))
+        if has_ended.wait(every):
+            break
+    return table_of(shares, time.monotonic() - begun)
+
+
+def main(words: Optional[List[str]] = None) -> int:
+    parser = argparse.ArgumentParser(
+        prog='gate-times', description=ABOUT, formatter_class=argparse.RawDescriptionHelpFormatter
+    )
+    parser.add_argument(
+        '--every', type=float, default=1.0, metavar='SECONDS', help='how often it samples (1)'
+    )
+    parser.add_argument('process', type=int, metavar='PROCESS', help='the number of the process')
+    given = parser.parse_args(words)
+    has_ended = threading.Event()
+    for number in (signal.SIGTERM, signal.SIGINT):
+        signal.signal(number, lambda *_: has_ended.set())
+    sys.stdout.write(watch(given.process, given.every, has_ended))
+    return 0

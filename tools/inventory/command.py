@@ -1,0 +1,48 @@
+"""The command inventories: writes what is made from the sources."""
+
+from __future__ import annotations
+
+import argparse
+from pathlib import Path
+from typing import Dict, List, Optional
+
+from .completions import completions
+from .pages import pages
+from .sources import TOP
+
+ABOUT = """\
+Writes what is made from the sources: the tables of docs/EXAMPLES.md, from each test and its
+comment; docs/INDEX.md, from the words of specs/ and the contracts that cite them; and
+tools/completions, from the options of the three commands.
+
+Exit status 0, or 1 with --check if a file isn't as the sources are."""
+
+
+def made_files() -> Dict[Path, str]:
+    """Each file that is made, with its text."""
+    return {**pages(), **completions()}
+
+
+def older_files(made: Optional[Dict[Path, str]] = None) -> List[Path]:
+    """The files that are missing, or not as the sources are."""
+    return [
+        path
+        for path, text in (made_files() if made is None else made).items()
+        if not path.exists() or path.read_text(encoding='utf-8') != text
+    ]
+
+
+def main(words: Optional[List[str]] = None) -> int:
+    parser = argparse.ArgumentParser(
+        prog='inventories', description=ABOUT, formatter_class=argparse.RawDescriptionHelpFormatter
+    )
+    parser.add_argument('--check', action='store_true', help='write nothing, only compare')
+    is_check = parser.parse_args(words).check
+    made = made_files()
+    older = older_files(made)
+    for path in older:
+        if is_check:
+            print(f'{path.relative_to(TOP)} is older than the sources: run tools/inventories')
+        else:
+            path.write_text(made[path], encoding='utf-8')
+    return 1 if is_check and older else 0

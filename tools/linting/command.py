@@ -1,0 +1,68 @@
+"""The command lint: runs the linters, and prints what each finds."""
+
+from __future__ import annotations
+
+import argparse
+from typing import Callable, Dict, List, Optional
+
+from .crates_page import architecture_faults
+from .layout import layout_faults
+from .pages import made_faults
+from .python import black, flake8, install, missing, mypy, unexplained_comments
+from .words import retired_words
+
+ABOUT = """\
+Runs the linters over the repository: flake8, black and mypy over its Python; the widths and
+lengths that docs/CONTRIBUTING.md sets; words that readers stumbled over, in pages, in what is
+printed, in documentation and in names; and whether pages that are made from the sources are as the
+sources are.
+
+It changes nothing. Each fault is a line; the last line counts the linters. Exit status 0: none
+found a fault. 1: some did. A linter that isn't installed is skipped, and the last line says so."""
+
+# What a linter finds; None if it isn't installed.
+Faults = Optional[List[str]]
+LINTERS: Dict[str, Callable[[], Faults]] = {
+    'flake8': flake8,
+    'black': black,
+    'mypy': mypy,
+    'comments for linters': unexplained_comments,
+    'layout': layout_faults,
+    'words': retired_words,
+    'pages made from sources': made_faults,
+    'crates in ARCHITECTURE': architecture_faults,
+}
+
+
+def summary(found: Dict[str, Faults]) -> str:
+    """The last line: how many linters passed, which failed, and which were skipped."""
+    failed = [name for name, faults in found.items() if faults]
+    skipped = [name for name, faults in found.items() if faults is None]
+    line = f'lint: {len(found) - len(failed) - len(skipped)} passed, {len(failed)} failed'
+    line += f' ({", ".join(failed)})' if failed else ''
+    line += f', {len(skipped)} skipped'
+    return f'{line} (not installed: {", ".join(skipped)})' if skipped else line
+
+
+def lint(linters: Dict[str, Callable[[], Faults]]) -> int:
+    """Runs the linters, prints what they find, and returns the status."""
+    found = {name: linter() for name, linter in linters.items()}
+    for name, faults in found.items():
+        for fault in faults or []:
+            print(f'{name}: {fault}')
+    print(summary(found), flush=True)
+    return 1 if any(found.values()) else 0
+
+
+def main(words: Optional[List[str]] = None) -> int:
+    parser = argparse.ArgumentParser(
+        prog='lint', description=ABOUT, formatter_class=argparse.RawDescriptionHelpFormatter
+    )
+    parser.add_argument(
+        '--install',
+        action='store_true',
+        help='install flake8, black and mypy by apt-get first, if they are missing and you may',
+    )
+    if parser.parse_args(words).install:
+        install(missing())
+    return lint(LINTERS)

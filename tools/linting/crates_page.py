@@ -1,0 +1,78 @@
+"""Each crate of crates.txt is in ARCHITECTURE's picture of layers and in its table, once."""
+
+from __future__ import annotations
+
+import re
+from typing import Dict, Iterator, List, Tuple
+
+from releasing.statements import dependencies
+
+from .sources import TOP
+
+CRATE = re.compile(r'\b(?:cs_\w+|crashfs)\b')
+NOT_OF_THE_PROGRAM = re.compile(r'(_tests|_bench)$|^cs_test_')
+
+
+def section(page: str, title: str) -> str:
+    """The part of the page below a heading."""
+    return page.split(f'\n## {title}\n', 1)[1].split('\n## ', 1)[0]
+
+
+def table_rows(page: str) -> List[List[str]]:
+    """The cells of each row of the table of crates, without the line below its head."""
+    rows = [line for line in section(page, 'The crates').splitlines() if line.startswith('|')]
+    return [[cell.strip() for cell in row.strip('|').split('|')] for row in rows[2:]]
+
+
+def crates_in_picture(page: str) -> List[Tuple[str, int]]:
+    """Each crate of the picture with its layer, as often as it is there."""
+    found, layer = [], 0
+    for line in section(page, 'The layers').splitlines():
+        number = re.match(r'\| (\d) ', line)
+        layer = int(number[1]) if number else layer
+        if line.startswith('|'):
+            found += [(crate, layer) for crate in CRATE.findall(line)]
+    return found
+
+
+def crates_in_table(page: str) -> List[Tuple[str, int]]:
+    """Each crate of the table with the layer that it is below; 0 for tests and benchmarks."""
+    found, layer = [], 0
+    for name, *_ in table_rows(page):
+        head = re.match(r'\*\*(\d) ', name)
+        if name.startswith('**'):
+            layer = int(head[1]) if head else 0
+        else:
+            found.append((name, layer))
+    return found
+
+
+def differing(what: str, found: List[str], wanted: List[str]) -> Iterator[str]:
+    for name in sorted({*found, *wanted}):
+        if found.count(name) != wanted.count(name):
+            yield f'{name} is {found.count(name)} times in {what}, not {wanted.count(name)} times'
+
+
+def crate_page_faults(page: str, uses: Dict[str, List[str]]) -> Iterator[str]:
+    """What the page says otherwise than crates.txt, whose crates are given with what each uses."""
+    picture, table = crates_in_picture(page), crates_in_table(page)
+    layers = dict(picture)
+    yield from differing('the table', [name for name, _ in table], list(uses))
+    program = [name for name in uses if not NOT_OF_THE_PROGRAM.search(name)]
+    yield from differing('the picture', [name for name, _ in picture], program)
+    for name, layer in table:
+        if layers.get(name, 0) != layer:
+            yield f'{name} is in layer {layers.get(name, 0)} of the picture, {layer} of the table'
+    for cells in table_rows(page):
+        if len(cells) != 3 or not (all(cells) or cells[0].startswith('**')):
+            yield f'{cells[0]}: its row must say what it is and what it promises'
+    for name in layers:
+        for used in uses.get(name, []):
+            if layers.get(used, 0) > layers[name]:
+                yield f'{name} uses {used} of a higher layer'
+
+
+def architecture_faults() -> List[str]:
+    page = (TOP / 'docs' / 'ARCHITECTURE.md').read_text('utf-8')
+    uses = dependencies((TOP / 'crates.txt').read_text('utf-8'))
+    return [f'docs/ARCHITECTURE.md: {fault}' for fault in crate_page_faults(page, uses)]

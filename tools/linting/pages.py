@@ -1,0 +1,44 @@
+"""Whether what is made from the sources is as they are, and whether they say what it needs."""
+
+from __future__ import annotations
+
+from typing import List
+
+from inventory.command import older_files
+from inventory.sources import crate_names, edits_of, examples_in, tools_tests
+
+from .sources import CRATES, name_of
+
+
+def older_pages() -> List[str]:
+    """The files that `tools/inventories` would write otherwise."""
+    return [
+        f'{name_of(path)} is older than the sources: run tools/inventories'
+        for path in older_files()
+    ]
+
+
+def silent_tests() -> List[str]:
+    """The tests of the crates and files of tests of the tools that don't say what they show."""
+    files = [f'tools/tests/{it.name}' for it in tools_tests() if not it.sentence]
+    tests = [
+        f'{name_of(path)}: {it.name}'
+        for path in sorted(CRATES.glob('*/src/**/*.rt'))
+        for it in examples_in(path)
+        if not it.sentence
+    ]
+    return [f'{name} has no sentence that says what it shows' for name in [*files, *tests]]
+
+
+def edits_of_no_crate() -> List[str]:
+    """The must-fail edits that no crate of crates.txt has."""
+    listed = {(crate, name) for crate in crate_names() for name in edits_of(crate)}
+    return [
+        f'{name_of(path)}: crates.txt has no such crate'
+        for path in sorted(CRATES.glob('*/must-fail/*.edit'))
+        if (path.parent.parent.name, path.stem) not in listed
+    ]
+
+
+def made_faults() -> List[str]:
+    return [*older_pages(), *silent_tests(), *edits_of_no_crate()]

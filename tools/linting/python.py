@@ -1,0 +1,73 @@
+"""The linters of Python: flake8, black and mypy, and the reason of each comment for them."""
+
+from __future__ import annotations
+
+import os
+import re
+import shutil
+import subprocess
+from pathlib import Path
+from typing import Dict, List, Optional
+
+from .sources import TOP, TOOLS, name_of, programs, python_files
+
+# The packages of Debian that have them.
+PACKAGES = ('flake8', 'black', 'mypy')
+UNEXPLAINED = re.compile(r'#\s*(?:type: ignore|noqa)(?!(?:\[[\w, -]+\]|: [A-Z]\d+)  # \S)')
+
+
+def missing() -> List[str]:
+    """The linters that aren't installed."""
+    return [name for name in PACKAGES if shutil.which(name) is None]
+
+
+def install(names: List[str]) -> None:
+    """Installs packages if this user may; otherwise, and if it fails, nothing happens."""
+    if names and os.geteuid() == 0 and shutil.which('apt-get'):
+        line = ['apt-get', 'install', '--yes', '--no-install-recommends', *names]
+        environment = {**os.environ, 'DEBIAN_FRONTEND': 'noninteractive'}
+        subprocess.run(line, env=environment, stdout=subprocess.DEVNULL)
+
+
+def run(words: List[str], files: List[Path]) -> Optional[List[str]]:
+    """What a linter prints if its status isn't 0; None if it isn't installed."""
+    if shutil.which(words[0]) is None:
+        return None
+    ran = subprocess.run(
+        [*words, *map(name_of, files)],
+        cwd=TOP,
+        stdout=subprocess.PIPE,
+        stderr=subprocess.STDOUT,
+        text=True,
+        env={**os.environ, 'MYPYPATH': str(TOOLS)},
+    )
+    if ran.returncode == 0:
+        return []
+    return ran.stdout.strip().splitlines() or [f'{words[0]}: status {ran.returncode}']
+
+
+def flake8() -> Optional[List[str]]:
+    return run(['flake8'], python_files())
+
+
+def black() -> Optional[List[str]]:
+    return run(['black', '--check'], python_files())
+
+
+def mypy() -> Optional[List[str]]:
+    """The faults in types of all but the tests, whose helpers take anything."""
+    return run(['mypy'], programs())
+
+
+def unexplained(texts: Dict[str, str]) -> List[str]:
+    """The comments that silence a linter and don't say why: `# type: ignore[code]  # reason`."""
+    return [
+        f'{name}:{number}: {found[0]}: give the code, and the reason in a comment behind it'
+        for name, text in texts.items()
+        for number, line in enumerate(text.splitlines(), 1)
+        if (found := UNEXPLAINED.search(line))
+    ]
+
+
+def unexplained_comments() -> List[str]:
+    return unexplained({name_of(path): path.read_text('utf-8') for path in python_files()})

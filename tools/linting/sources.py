@@ -1,0 +1,52 @@
+"""The files that the linters read."""
+
+from __future__ import annotations
+
+from pathlib import Path
+from typing import Iterator, List
+
+TOP = Path(__file__).resolve().parent.parent.parent
+TOOLS = TOP / 'tools'
+CRATES = TOP / 'crates'
+EXAMPLES = TOP / 'examples'
+# The folders of a crate that the prover reads.
+PARTS = ('src', 'specs', 'proofs')
+
+
+def is_python(path: Path) -> bool:
+    """Whether a file is a module or a script of Python."""
+    if path.suffix == '.py':
+        return True
+    if path.suffix or not path.is_file():
+        return False
+    with path.open('rb') as file:
+        line = file.readline()
+    return line.startswith(b'#!') and b'python' in line
+
+
+def python_files() -> List[Path]:
+    """The modules and scripts of tools/ and of the examples."""
+    found = [*TOOLS.iterdir(), *TOOLS.rglob('*.py'), *EXAMPLES.rglob('*.py')]
+    return sorted({path for path in found if is_python(path)})
+
+
+def is_test(path: Path) -> bool:
+    return TOOLS / 'tests' in path.parents
+
+
+def programs() -> List[Path]:
+    """The commands of tools/ and their modules, without the tests."""
+    return [path for path in python_files() if TOOLS in path.parents and not is_test(path)]
+
+
+def crate_sources() -> Iterator[Path]:
+    """The files of all crates that the prover reads."""
+    for part in PARTS:
+        for path in sorted(CRATES.glob(f'*/{part}/**/*')):
+            if path.suffix in ('.rt', '.antt'):
+                yield path
+
+
+def name_of(path: Path) -> str:
+    """The path of a file below the repository."""
+    return str(path.relative_to(TOP))

@@ -1,0 +1,1 @@
+"""Draws the pictures of docs/images from checks that are run for them."""

@@ -1,0 +1,122 @@
+"""The command release: makes the files that a user downloads, in dist/."""
+
+from __future__ import annotations
+
+import argparse
+import os
+import platform
+import subprocess
+import sys
+import tempfile
+from pathlib import Path
+from typing import List, Optional
+
+from crashfs_tools import VERSION
+from gating.verdict import counts_of_gate
+
+from .archives import write_package, write_tarball
+from .layout import TOP, items_with
+from .linking import LinkFault, kit_version, link_statically, linker_version
+from .statements import BUILT, GIVEN, NOT_RUN, Made, attestation, built_module, checksums, spdx
+
+ABOUT = """\
+Makes the files that a user downloads, in dist/, from the program that tools/build proved.
+
+It runs tools/build first, which takes seconds if nothing changed, unless an object file is given.
+Then it writes crashfs-VERSION-linux-x86_64.tar.gz, with a static crashfs that runs on any Linux;
+crashfs_VERSION_amd64.deb; SHA256SUMS; crashfs-VERSION.spdx.json, which lists what is linked; and
+ATTESTATION, with the commit, the kit, the checksums of the object file and of the program, and the
+counts of the gate. Times are those of the commit (or SOURCE_DATE_EPOCH), so two runs on one machine
+give the same bytes. It needs gcc, git, rt and dpkg-deb.
+
+The log of the gate must be of this commit, of a clean tree and of this toolchain, and say status 0
+and 0 failed; any other is refused.
+
+Exit status 0: all is written. 1: something is missing, a program failed, or the log is refused. 2:
+the command line."""
+OBJECTS = TOP / 'crates' / 'crashfs' / 'out' / 'crashfs.o'
+
+
+def git(*words: str) -> str:
+    ran = subprocess.run(['git', *words], cwd=TOP, stdout=subprocess.PIPE, text=True, check=True)
+    return ran.stdout.strip()
+
+
+def commit_of_tree() -> str:
+    """The commit that is checked out, with a mark if a file that git knows differs from it."""
+    return git('rev-parse', 'HEAD') + ('-dirty' if git('status', '--porcelain', '-uno') else '')
+
+
+def made_by(log: Optional[Path], objects: str) -> Made:
+    """Of which commit and kit the release is, and what its gate counted; ValueError if the log is
+    not of a gate of both that passed."""
+    commit, kit = commit_of_tree(), kit_version()
+    seconds = int(os.environ.get('SOURCE_DATE_EPOCH') or git('log', '-1', '--format=%ct'))
+    gate = NOT_RUN
+    if log is not None:
+        gate = counts_of_gate(log.read_text(errors='replace'), commit, kit)
+    c_library = ' '.join(platform.libc_ver())
+    return Made(VERSION, commit, kit, seconds, gate, objects, linker_version(), c_library)
+
+
+def linked(objects: Path) -> bytes:
+    """The static program of the objects."""
+    with tempfile.TemporaryDirectory(prefix='crashfs-release-') as room:
+        program = Path(room) / 'crashfs'
+        link_statically(objects, program)
+        return program.read_bytes()
+
+
+def release(made: Made, objects: Path, into: Path) -> None:
+    """Writes the five files into the folder."""
+    program = linked(objects)
+    items = items_with(program, built_module(made).encode())
+    into.mkdir(parents=True, exist_ok=True)
+    tarball = into / f'crashfs-{made.version}-linux-x86_64.tar.gz'
+    package = into / f'crashfs_{made.version}_amd64.deb'
+    write_tarball(tarball, items, made.seconds)
+    write_package(package, made.version, items, made.seconds)
+    listing = into / f'crashfs-{made.version}.spdx.json'
+    listing.write_text(spdx(made, (TOP / 'crates.txt').read_text()))
+    attested = into / 'ATTESTATION'
+    attested.write_text(attestation(made, objects.read_bytes(), program))
+    (into / 'SHA256SUMS').write_text(checksums([tarball, package, listing, attested]))
+
+
+def command_line() -> argparse.ArgumentParser:
+    parser = argparse.ArgumentParser(
+        prog='release', description=ABOUT, formatter_class=argparse.RawDescriptionHelpFormatter
+    )
+    parser.add_argument(
+        '--gate',
+        type=Path,
+        metavar='FILE',
+        help='what .ci/run printed for this commit; ATTESTATION has its counts',
+    )
+    parser.add_argument(
+        '--objects',
+        type=Path,
+        metavar='FILE',
+        help='the object file of the program; ATTESTATION says that it was given',
+    )
+    parser.add_argument(
+        '--into',
+        type=Path,
+        metavar='FOLDER',
+        default=TOP / 'dist',
+        help='where the files are written (dist)',
+    )
+    return parser
+
+
+def main(words: Optional[List[str]] = None) -> int:
+    given = command_line().parse_args(words)
+    try:
+        made = made_by(given.gate, GIVEN if given.objects else BUILT)
+        if given.objects is None:
+            subprocess.run([TOP / 'tools' / 'build'], check=True)
+        release(made, given.objects or OBJECTS, given.into)
+    except (LinkFault, ValueError, OSError, subprocess.CalledProcessError) as fault:
+        print(f'release: {fault}', file=sys.stderr)
+        return 1
+    return 0

@@ -1,0 +1,102 @@
+"""The examples with their expected output: lists of states, and replies to scripts."""
+
+from __future__ import annotations
+
+import re
+import shutil
+import subprocess
+import sys
+import tempfile
+import time
+from pathlib import Path
+from typing import Dict, List, NamedTuple, Optional
+
+from crashfs_tools.common.program import READING, Crashfs
+
+from .outcome import Outcome
+
+TOP = Path(__file__).resolve().parents[2]
+EXAMPLES = TOP / 'examples'
+CRATE = TOP / 'crates' / 'crashfs'
+# The trace and the users file of scripts, and of one that has others.
+USUAL, OTHERS = ('start.trace', 'users'), {'recovery': ('store.trace', 'store.users')}
+NEEDS_PROGRAM = 'the replies to its scripts need `crashfs` (tools/build)'
+CASE = re.compile(r'^== (\S+)\n(.*?)^case=', re.M | re.S)
+
+
+class Files(NamedTuple):
+    """The files of examples/ that scripts are run with."""
+
+    trace: str
+    users: str
+
+    def words(self) -> List[str]:
+        return ['script', '--trace', self.trace, '--users', self.users]
+
+
+def lists() -> List[str]:
+    return sorted(path.stem for path in EXAMPLES.glob('*.list'))
+
+
+def scripts() -> Dict[Files, List[str]]:
+    """The scripts that are run with the same files, by these files."""
+    found: Dict[Files, List[str]] = {}
+    for path in sorted(EXAMPLES.glob('*.script')):
+        found.setdefault(Files(*OTHERS.get(path.stem, USUAL)), []).append(path.stem)
+    return found
+
+
+def compare(outcome: Outcome, expected: str, printed: str) -> None:
+    """Counts an example by what was printed for it."""
+    if printed == (EXAMPLES / expected).read_text('utf-8'):
+        outcome.passed += 1
+    else:
+        outcome.failed += 1
+        outcome.output += f'examples/{expected} is not what was printed:\n{printed[-2000:]}\n'
+
+
+def printed(words: List[str], folder: Path, given: Optional[Path] = None) -> str:
+    """What a command prints in a folder, with a file as its standard input."""
+    ran = subprocess.run(
+        words,
+        cwd=folder,
+        input=given.read_bytes() if given else b'',
+        stdout=subprocess.PIPE,
+        stderr=subprocess.STDOUT,
+        check=False,
+    )
+    return ran.stdout.decode('utf-8', 'replace')
+
+
+def try_examples(has_rt: bool) -> Outcome:
+    """The examples by the program, if it is built. Else the lists by the second reading; then the
+    scripts need the toolchain."""
+    begin, program = time.monotonic(), Crashfs.find(None)
+    head = [program.path] if program else [sys.executable, '-S', READING]
+    outcome = Outcome('examples')
+    for name in lists():
+        words = [*head, 'list', '--trace', f'{name}.trace', '--holes']
+        compare(outcome, f'{name}.list', printed(words, EXAMPLES))
+    for files, names in scripts().items() if program else ():
+        for name in names:
+            found = printed([*head, *files.words()], EXAMPLES, EXAMPLES / f'{name}.script')
+            compare(outcome, f'{name}.replies', found)
+    if not program and not has_rt:
+        outcome.left.append(f'{sum(map(len, scripts().values()))} examples: {NEEDS_PROGRAM}')
+    outcome.seconds = time.monotonic() - begin
+    return outcome
+
+
+def try_scripts(files: Files, names: List[str]) -> Outcome:
+    """Scripts by a program that the toolchain compiles without any proof."""
+    begin, outcome = time.monotonic(), Outcome(f'scripts over {files.trace}')
+    with tempfile.TemporaryDirectory(prefix='crashfs-test-') as folder:
+        for name in names:
+            shutil.copy(EXAMPLES / f'{name}.script', folder)
+        data = [word for name in files for word in ('--data', f'{name}={EXAMPLES / name}')]
+        said = printed(['rt', 'try', '--cases', folder, *data, '--', *files.words()], CRATE)
+    replies = dict(CASE.findall(said))
+    for name in names:
+        compare(outcome, f'{name}.replies', replies.get(f'{name}.script', said))
+    outcome.seconds = time.monotonic() - begin
+    return outcome

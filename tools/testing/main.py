@@ -1,0 +1,83 @@
+"""The command tools/test."""
+
+from __future__ import annotations
+
+import argparse
+import os
+import shutil
+import sys
+from functools import partial
+from typing import Dict, Iterator, List
+
+from crashfs_tools.common.program import Crashfs
+
+from .at_once import Part, gigabytes_available, outcomes, places
+from .crates import LEFT_CRATES, crates_with_tests, try_tests
+from .examples import scripts, try_examples, try_scripts
+from .outcome import Outcome
+from .tools_tests import try_tools
+
+DESCRIPTION = """\
+Runs all tests that need no proofs: those of the tools, the examples, and with the toolchain (`rt`
+on PATH) those of each crate by `rt try --test`, as many crates at once as there are processors and
+memory for. It prints a line for each part, then what it could not run, and last the line
+`N passed, M failed`. Status 0 means that no test failed."""
+
+
+def parts_with_rt() -> Dict[str, Part]:
+    """The crates, and the scripts of the examples if no program is built."""
+    parts: Dict[str, Part] = {
+        crate.name: partial(try_tests, crate)
+        for crate in crates_with_tests()
+        if crate.name not in LEFT_CRATES
+    }
+    if Crashfs.find(None) is None:
+        for files, names in scripts().items():
+            parts[f'scripts over {files.trace}'] = partial(try_scripts, files, names)
+    return parts
+
+
+def left_without_rt() -> List[str]:
+    """What can't be run without the toolchain."""
+    tests = sum(crate.tests for crate in crates_with_tests())
+    return [f'the {tests} tests of the crates: they need `rt`, the command of the toolchain']
+
+
+def left_with_rt() -> List[str]:
+    """The crates that only the gate tests."""
+    tests = {crate.name: crate.tests for crate in crates_with_tests()}
+    return [f'the {tests[name]} tests of {name}: {why}' for name, why in LEFT_CRATES.items()]
+
+
+def all_outcomes(has_rt: bool, count: int) -> Iterator[Outcome]:
+    """The tools' tests and the examples first, since they take least, and then the crates."""
+    yield from outcomes({'tools': try_tools, 'examples': partial(try_examples, has_rt)}, 2)
+    if has_rt:
+        yield from outcomes(parts_with_rt(), count)
+
+
+def main() -> int:
+    words = argparse.ArgumentParser(
+        description=DESCRIPTION, formatter_class=argparse.RawDescriptionHelpFormatter
+    )
+    default = places(os.cpu_count() or 1, gigabytes_available())
+    words.add_argument(
+        '--jobs',
+        type=int,
+        default=default,
+        metavar='N',
+        help=f'how many crates are tested at once ({default} here)',
+    )
+    given = words.parse_args()
+    has_rt = shutil.which('rt') is not None
+    left = left_with_rt() if has_rt else left_without_rt()
+    passed = failed = 0
+    for one in all_outcomes(has_rt, max(1, given.jobs)):
+        passed, failed, left = passed + one.passed, failed + one.failed, left + one.left
+        print(one.line(), flush=True)
+        if one.output:
+            print(one.output.rstrip('\n'), file=sys.stderr, flush=True)
+    for what in left:
+        print(f'not run: {what}')
+    print(f'{passed} passed, {failed} failed')
+    return 1 if failed else 0

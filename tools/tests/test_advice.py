@@ -1,0 +1,175 @@
+"""Advice: where syncs belong, what is tried, and what is only said if it helps."""
+
+import itertools
+import unittest
+
+from crashfs_tools.checker.findings.advice import Advice, Tried
+from crashfs_tools.checker.findings.swaps import moved_lines
+from crashfs_tools.checker.findings.sync_points import sync_points
+from crashfs_tools.common.trace_text import read_text, with_syncs
+
+from .support import FAKE
+from .test_check_command import InStore
+from .test_groups import THIRD, line, rename, report_of, write
+
+
+def lines_of(*lines):
+    """A file of so many lines, by their numbers from 2."""
+    return read_text(THIRD + ''.join(lines)).operations
+
+
+class Points(unittest.TestCase):
+    def test_one_sync_serves_all_pairs_that_it_is_between(self):
+        lines = lines_of(*[write('/f', 'x', at) for at in range(12)])
+        for places, wanted in [
+            ([(2, 5), (3, 5), (4, 5)], {4: '/f'}),
+            ([(2, 3), (4, 5)], {2: '/f', 4: '/f'}),
+            ([(2, 9), (3, 4), (5, 9)], {3: '/f', 5: '/f'}),
+            ([(2, 13)], {2: '/f'}),
+        ]:
+            self.assertEqual(sync_points(places, lines), wanted)
+
+    def test_there_are_as_few_as_possible(self):
+        lines = lines_of(*[write('/f', 'x', at) for at in range(7)])
+        pairs = [(lost, kept) for lost in range(2, 8) for kept in range(lost + 1, 9)]
+        for places in itertools.combinations(pairs, 3):
+            points = sync_points(places, lines)
+            self.assertTrue(all(any(a <= at < b for at in points) for a, b in places), places)
+            fewer = itertools.combinations(range(2, 8), len(points) - 1)
+            for other in fewer:
+                self.assertFalse(all(any(a <= at < b for at in other) for a, b in places))
+
+    def test_each_file_has_its_own_and_before_it_is_renamed(self):
+        lines = lines_of(
+            write('/a', 'x'), write('/b', 'x'), rename('/a', '/c'), line('creat', '/d')
+        )
+        self.assertEqual(sync_points([(2, 5), (3, 5)], lines), {2: '/a', 3: '/b'})
+        self.assertEqual(sync_points([(4, 5)], lines), {4: '/'})
+
+    def test_two_paths_may_be_synced_after_one_line(self):
+        text = with_syncs('1\n2\n3', [(2, '/b'), (2, '/a'), (3, '/')])
+        self.assertEqual(
+            text,
+            '1\n2\n{"op": "fsync", "path": "/a"}\n{"op": "fsync", "path": "/b"}\n3\n'
+            '{"op": "fsync", "path": "/"}',
+        )
+
+
+class Said(unittest.TestCase):
+    def test_advice_that_leaves_as_many_failures_is_none(self):
+        advice = Advice(['line 2 was not durable:'], 'fsync /f between them', {2: '/f'})
+        advice.tried = Tried(0, 2, 84, 84, before=84, after=84)
+        self.assertEqual(
+            advice.lines(),
+            [
+                'line 2 was not durable:',
+                'tried, and not enough alone: fsync /f between them '
+                '(84 states fail then, 84 before)',
+            ],
+        )
+        advice.tried = Tried(0, 2, 82, 82, before=84, after=82)
+        self.assertEqual(advice.lines()[1], 'fsync /f between them')
+        self.assertIn('tried: with that sync 0 of these 2 states', advice.lines()[2])
+
+    def test_a_directory_that_is_never_synced_is_named_once(self):
+        text = THIRD + line('creat', '/a') + line('say', text='a') + line('creat', '/b')
+        text += line('mkdir', '/d') + line('say', text='b')
+
+        def cause(files, says):
+            gone = [name for name, least in (('a', 1), ('b', 2)) if says >= least]
+            gone = [name for name in gone if f'/{name}' not in files]
+            return f'lost: {gone[0]}' if gone else ''
+
+        report = report_of(text, cause)
+        remedies = [group.advice.remedy for group in report.groups()]
+        self.assertEqual(
+            [one for one in remedies if '1 more place' in one],
+            ['the directory / is never synced: fsync it between them (and at 1 more place)'],
+        )
+        self.assertEqual(report.groups()[0].advice.syncs, {2: '/', 4: '/'})
+        synced = report_of(text + line('fsync', '/'), cause)
+        self.assertNotIn('never synced', ' '.join(synced.lines()))
+
+
+class Swapped(unittest.TestCase):
+    def test_the_later_line_moves_with_what_it_needs(self):
+        lines = lines_of(
+            line('unlink', '/old'),
+            line('creat', '/new+'),
+            line('say', text='a'),
+            write('/new+', 'x'),
+            line('fsync', '/new+'),
+            line('creat', '/other'),
+            rename('/new+', '/new'),
+        )
+        self.assertEqual(moved_lines(lines[2], lines[8], lines), [3, 5, 6, 8])
+
+    def test_lines_of_the_same_file_do_not_change_places(self):
+        lines = lines_of(line('truncate', '/f', length=0), line('creat', '/g'), rename('/f', '/g'))
+        self.assertEqual(moved_lines(lines[2], lines[4], lines), [])
+
+
+class Tries(InStore):
+    def check(self, text, script):
+        trace = self.write('a.trace', text)
+        command = self.write('check.sh', '#!/bin/sh\n' + script, 0o755)
+        ran = self.run_tool('crashfs-check', '--crashfs', FAKE, trace, '--', command)
+        self.assertEqual(ran.returncode, 1, ran.stderr)
+        self.assert_nothing_left()
+        return ' '.join(ran.stdout.split())
+
+    def test_another_order_is_advised_if_it_helps(self):
+        """The old table is removed before the new one is named."""
+        text = THIRD + line('creat', '/old') + line('fsync', '/') + line('say', text='made')
+        text += line('unlink', '/old') + line('creat', '/new+') + line('fsync', '/new+')
+        text += rename('/new+', '/new') + line('fsync', '/')
+        script = (
+            'test $CRASHFS_SAYS = 0 || test -e old || test -e new || '
+            '{ echo "refused: no table"; exit 1; }\n'
+        )
+        shown = self.check(text, script)
+        self.assertIn(
+            'no sync helps: do line 8 before line 5, with a sync between them (tried: then none '
+            'fails)',
+            shown,
+        )
+
+    def test_another_order_that_does_not_help_is_not_advised(self):
+        """A block that the old root refers to is used again before the new root is durable."""
+        text = THIRD + line('creat', '/blocks') + write('/blocks', 'a') + line('creat', '/root')
+        text += write('/root', 'a') + line('fsync', '/blocks') + line('fsync', '/root')
+        text += line('fsync', '/') + line('say', text='a') + write('/blocks', 'b')
+        text += line('fsync', '/blocks') + write('/root', 'b') + line('fsync', '/root')
+        script = (
+            'test $CRASHFS_SAYS = 0 || test $(cat root) = $(cat blocks) || '
+            '{ echo "corrupt: another block"; exit 1; }\n'
+        )
+        shown = self.check(text, script)
+        self.assertIn(
+            'no sync helps: line 10 overwrites bytes that are needed until line 12 (write /root, '
+            '1 bytes at 0) is durable: write to another place until then',
+            shown,
+        )
+        self.assertNotIn('do line 12 before', shown)
+
+    def test_all_syncs_are_tried_at_once_and_entries_are_folded(self):
+        """Two files, each lost without a sync of its own; the row that is lost with the first one
+        has another cause in states that lack more."""
+        text = THIRD + line('creat', '/a') + line('creat', '/b') + line('fsync', '/')
+        text += write('/a', '1') + line('say', text='a') + write('/b', '1')
+        text += line('say', text='b') + line('creat', '/c')
+        script = (
+            'for f in a b; do test $CRASHFS_SAYS -lt 1 && exit; test $CRASHFS_SAYS = 1 && test $f '
+            '= b && exit\ngrep -q 1 $f || { test -e c && echo "gone: $f" || echo "lost: $f"; exit '
+            '1; }; done\n'
+        )
+        shown = self.check(text, script)
+        self.assertIn(
+            'with both syncs none fails with these syncs these entries are gone too:', shown
+        )
+        self.assertIn('gone: a', shown.partition('are gone too:')[2])
+        self.assertNotIn('was not durable', shown.partition('are gone too:')[2])
+
+
+if __name__ == '__main__':
+    unittest.main()

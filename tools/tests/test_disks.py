@@ -1,0 +1,307 @@
+"""Sessions that are made again on real file systems, and the disks that crashes leave."""
+
+from __future__ import annotations
+
+import os
+import signal
+import subprocess
+import sys
+import tempfile
+import unittest
+from collections import Counter
+from pathlib import Path
+from typing import Dict, List, Set
+from unittest import mock
+
+from crashfs_tools.common.command import Refused
+from crashfs_tools.common.entry import Entries, Entry
+from crashfs_tools.common.trace import KINDS, Trace
+from crashfs_tools.common.trace_read import read_trace, replay
+from crashfs_tools.disks import disk, filesystems, images
+from crashfs_tools.disks.levers import Lever, Pull, pulls
+from crashfs_tools.disks.moments import Moment, moments
+from crashfs_tools.disks.owners import FIRST_UNKNOWN, Owners
+from crashfs_tools.disks.pool import DiskPool
+from crashfs_tools.disks.replay import CALLS, Replay, lay_out_start
+from crashfs_tools.reading import plan_of, read
+from crashfs_tools.reading.order import Order
+
+from .support import EXAMPLES, TOOLS, InFolder
+
+CONFIG = EXAMPLES / 'config' / 'config.trace'
+LACKING = filesystems.lacking([filesystems.KNOWN['ext4']])
+needs_disks = unittest.skipIf(LACKING is not None, f'no disks can be made here: {LACKING}')
+
+ALL_KINDS = """\
+{"trace":3,"profile":"blocks","block":4096,"owner":"root","group":"root","mode":"755"}
+{"start":"dir","path":"/d","owner":"root","group":"root","mode":"700"}
+{"start":"file","path":"/d/f","owner":"root","group":"root","mode":"644","text":"hello"}
+{"start":"link","path":"/g","from":"/d/f"}
+{"op":"creat","path":"/a","owner":"root","group":"root","mode":"600"}
+{"op":"write","path":"/a","offset":0,"text":"one"}
+{"op":"say","text":"1"}
+{"op":"fsync","path":"/a"}
+{"op":"say","text":"2"}
+{"op":"say","text":"3"}
+{"op":"mkdir","path":"/e","owner":"root","group":"root","mode":"711"}
+{"op":"rename","from":"/a","to":"/e/b"}
+{"op":"fsync","path":"/e"}
+{"op":"link","from":"/e/b","to":"/c"}
+{"op":"write","path":"/c","offset":5000,"text":"two"}
+{"op":"fsync_range","path":"/c","offset":4096,"length":100}
+{"op":"fsync_range","path":"/c","offset":0,"length":5003}
+{"op":"truncate","path":"/g","length":2}
+{"op":"chmod","path":"/g","mode":"640"}
+{"op":"chown","path":"/d","owner":"root","group":"root"}
+{"op":"creat","path":"/h","owner":"root","group":"root","mode":"644"}
+{"op":"unlink","path":"/h"}
+{"op":"mkdir","path":"/i","owner":"root","group":"root","mode":"755"}
+{"op":"rmdir","path":"/i"}
+{"op":"sync"}
+"""
+
+
+def without_root(tree: Entries) -> Dict[str, Entry]:
+    return {path: entry for path, entry in tree.items() if path != '/'}
+
+
+def allowed_trees(path: Path) -> Set[str]:
+    """The digests of the trees of all allowed sets, as the second reading has them."""
+    plan = plan_of(read(path.read_bytes()))
+    order = Order(plan.reading)
+    found = set()
+    for places in range(1 << order.count):
+        if order.is_allowed(places):
+            tree = {
+                name: Entry(
+                    *rights[:2], int(rights[2], 8), None if data is None else bytearray(data)
+                )
+                for name, (rights, data) in plan.trees.tree(places).items()
+            }
+            found.add(disk.digest_of(tree))
+    return found
+
+
+def mounted_below(folder: str) -> List[str]:
+    return [
+        line for line in Path('/proc/self/mountinfo').read_text().splitlines() if folder in line
+    ]
+
+
+class Moments(unittest.TestCase):
+    def test_lines_that_follow_an_operation_are_joined_with_it(self) -> None:
+        trace = read_trace(ALL_KINDS)
+        found = list(moments(trace.operations, 5))
+        self.assertEqual(found[0], Moment(0, 0, 0, 0))
+        self.assertEqual(found[2], Moment(2, 0, 1, 6))
+        self.assertEqual(found[3], Moment(4, 1, 3, 8))
+        self.assertEqual(found[4], Moment(7, 3, 3, 11))
+        self.assertEqual(found[-1], Moment(21, 3, 3, 25))
+        self.assertEqual(len(found), len(trace.operations) + 1 - 3)
+
+    def test_a_lever_is_pulled_as_often_as_it_makes_sense(self) -> None:
+        self.assertEqual(list(pulls(Lever.ONE, 3)), [Pull(Lever.ONE, place) for place in range(3)])
+        self.assertEqual(list(pulls(Lever.ONE, 1)), [])
+        self.assertEqual(list(pulls(Lever.BYTES, 0)), [])
+        self.assertEqual(list(pulls(Lever.LOG, 0)), [Pull(Lever.LOG)])
+
+
+class Replays(InFolder):
+    def replayed(self, trace: Trace) -> Entries:
+        owners = Owners(trace)
+        umask = os.umask(0)
+        try:
+            lay_out_start(trace, self.path('d'), owners)
+            with Replay(self.path('d'), owners) as made:
+                for operation in trace.operations:
+                    made.do(operation)
+                self.assertEqual(made.unsynced, {})
+        finally:
+            os.umask(umask)
+        return disk.read_tree(self.path('d'), owners)
+
+    @unittest.skipIf(os.geteuid() != 0, 'it gives files to others')
+    def test_the_tree_at_the_end_is_that_of_the_trace(self) -> None:
+        tree = self.replayed(read_trace(ALL_KINDS))
+        wanted = replay(ALL_KINDS.splitlines()).entries
+        self.assertEqual(without_root(tree), without_root(wanted))
+        self.assertEqual(set(tree), {'/', '/d', '/d/f', '/g', '/e', '/e/b', '/c'})
+
+    @unittest.skipIf(os.geteuid() != 0, 'it gives files to others')
+    def test_users_that_this_machine_lacks_have_numbers(self) -> None:
+        text = ALL_KINDS.replace('"owner":"root"', '"owner":"no such user"')
+        tree = self.replayed(read_trace(text))
+        self.assertEqual({entry.owner for entry in tree.values()}, {'no such user'})
+        self.assertEqual(os.stat(self.path('d/c')).st_uid, FIRST_UNKNOWN)
+
+    def test_a_number_with_two_names_is_read_as_the_first(self) -> None:
+        owners = Owners(read_trace(ALL_KINDS))
+        with mock.patch.object(owners.users, 'known', return_value=0):
+            self.assertEqual(owners.users.number('toor'), 0)
+        self.assertEqual(owners.users.name(0), 'root')
+
+    def test_each_kind_of_operation_has_its_call(self) -> None:
+        self.assertEqual(set(CALLS), set(KINDS.values()))
+
+
+class Digests(unittest.TestCase):
+    def test_trees_that_differ_have_other_digests(self) -> None:
+        tree: Entries = {
+            '/': Entry('u', 'g', 0o755, None),
+            '/a': Entry('u', 'g', 0o644, bytearray()),
+        }
+        digest = disk.digest_of(tree)
+        for path, entry in [
+            ('/a', Entry('u', 'g', 0o644, bytearray(b'x'))),
+            ('/a', Entry('u', 'g', 0o600, bytearray())),
+            ('/a', Entry('v', 'g', 0o644, bytearray())),
+            ('/a', Entry('u', 'g', 0o644, None)),
+            ('/b', Entry('u', 'g', 0o644, bytearray())),
+        ]:
+            self.assertNotEqual(disk.digest_of({**tree, path: entry}), digest)
+        self.assertEqual(disk.digest_of(dict(reversed(list(tree.items())))), digest)
+
+
+class Names(unittest.TestCase):
+    def test_file_systems_are_named(self) -> None:
+        self.assertEqual(
+            [it.name for it in filesystems.named(['xfs', 'ext4', 'xfs'])], ['xfs', 'ext4']
+        )
+        with self.assertRaisesRegex(Refused, '--disks zfs: no such file system'):
+            filesystems.named(['ext4', 'zfs'])
+
+    def test_what_is_lacking_is_named(self) -> None:
+        none = filesystems.FileSystem('none', 'mkfs.nothing', (), 0)
+        if LACKING is None:
+            self.assertEqual(
+                filesystems.lacking([none]), 'none needs mkfs.nothing, which is not installed'
+            )
+
+
+@needs_disks
+class Disks(InFolder):
+    def test_every_disk_of_ext4_is_an_allowed_set(self) -> None:
+        trace = read_trace(CONFIG.read_text('utf-8'))
+        made = DiskPool([filesystems.KNOWN['ext4']], trace, self.path(''))
+        steps: List[int] = []
+        seen: List[str] = []
+
+        def on_step(_: int, of: int) -> None:
+            steps.append(of)
+            seen.extend(mounted_below(self.path('')))
+
+        found = made.disks(2, on_step)['ext4']
+        self.assertEqual(steps, [len(made.tasks())] * len(made.tasks()))
+        self.assertEqual(seen, [], 'mounts of workers are seen by others')
+        self.assertGreater(len(found), 5)
+        self.assertLessEqual({one.digest for one in found}, allowed_trees(CONFIG))
+        levers = Counter(crash.lever for one in found for crash in one.crashes)
+        self.assertEqual(levers[Lever.NOTHING], len(made.tasks()))
+        self.assertEqual(mounted_below(self.path('')), [])
+
+    def test_a_rename_that_is_not_synced_is_lost_unless_the_log_is_written(self) -> None:
+        text = '\n'.join(
+            [
+                *ALL_KINDS.splitlines()[:3],
+                '{"op":"rename","from":"/d/f","to":"/d/g"}',
+                '{"op":"say","text":"renamed"}',
+            ]
+        )
+        made = DiskPool([filesystems.KNOWN['ext4']], read_trace(text), self.path(''))
+        trees = {
+            crash.lever: '/d/g' in one.tree
+            for one in made.disks(1, lambda *_: None)['ext4']
+            for crash in one.crashes
+            if crash.moment.most == 1
+        }
+        self.assertEqual(trees[Lever.NOTHING], False)
+        self.assertEqual(trees[Lever.LOG], True)
+
+    def test_a_lever_works_without_the_ones_before_it(self) -> None:
+        lines = [
+            *ALL_KINDS.splitlines()[:3],
+            '{"op":"write","path":"/d/f","offset":0,"text":"HELLO"}',
+        ]
+        pool = DiskPool(
+            [filesystems.KNOWN['ext4']],
+            read_trace('\n'.join(lines)),
+            self.path(''),
+            [Lever.BYTES],
+        )
+        found = [
+            (one.tree['/d/f'].data, crash.lever)
+            for one in pool.disks(1, lambda *_: None)['ext4']
+            for crash in one.crashes
+        ]
+        self.assertEqual(found, [(b'HELLO', Lever.BYTES)])
+
+    def test_syncs_of_data_make_what_they_cover_durable(self) -> None:
+        for sync in ('"offset":0,"length":9000', '"offset":4096,"length":4096', ''):
+            lines = [
+                *ALL_KINDS.splitlines()[:3],
+                '{"op":"write","path":"/d/f","offset":4096,"text":"%s"}' % ('x' * 4096),
+                *(['{"op":"fsync_range","path":"/d/f",%s}' % sync] if sync else []),
+                '{"op":"say","text":"written"}',
+            ]
+            with self.subTest(sync):
+                crashes = DiskPool(
+                    [filesystems.KNOWN['ext4']],
+                    read_trace('\n'.join(lines)),
+                    tempfile.mkdtemp(dir=self.path('')),
+                    [Lever.NOTHING],
+                )
+                last = [
+                    one.tree['/d/f'].data
+                    for one in crashes.disks(1, lambda *_: None)['ext4']
+                    for crash in one.crashes
+                    if crash.moment.most == 1
+                ]
+                self.assertEqual(last[0] == b'hello'.ljust(4096, b'\0') + b'x' * 4096, bool(sync))
+
+    def test_a_kill_leaves_nothing_mounted_and_no_process(self) -> None:
+        program = (
+            f'import sys; sys.path.insert(0, {str(TOOLS)!r})\n'
+            'from crashfs_tools.common.trace_read import read_trace\n'
+            'from crashfs_tools.disks.filesystems import KNOWN\n'
+            'from crashfs_tools.disks.pool import DiskPool\n'
+            f'trace = read_trace(open({str(CONFIG)!r}).read())\n'
+            f'crashes = DiskPool([KNOWN["ext4"]], trace, {self.path("")!r})\n'
+            'crashes.disks(2, lambda done, of: print(done, flush=True))\n'
+        )
+        child = subprocess.Popen([sys.executable, '-c', program], stdout=subprocess.PIPE)
+        assert child.stdout is not None
+        child.stdout.readline()
+        workers = Path(f'/proc/{child.pid}/task/{child.pid}/children').read_text().split()
+        self.assertEqual(len(workers), 2)
+        child.send_signal(signal.SIGKILL)
+        child.wait()
+        child.stdout.close()
+        self.wait_until(
+            lambda: not any(os.path.exists(f'/proc/{worker}') for worker in workers), 'workers end'
+        )
+        self.assertEqual(mounted_below(self.path('')), [])
+        self.wait_until(lambda: self.path('') not in loops(), 'the loop devices are free')
+
+
+def loops() -> str:
+    return subprocess.run(['losetup', '-a'], stdout=subprocess.PIPE, check=True).stdout.decode()
+
+
+@needs_disks
+class Copies(InFolder):
+    def test_a_copy_has_the_same_bytes_and_holes(self) -> None:
+        with open(self.path('a'), 'wb') as file:
+            file.truncate(1 << 24)
+            file.seek(1 << 20)
+            file.write(b'x' * 5000)
+        images.copy(self.path('a'), self.path('b'))
+        self.assertEqual(Path(self.path('a')).read_bytes(), Path(self.path('b')).read_bytes())
+        self.assertLess(os.stat(self.path('b')).st_blocks * 512, 1 << 20)
+
+    def test_a_program_that_fails_is_named_with_its_first_line(self) -> None:
+        with self.assertRaisesRegex(Refused, '--disks: sh: no'):
+            images.run(['sh', '-c', 'echo no; echo yes; exit 4'])
+
+
+if __name__ == '__main__':
+    unittest.main()

@@ -1,0 +1,178 @@
+"""crashfs-check --disks: which failing states real file systems leave."""
+
+from __future__ import annotations
+
+import json
+import os
+import shutil
+import signal
+import unittest
+from pathlib import Path
+from typing import Set
+from unittest import mock
+
+from crashfs_tools.checker.findings import disk_search
+from crashfs_tools.checker.findings.sightings import (
+    OUTSIDE,
+    DiskFailure,
+    Explanation,
+    Sightings,
+    sentence,
+)
+from crashfs_tools.checker.running.runner import BAD, Outcome
+from crashfs_tools.common.entry import Entry
+from crashfs_tools.disks.disk import Crash
+from crashfs_tools.disks.levers import Lever
+from crashfs_tools.disks.moments import Moment
+
+from .support import EXAMPLES, FAKE
+from .test_check_command import InStore
+from .test_disks import loops, mounted_below, needs_disks
+
+CONFIG = EXAMPLES / 'config'
+FIRST = Crash(Moment(6, 0, 1, 9), Lever.NOTHING)
+LATER = Crash(Moment(7, 1, 1, 10), Lever.NOTHING)
+LOG = Crash(Moment(2, 0, 0, 3), Lever.LOG)
+HEADER = '{"trace":3,"profile":"blocks","block":4096,"owner":"root","group":"root","mode":"755"}\n'
+# A truncate to a length inside a page: ext4 writes the page before the size.
+TRUNCATED = (
+    HEADER
+    + '{"start":"file","path":"/f","owner":"root","group":"root","mode":"644","text":"%s"}\n'
+    % ('x' * 5000)
+    + '{"op":"truncate","path":"/f","length":1}\n{"op":"say","text":"cut"}\n'
+)
+NO_ZEROS = 'tr -d "\\0" < f | cmp -s - f || { echo "zeros: in the middle"; exit 1; }'
+
+
+class Sentences(unittest.TestCase):
+    def test_where_states_were_seen_and_where_not(self) -> None:
+        names = ['ext4', 'xfs', 'btrfs']
+        self.assertEqual(sentence(names, {}), 'not seen on ext4, xfs or btrfs')
+        self.assertEqual(
+            sentence(names, {'xfs': LOG, 'ext4': FIRST}),
+            'seen on ext4 (after line 9, nothing more written) and xfs (after line 3, the log '
+            'written); not on btrfs',
+        )
+        self.assertEqual(
+            sentence(['ext4'], {'ext4': Crash(Moment(0, 0, 0, 0), Lever.NOTHING)}),
+            'seen on ext4 (before the first operation, nothing more written)',
+        )
+
+    def test_the_crash_that_says_most_is_named(self) -> None:
+        found = Sightings(['ext4', 'xfs'])
+        found.states = {3: {'ext4': LOG}, 4: {'ext4': LATER, 'xfs': LOG}, 5: {'ext4': FIRST}}
+        self.assertEqual(found.of_states([3, 4, 5]), {'ext4': FIRST, 'xfs': LOG})
+        self.assertEqual(found.of_states([3]), {'ext4': LOG})
+        self.assertEqual(found.of_states([9]), {})
+
+    def test_a_tree_on_a_disk_is_shown_with_its_first_paths(self) -> None:
+        tree = {f'/{number:02}': Entry('u', 'g', 0o644, bytearray(3)) for number in range(14)}
+        one = DiskFailure(
+            Outcome(BAD, 'lost: a'), [1, 2], {'ext4': FIRST}, tree, Explanation(OUTSIDE)
+        )
+        where, why, paths = one.lines()
+        self.assertEqual(why, 'no crash state has this tree')
+        self.assertEqual(where, 'seen on ext4 (after line 9, nothing more written), says 1 or 2')
+        self.assertTrue(paths.startswith('/00 (3 bytes), /01 (3 bytes)'), paths)
+        self.assertTrue(paths.endswith('/11 (3 bytes) and 2 more'), paths)
+
+
+class Explanations(unittest.TestCase):
+    def test_a_search_that_was_cut_off_says_how_many_states_it_saw(self) -> None:
+        trace = (CONFIG / 'config.trace').read_bytes()
+        with mock.patch.object(disk_search, 'MOST_STATES', 3):
+            result = disk_search.search(trace, {('none', 0)})
+        self.assertEqual(
+            result.explanation(('none', 0)).text,
+            'none of the 3 crash states that were looked through has this tree',
+        )
+        self.assertEqual(
+            disk_search.search(trace, {('none', 0)}).explanation(('none', 0)), Explanation(OUTSIDE)
+        )
+
+
+class Refusals(InStore):
+    def test_what_is_missing_is_named(self) -> None:
+        for words, wanted in [
+            (('--disks', 'ext4,zfs'), '--disks zfs: no such file system'),
+            (('--disks', ''), '--disks : no such file system'),
+        ]:
+            trace = str(CONFIG / 'config.trace')
+            result = self.run_tool('crashfs-check', *words, trace, '--', 'true')
+            self.assertEqual(result.returncode, 2)
+            self.assertIn(wanted, result.stderr)
+
+
+def images() -> Set[str]:
+    """The folders of images in memory."""
+    return {name for name in os.listdir('/dev/shm') if name.startswith('crashfs-disks-')}
+
+
+@needs_disks
+class OnDisks(InStore):
+    def check_disks(self, trace: str, *command: str, more: str = 'ext4'):
+        words = (
+            '--unproved',
+            '--disks',
+            more,
+            '--json',
+            self.path('r.json'),
+            trace,
+            '--',
+            *command,
+        )
+        result = self.run_tool('crashfs-check', *words)
+        return result, json.loads(Path(self.path('r.json')).read_text('utf-8'))['disks']
+
+    def test_an_entry_says_where_it_was_seen(self) -> None:
+        result, disks = self.check_disks(str(CONFIG / 'config.trace'), str(CONFIG / 'check.sh'))
+        self.assertEqual(result.returncode, 1)
+        text = ' '.join(result.stdout.split())
+        self.assertIn('seen on ext4 (after line 6, nothing more written)', text)
+        self.assertRegex(
+            result.stdout, r'  ext4: \d+ crashes, \d+ different trees: [1-9]\d* fail\n'
+        )
+        self.assertEqual(list(disks['filesystems']), ['ext4'])
+        self.assertIn([6, 'nothing more written'], [it['ext4'] for it in disks['states'].values()])
+        self.assertEqual(disks['further'], [])
+
+    def test_a_failure_that_no_crash_state_has_is_outside_the_model(self) -> None:
+        trace = self.write('cut.trace', TRUNCATED)
+        result, disks = self.check_disks(trace, 'sh', '-c', NO_ZEROS)
+        self.assertIn('none fails', result.stdout)
+        self.assertIn('zeros: in the middle', result.stdout)
+        self.assertIn(' outside the model\n', result.stdout)
+        self.assertIn('different trees: 1 fails\n', result.stdout)
+        self.assertIn('/f (5,000 bytes)', result.stdout)
+        self.assertEqual(
+            [(it['where'], it['says']) for it in disks['further']], [('outside the model', [0, 1])]
+        )
+        self.assertEqual(result.returncode, 1)
+
+    @unittest.skipIf(shutil.which('mkfs.xfs') is None, 'there is no mkfs.xfs')
+    def test_several_file_systems(self) -> None:
+        trace = self.write('cut.trace', HEADER + '{"op":"sync"}\n')
+        _, disks = self.check_disks(trace, 'true', more='ext4,xfs')
+        counts = disks['filesystems']
+        self.assertEqual(
+            {name: it['failing'] for name, it in counts.items()}, {'ext4': 0, 'xfs': 0}
+        )
+
+    def test_a_stop_leaves_no_mount_no_image_and_no_device(self) -> None:
+        before = images()
+        for number in (signal.SIGINT, signal.SIGKILL):
+            child = self.start(
+                *('crashfs-check', '--crashfs', FAKE, '--disks', 'ext4'),
+                *(str(EXAMPLES / 'sqlite' / 'full.trace'), '--', 'true'),
+            )
+            self.wait_until(lambda: bool(images() - before), 'images are made', child)
+            made = images() - before
+            child.send_signal(number)
+            child.communicate()
+            self.wait_until(lambda: not made & images(), 'the images are gone')
+            self.assertEqual(mounted_below('crashfs-disks-'), [])
+            self.wait_until(lambda: 'crashfs-disks-' not in loops(), 'the loop devices are free')
+
+
+if __name__ == '__main__':
+    unittest.main()

@@ -1,0 +1,223 @@
+"""What COMMAND leaves running is ended before the next state begins, and at the check's end."""
+
+import os
+import signal
+import subprocess
+import sys
+import time
+import unittest
+from contextlib import contextmanager
+from unittest import mock
+
+from crashfs_tools.checker.running.runner import GOOD, NO_ANSWER
+from crashfs_tools.checker.running.workers import Workers
+from crashfs_tools.checker.states.layout import Layout
+from crashfs_tools.common import descendants
+
+from .support import FAKE, PATIENCE, long_time
+from .test_check_command import InStore, processes
+from .test_runner import InRuns
+
+# Fails if a process that an earlier state left runs still, and leaves another.
+LEAVES = """\
+#!{python} -S
+import os, sys, time
+word = '{word}'
+for name in filter(str.isdigit, os.listdir('/proc')):
+    try:
+        if word in open('/proc/%s/cmdline' % name, errors='replace').read().split('\\0'):
+            print('left: by another state')
+            sys.exit(1)
+    except OSError:
+        pass
+if os.fork():
+    time.sleep(0.01)
+    sys.exit(0)
+{leave}
+"""
+SLEEP = "os.execv('/bin/sleep', ['sleep', word])"
+BARE = "os.execve('/bin/sleep', ['sleep', word], {})"
+DAEMON = f"""\
+os.setsid()
+if os.fork():
+    os._exit(0)
+os.setsid()
+{BARE}"""
+# What is left has a reaper of its own.
+WITH_REAPER = f"""\
+import ctypes
+ctypes.CDLL(None).prctl(36, 1, 0, 0, 0)
+os.setsid()
+if os.fork() == 0:
+    os.setsid()
+    if os.fork():
+        os._exit(0)
+    {BARE}
+time.sleep(600)"""
+# A process that ends as soon as the next one of its kind has begun.
+COMET = """\
+end = time.monotonic() + 20
+while time.monotonic() < end:
+    {new}
+    if os.fork():
+        os._exit(0)
+    os.write(os.open('{alive}', os.O_WRONLY | os.O_APPEND), b'.')
+    os.closerange(3, 9)"""
+
+
+class Left(InStore):
+    def check_leaving(self, leave, *words):
+        self.write(
+            'leave.py', LEAVES.format(python=sys.executable, word=self.long, leave=leave), 0o755
+        )
+        return self.run_tool(
+            'crashfs-check', '--crashfs', FAKE, '--jobs', '1', *words, self.good, '--', './leave.py'
+        )
+
+    def test_no_later_state_meets_what_an_earlier_one_left(self):
+        for leave in (SLEEP, BARE, DAEMON, WITH_REAPER):
+            with self.subTest(leave):
+                ran = self.check_leaving(leave)
+                self.assertEqual((ran.returncode, ran.stderr), (0, ''), ran.stdout)
+                self.assert_ended()
+                self.assert_nothing_left()
+
+    def test_what_forks_and_ends_all_the_time_is_ended(self):
+        for new in ('pass', 'os.setsid()', 'os.setpgid(0, 0)'):
+            with self.subTest(new):
+                alive = self.write('alive', '')
+                ran = self.check_leaving(COMET.format(new=new, alive=alive), '--prefixes')
+                self.assertEqual((ran.returncode, ran.stderr), (0, ''), ran.stdout)
+                size = os.path.getsize(alive)
+                self.assertGreater(size, 0)
+                time.sleep(0.2)
+                self.assertEqual(os.path.getsize(alive), size)
+
+    def test_a_killed_check_leaves_nothing_of_the_first_states_either(self):
+        begun = self.path('begun')
+        child = self.start(
+            'crashfs-check',
+            '--crashfs',
+            FAKE,
+            self.good,
+            '--',
+            'sh',
+            '-c',
+            f'setsid env -i sleep {self.long} & echo > {begun}; sleep {self.long}',
+        )
+        self.wait_until(lambda: os.path.exists(begun), 'a command has begun', child)
+        child.kill()
+        child.communicate(timeout=PATIENCE)
+        self.wait_until(lambda: not processes(self.long), 'nothing left')
+        self.wait_until(lambda: os.listdir(self.temporary) == [], 'no directory left')
+
+
+class OneState(Layout):
+    """The same directory for each state."""
+
+    def __init__(self, directory):
+        self.directory = directory
+
+    def states(self, wanted):
+        return ((number, self.directory) for number in sorted(wanted))
+
+    @contextmanager
+    def laid_out(self, number, directory):
+        yield
+
+
+class Reapers(InRuns):
+    """In processes of its own that are no reapers, and where kills have no effect."""
+
+    def outcomes_of(self, script, wanted, **more):
+        outcomes = {}
+        checker = self.checker(script, **more)
+        workers = Workers(checker, OneState(self.path('state')), 1, outcomes.__setitem__)
+        try:
+            workers.run(set(wanted), dict.fromkeys(wanted, 0))
+        finally:
+            workers.end(lambda spared: None)
+        return outcomes
+
+    def test_without_a_reaper_the_mark_in_the_environment_finds_what_is_left(self):
+        word = long_time()
+        script = f'! pgrep -fx "sleep {word}" || exit 1; setsid sleep {word} &'
+        with mock.patch(
+            'crashfs_tools.checker.running.workers.become_reaper',
+            side_effect=descendants.NoReaper,
+        ):
+            outcomes = self.outcomes_of(script, range(5))
+        self.assertEqual([one.result for one in outcomes.values()], [GOOD] * 5)
+        self.assertEqual(processes(word), [])
+
+    def test_what_can_not_be_ended_takes_the_answer_of_all_later_states(self):
+        word = long_time()
+        self.write('runs', '')
+        script = (
+            f'echo >> ../runs; setsid sleep {word} & until pgrep -fx "sleep {word}"; do :; done'
+        )
+        self.addCleanup(lambda: [os.kill(one, signal.SIGKILL) for one in processes(word)])
+        with mock.patch.object(descendants, 'kill'), mock.patch.object(
+            descendants, 'ENDING_SECONDS', 0.3
+        ):
+            outcomes = self.outcomes_of(script, range(3))
+        (left,) = processes(word)
+        self.assertEqual([one.result for one in outcomes.values()], [NO_ANSWER] * 3)
+        cause = f'a process that it left could not be ended: {left} (sleep)'
+        self.assertEqual({one.cause for one in outcomes.values()}, {cause})
+        self.assertEqual(self.read('runs'), '\n')
+
+
+class Children(unittest.TestCase):
+    def test_children_are_found_without_the_kernel_s_lists(self):
+        with subprocess.Popen(['sleep', '600']) as child:
+            try:
+                self.assertIn(child.pid, descendants.children())
+                self.assertEqual(
+                    descendants.children(), descendants.children_by_parents(os.getpid())
+                )
+                with mock.patch('builtins.open', side_effect=self.no_lists), mock.patch.object(
+                    descendants, 'has_lists', return_value=False
+                ):
+                    found = descendants.children()
+                self.assertIn(child.pid, found)
+            finally:
+                child.kill()
+
+    def test_a_child_s_whole_group_is_killed_with_it(self):
+        word = long_time()
+        line = ['sh', '-c', f'sleep {word} & echo; wait']
+        with subprocess.Popen(line, stdout=subprocess.PIPE, start_new_session=True) as child:
+            child.stdout.readline()
+            others = descendants.children() - {child.pid}
+            self.assertEqual(descendants.end_children(others), {})
+            self.assertEqual(child.stdout.read(), b'')
+        self.assertEqual(processes(word), [])
+
+    real_open = staticmethod(open)
+
+    def no_lists(self, path, *words, **more):
+        if str(path).endswith('/children'):
+            raise FileNotFoundError(path)
+        return self.real_open(path, *words, **more)
+
+    def test_a_child_that_cleans_up_is_given_time(self):
+        with subprocess.Popen(
+            [sys.executable, '-S', '-c', CLEANS], stdout=subprocess.PIPE, text=True
+        ) as child:
+            child.stdout.readline()
+            others = descendants.children() - {child.pid}
+            self.assertEqual(descendants.end_children(others), {})
+            self.assertEqual(child.stdout.read(), 'cleaned up\n')
+
+
+CLEANS = """\
+import time
+open('/proc/self/comm', 'w').write('crashfs-guard')
+print('begun', flush=True)
+time.sleep(0.3)
+print('cleaned up', flush=True)
+"""
+
+if __name__ == '__main__':
+    unittest.main()

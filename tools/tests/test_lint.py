@@ -1,0 +1,157 @@
+"""The linters: what each finds, and that one that isn't installed is named."""
+
+from __future__ import annotations
+
+import contextlib
+import io
+import unittest
+from typing import Tuple
+from unittest import mock
+
+from inventory.pages import BEGIN, END
+from linting import python
+from linting.command import LINTERS, Faults, lint
+from linting.crates_page import crate_page_faults
+from linting.layout import CODE_COLUMNS, long_functions, long_lines
+from linting.python import install, run, unexplained
+from linting.words import (
+    Line,
+    names_in_python,
+    retired_in,
+    retired_in_name,
+    texts_in_python,
+    texts_in_rattle,
+    without_made,
+)
+
+PAGE = """
+## The layers
+
+| 2 above | cs_b |
+| 1 below | cs_a |
+
+## The crates
+
+| Crate | What it is | What it promises |
+|---|---|---|
+| **1 below** | | |
+| cs_a | a | all |
+| **2 above** | | |
+| cs_b | b | all |
+| **Tests** | | |
+| cs_b_tests | tests | none |
+"""
+USES = {'cs_a': [], 'cs_b': ['cs_a', 'hex'], 'cs_b_tests': ['cs_b']}
+
+
+class Words(unittest.TestCase):
+    def test_a_retired_word_is_found_with_its_line(self) -> None:
+        line = Line('README.md', 7, 'A row that was told stands in the log.')
+        self.assertEqual(
+            retired_in(line),
+            [
+                'README.md:7: "told": acknowledged, reported, printed',
+                'README.md:7: "stands": is, is in',
+            ],
+        )
+        self.assertEqual(retired_in(line._replace(text='Untold understandings')), [])
+
+    def test_documentation_and_texts_are_read_and_comments_are_not(self) -> None:
+        source = '"""It tells."""\ndef f():\n    """It stands."""\n    # told\n    print("yes")\n'
+        self.assertEqual(
+            sorted(texts_in_python(source)), [(1, 'It tells.'), (3, 'It stands.'), (5, 'yes')]
+        )
+        self.assertEqual(texts_in_rattle('//! "told"\nfn f() {\n    g("yes")\n}\n'), [(3, 'yes')])
+
+    def test_each_name_that_is_given_is_read(self) -> None:
+        source = 'class A:\n    def b(self, c):\n        self.d = e = c.f\n'
+        names = {name for _, name in names_in_python(source)}
+        self.assertEqual(names, {'A', 'b', 'self', 'c', 'd', 'e'})
+        for name in ('told', '_told_path', 'as_told', 'go_on', 'Told'):
+            self.assertEqual(len(retired_in_name(Line('a.py', 1, name))), 1, name)
+        for name in ('untold', 'metre', 'tell_tale'[:4] + 'er', 'go_only'):
+            self.assertEqual(retired_in_name(Line('a.py', 1, name)), [], name)
+
+    def test_a_made_part_is_left_out(self) -> None:
+        self.assertEqual(without_made(f'a\n{BEGIN}\ntold\n{END}\nb'), 'a\n\n\n\nb')
+
+
+class Layout(unittest.TestCase):
+    def test_a_long_comment_or_clause_is_found_and_a_text_is_not(self) -> None:
+        comment = '/// ' + '"a" ' * 25
+        self.assertEqual(long_lines(f'{comment}\nfn f()\n', CODE_COLUMNS), [comment])
+        clause = '    ensures { ' + 'a ' * 50 + '}'
+        self.assertEqual(long_lines(f'fn f()\n{clause}\n', CODE_COLUMNS), [clause])
+        self.assertEqual(long_lines('    let text = "' + 'a ' * 50 + '";', CODE_COLUMNS), [])
+
+    def test_a_long_function_is_found_but_for_its_options(self) -> None:
+        body = '    f()\n' * 40
+        self.assertEqual(list(long_functions(f'def a():\n{body}')), ['a has 41 lines: 40 at most'])
+        self.assertEqual(list(long_functions(f'def a():\n{body[8:]}')), [])
+        self.assertEqual(list(long_functions('def a():\n' + '    p.add_argument(1)\n' * 60)), [])
+
+
+class Python(unittest.TestCase):
+    def test_a_comment_for_a_linter_must_have_a_code_and_a_reason(self) -> None:
+        mark = '# type: ' + 'ignore'
+        for line in (mark, f'{mark}[misc]', f'{mark}  # so', '# no' + 'qa', '# no' + 'qa: E402'):
+            self.assertEqual(len(unexplained({'a.py': f'x\n{line}\n'})), 1, line)
+        for line in (f'{mark}[misc]  # so', '# no' + 'qa: E402  # so', '# a ' + 'type'):
+            self.assertEqual(unexplained({'a.py': line}), [], line)
+
+    def test_what_a_linter_prints_counts_only_if_it_fails(self) -> None:
+        self.assertEqual(run(['true'], []), [])
+        self.assertEqual(run(['sh', '-c', 'echo a; echo b >&2; exit 1'], []), ['a', 'b'])
+        self.assertEqual(run(['false'], []), ['false: status 1'])
+        self.assertIsNone(run(['no-such-linter'], []))
+
+    def test_only_root_installs_and_only_what_is_missing(self) -> None:
+        for user, names, calls in ((0, ['mypy'], 1), (0, [], 0), (1000, ['mypy'], 0)):
+            with mock.patch.object(python.os, 'geteuid', return_value=user), mock.patch.object(
+                python.shutil, 'which', return_value='/usr/bin/apt-get'
+            ), mock.patch.object(python.subprocess, 'run') as started:
+                install(names)
+            self.assertEqual(started.call_count, calls, (user, names))
+
+
+class CratesPage(unittest.TestCase):
+    def faults(self, old: str = '', new: str = '') -> str:
+        return '; '.join(crate_page_faults(PAGE.replace(old, new, 1) if old else PAGE, USES))
+
+    def test_a_page_that_has_each_crate_once_is_right(self) -> None:
+        self.assertEqual(self.faults(), '')
+
+    def test_each_fault_is_found(self) -> None:
+        for old, new, fault in (
+            ('| cs_a | a | all |\n', '', 'cs_a is 0 times in the table, not 1 times'),
+            ('| 1 below | cs_a |\n', '', 'cs_a is 0 times in the picture, not 1 times'),
+            ('cs_b |', 'cs_b cs_b |', 'cs_b is 2 times in the picture, not 1 times'),
+            ('| 2 above', '| 3 above', 'cs_b is in layer 3 of the picture, 2 of the table'),
+            ('| cs_a | a | all |', '| cs_a | a | |', 'cs_a: its row must say what it is'),
+            ('| 1 below', '| 3 below', 'cs_b uses cs_a of a higher layer'),
+        ):
+            self.assertIn(fault, self.faults(old, new), new)
+
+
+class Command(unittest.TestCase):
+    def linted(self, **linters: Faults) -> Tuple[int, str]:
+        with contextlib.redirect_stdout(io.StringIO()) as printed:
+            status = lint({name: lambda found=found: found for name, found in linters.items()})
+        return status, printed.getvalue()
+
+    def test_the_last_line_names_what_failed_and_what_was_skipped(self) -> None:
+        self.assertEqual(self.linted(a=[], b=[]), (0, 'lint: 2 passed, 0 failed, 0 skipped\n'))
+        self.assertEqual(
+            self.linted(a=['x', 'y'], b=None, c=[]),
+            (1, 'a: x\na: y\nlint: 1 passed, 1 failed (a), 1 skipped (not installed: b)\n'),
+        )
+        self.assertEqual(
+            self.linted(b=None), (0, 'lint: 0 passed, 0 failed, 1 skipped (not installed: b)\n')
+        )
+
+    def test_each_linter_is_run(self) -> None:
+        self.assertLessEqual({'flake8', 'black', 'mypy', 'words', 'layout'}, set(LINTERS))
+
+
+if __name__ == '__main__':
+    unittest.main()

@@ -1,0 +1,148 @@
+"""The smallest loss of a state that lacks several things."""
+
+import json
+import unittest
+
+from crashfs_tools.checker.findings.losses import Searches, search
+from crashfs_tools.checker.findings.pairs import Loss, Pair
+from crashfs_tools.checker.running.runner import BAD, GOOD, Outcome
+from crashfs_tools.checker.states.plan import State, read_plan
+from crashfs_tools.reading import plan_of, read
+
+from .support import FAKE
+from .test_check_command import InStore
+from .test_groups import THIRD, findings_of, line, plan_text, rename, write
+
+
+def searched(plan, kept, fails):
+    """The loss that a search finds, and the sets that it asks for."""
+    state = State(0, 'pick', (), 0, 0)
+    plan.kept[0] = kept
+    asked, one = [], search(plan, state)
+    try:
+        asked.append(next(one))
+        while True:
+            asked.append(one.send(fails(asked[-1])))
+    except StopIteration as end:
+        return end.value, asked
+
+
+class Searched(unittest.TestCase):
+    """A session of 40 files that are made, and a state that lacks most of them."""
+
+    def setUp(self):
+        text = THIRD + ''.join(line('creat', f'/{number}') for number in range(40))
+        self.plan = read_plan(plan_text(text, picks=False))
+
+    def test_of_all_that_is_lost_only_what_is_needed_is_left(self):
+        for needed in [(3,), (3, 17), (0, 38), (5, 6, 30)]:
+
+            def fails(kept):
+                return not any(kept >> one & 1 for one in needed) and kept >> 39 & 1
+
+            loss, asked = searched(self.plan, 1 << 39, fails)
+            self.assertEqual(loss, Loss(Pair(39, needed[0]), sum(1 << one for one in needed)))
+            self.assertLess(len(asked), 12 + 12 * len(needed))
+
+    def test_the_state_is_made_as_short_as_it_may_be(self):
+        def fails(kept):
+            return not kept >> 3 & 1 and kept >> 20 & 1
+
+        loss, asked = searched(self.plan, 1 << 39 | 1 << 20, fails)
+        self.assertEqual(loss, Loss(Pair(20, 3), 1 << 3))
+        self.assertLess(len(asked), 16)
+
+    def test_what_needs_the_lost_one_is_not_put_back_without_it(self):
+        text = THIRD + line('creat', '/a') + line('creat', '/b') + line('fsync', '/')
+        text += rename('/a', '/c') + rename('/c', '/d') + line('creat', '/e')
+        plan = read_plan(plan_text(text, picks=False))
+        whole = (1 << len(plan.operations)) - 1
+
+        def fails(kept):
+            self.assertTrue(plan.needs.allow(kept))
+            return not kept >> 2 & 1
+
+        loss, _ = searched(plan, whole & ~0b1100, fails)
+        self.assertEqual(loss, Loss(Pair(4, 2), 0b1100))
+
+
+LSM = (
+    THIRD
+    + line('creat', '/log')
+    + write('/log', 'a')
+    + line('creat', '/new')
+    + write('/new', 'a')
+    + line('fsync', '/')
+    + line('fsync', '/log')
+    + line('fsync', '/new')
+)
+
+
+class Guesses(InStore):
+    """A log that is moved into a table. The row b is lost if both changes of names are: the log
+    that has it comes back as the old one."""
+
+    def text(self):
+        text = LSM + line('say', text='a') + line('creat', '/other') + rename('/new', '/table')
+        text += line('unlink', '/log') + line('creat', '/log2') + write('/log2', 'b')
+        text += line('fsync', '/log2') + line('say', text='b') + line('creat', '/last')
+        return text
+
+    def test_the_report_names_them(self):
+        trace = self.write('lsm.trace', self.text())
+        check = self.write(
+            'check.sh',
+            '#!/bin/sh\n'
+            'test $CRASHFS_SAYS = 0 || test -e table || test -e log || '
+            '{ echo "refused: neither"; exit 1; }\n'
+            'test $CRASHFS_SAYS -lt 2 || test -e table || { echo "lost: b"; exit 1; }\n',
+            0o755,
+        )
+        ran = self.run_tool(
+            'crashfs-check', '--crashfs', FAKE, '--json', 'r.json', trace, '--', check
+        )
+        self.assertEqual(ran.returncode, 1, ran.stderr)
+        groups = json.loads(self.read('r.json'))['groups']
+        (shown,) = [' '.join(one['text']) for one in groups if one['cause'] == 'lost: b']
+        self.assertIn('line 11 (rename /new to /table) was not durable when line 16 ack', shown)
+        self.assertIn('it fails only if this is lost too: line 12 (unlink /log)', shown)
+        self.assert_nothing_left()
+
+    def test_the_pair_is_of_the_smallest_loss(self):
+        """The pick that has only the last file lacks four names, of which two matter."""
+
+        def cause(files, says):
+            if '/table' not in files and '/log' not in files:
+                return 'refused: neither'
+            is_old = '/table' not in files
+            return 'lost: b' if is_old and says == 2 else ''
+
+        findings = findings_of(self.text(), cause)
+        guesses = [group for group in findings.groups if group.pair.is_guess]
+        self.assertTrue(guesses)
+        trees = plan_of(read(self.text().encode())).trees
+        runs = []
+
+        class Trees(Searches):
+            """Answers from the trees in the place of COMMAND."""
+
+            def try_sets(self, sets):
+                says = findings.plan.says
+                for kept in sets:
+                    files = {path for path, (_, data) in trees.tree(kept).items()}
+                    found = cause(files, bin(kept & says).count('1'))
+                    self.known[kept] = Outcome(BAD, found) if found else Outcome(GOOD)
+                    runs.append(kept)
+
+        states = [group.example for group in guesses]
+        findings.take_losses(Trees(None, None, findings).run(states))
+        self.assertFalse([group for group in findings.groups if group.pair.is_guess])
+        self.assertLess(len(runs), 12 * len(states))
+        for group in findings.groups:
+            if group.cause == 'lost: b':
+                self.assertEqual(group.lost.text, 'rename /new to /table')
+                self.assertEqual(group.kept.text, 'say "b"')
+
+
+if __name__ == '__main__':
+    unittest.main()

@@ -1,0 +1,95 @@
+"""Which lines count as acknowledged, by whatever way they come."""
+
+import unittest
+from typing import List, Sequence
+
+from crashfs_tools.common.trace import Say, Start
+from crashfs_tools.recorder.recording import Recording
+
+from .support import recording_of
+
+FILE = [Start('/f', 'u', 'u', 0o644, b'one\ntwo\n')]
+OPEN_F = '1 openat(AT_FDCWD</d>, "f", O_RDONLY) = 3</d/f>'
+
+
+def output_of(log: List[str], acknowledged: Sequence[str] = ('1',)) -> Recording:
+    """What a log becomes whose standard output is pipe 7."""
+    return recording_of(log, FILE, acknowledged=acknowledged, output='pipe:[7]')
+
+
+def lines_of(log: List[str], acknowledged: Sequence[str] = ('1',)) -> List[str]:
+    operations = output_of(log, acknowledged).trace.operations
+    return [one.text for one in operations if isinstance(one, Say)]
+
+
+class Lines(unittest.TestCase):
+    def test_every_way_to_the_pipe_is_standard_output(self):
+        for log in [
+            [
+                '1 openat(AT_FDCWD</d>, "/dev/stdout", O_WRONLY) = 3<pipe:[7]>',
+                '1 write(3<pipe:[7]>, "one\ntwo\n", 8) = 8',
+            ],
+            [
+                '1 openat(AT_FDCWD</d>, "/proc/self/fd/1", O_WRONLY) = 3<pipe:[7]>',
+                '1 writev(3<pipe:[7]>, [{iov_base="one\ntwo\n", iov_len=8}], 1) = 8',
+            ],
+            [
+                '1 dup(1<pipe:[7]>) = 5<pipe:[7]>',
+                '1 close(1<pipe:[7]>) = 0',
+                '1 write(5<pipe:[7]>, "one\ntwo\n", 8) = 8',
+            ],
+            [OPEN_F, '1 sendfile(1<pipe:[7]>, 3</d/f>, NULL, 99) = 8'],
+            [OPEN_F, '1 splice(3</d/f>, NULL, 1<pipe:[7]>, NULL, 99, 0) = 8'],
+            ['1 vmsplice(1<pipe:[7]>, [{iov_base="one\ntwo\n", iov_len=8}], 1, 0) = 8'],
+            ['2 write(9<pipe:[7]>, "one\ntwo\n", 8) = 8'],
+        ]:
+            with self.subTest(log[-1]):
+                self.assertEqual(lines_of(log), ['one', 'two'])
+
+    def test_the_pipe_of_a_log_from_elsewhere_is_known_by_its_first_use(self):
+        log = [
+            '1 write(1<pipe:[9]>, "one\n", 4) = 4',
+            '1 openat(AT_FDCWD</d>, "/dev/stdout", O_WRONLY) = 3<pipe:[9]>',
+            '1 write(3<pipe:[9]>, "two\n", 4) = 4',
+            '1 write(4<pipe:[8]>, "three\n", 6) = 6',
+        ]
+        self.assertEqual(lines_of(log), ['one', 'two'])
+
+    def test_standard_error_is_counted_and_not_acknowledged(self):
+        recording = output_of(['1 write(2</dev/tty>, "one\ntw", 6) = 6'])
+        self.assertEqual(recording.trace.operations, [])
+        self.assertEqual(recording.streams.standard[2].lines, 2)
+        self.assertEqual(
+            lines_of(
+                ['1 write(2</dev/tty>, "one\n", 4) = 4', '1 write(1<pipe:[7]>, "no\n", 3) = 3'],
+                ['2'],
+            ),
+            ['one'],
+        )
+
+    def test_lines_of_another_descriptor(self):
+        log = [
+            '1 write(6<pipe:[8]>, "one\r\n", 5) = 5',
+            '1 sendto(6<socket:[9]>, "two\n", 4, 0, NULL, 0) = 4',
+            '1 write(1<pipe:[7]>, "no\n", 3) = 3',
+        ]
+        self.assertEqual(lines_of(log, ['6']), ['one', 'two'])
+        self.assertEqual(lines_of(log, ['1', '6']), ['one', 'two', 'no'])
+
+    def test_lines_of_each_connection_that_is_accepted(self):
+        log = [
+            '1 accept4(3<socket:[1]>, NULL, NULL, SOCK_CLOEXEC) = 4<socket:[8]>',
+            '1 accept(3<socket:[1]>, NULL, NULL) = 5<socket:[9]>',
+            '1 sendto(4<socket:[8]>, "on", 2, 0, NULL, 0) = 2',
+            '1 sendmsg(5<socket:[9]>, {msg_iov=[{iov_base="two\n", iov_len=4}]}, 0) = 4',
+            '1 write(4<socket:[8]>, "e\n", 2) = 2',
+            '1 sendmmsg(5<socket:[9]>, [{msg_hdr={msg_iov=[{iov_base="three\nno", iov_len=8}]}, '
+            'msg_len=6}], 1, 0) = 1',
+            '1 write(6<socket:[2]>, "no\n", 3) = 3',
+        ]
+        self.assertEqual(lines_of(log, ['socket']), ['two', 'one', 'three'])
+        self.assertEqual(lines_of(log), [])
+
+
+if __name__ == '__main__':
+    unittest.main()

@@ -1,0 +1,84 @@
+"""The pictures of docs/images: they are as they would be drawn now, small and whole."""
+
+from __future__ import annotations
+
+import unittest
+from concurrent.futures import ProcessPoolExecutor
+from functools import lru_cache
+from multiprocessing import get_context
+from pathlib import Path
+from typing import Dict
+from xml.dom import minidom
+
+from picturing.pictures import TOP, pictures
+from picturing.states import RESULTS, rows_of, runs_of
+from picturing.svg import COLOURS, WIDTH, Picture
+
+from .support import needs_sqlite
+
+MOST_BYTES = 60_000
+
+
+@lru_cache(maxsize=1)
+def drawn() -> Dict[Path, str]:
+    """Draws in a process of its own: a check ends all children of its process."""
+    with ProcessPoolExecutor(1, get_context('fork')) as pool:
+        return pool.submit(pictures).result()
+
+
+@needs_sqlite
+class Pictures(unittest.TestCase):
+    def test_no_picture_is_older_than_the_examples(self) -> None:
+        for path, text in drawn().items():
+            name = str(path.relative_to(TOP))
+            self.assertEqual(path.read_text('utf-8'), text, f'{name}: run tools/pictures')
+
+    def test_they_are_small_and_whole(self) -> None:
+        for text in drawn().values():
+            self.assertLess(len(text.encode()), MOST_BYTES)
+            root = minidom.parseString(text).documentElement
+            self.assertEqual(root.getAttribute('viewBox').split()[2], str(WIDTH))
+            for name in ('title', 'desc'):
+                self.assertEqual(len(root.getElementsByTagName(name)), 1)
+
+    def test_no_text_is_wider_than_the_picture(self) -> None:
+        # A letter is at most 8 units wide in these sizes, and 6.6 in the mean.
+        for text in drawn().values():
+            for one in minidom.parseString(text).getElementsByTagName('text'):
+                is_code = 'code' in one.getAttribute('class')
+                width = len(one.firstChild.data) * (7.9 if is_code else 6.9)
+                place = float(one.getAttribute('x'))
+                at_end = 'end' in one.getAttribute('class').split()
+                self.assertLessEqual(width, place if at_end else WIDTH - place, one.toxml())
+
+    def test_each_state_has_a_dash_of_its_colour(self) -> None:
+        text = next(text for path, text in drawn().items() if path.name == 'sqlite-full.svg')
+        lengths = {'good': 0, 'bad': 0}
+        for one in minidom.parseString(text).getElementsByTagName('path'):
+            steps = one.getAttribute('d').split('h')[1:]
+            cells = sum((int(step.partition('M')[0]) + 1) // 5 for step in steps)
+            lengths[one.getAttribute('class').split()[1]] += cells
+        self.assertEqual(lengths, {'good': 625 - 97, 'bad': 97})
+
+
+class Parts(unittest.TestCase):
+    def test_a_row_has_the_holes_of_one_micro_operation(self) -> None:
+        drawing = {'prefixes': 'ggb', 'holes': ['', ' ', 'gb'], 'numbers': [], 'picks': []}
+        self.assertEqual(rows_of(drawing), ['ggb', '  g', '  b'])
+
+    def test_equal_signs_side_by_side_are_one_run(self) -> None:
+        self.assertEqual(runs_of('ggbg', 'g'), [range(0, 2), range(3, 4)])
+        self.assertEqual(runs_of('ggbg', 'n'), [])
+
+    def test_each_colour_has_a_light_and_a_dark_value(self) -> None:
+        text = Picture('t', 'a < b').svg()
+        light, dark = text.split('prefers-color-scheme: dark')
+        for name, (in_light, in_dark) in COLOURS.items():
+            self.assertIn(f'--{name}: {in_light};', light)
+            self.assertIn(f'--{name}: {in_dark};', dark)
+        self.assertIn('a &lt; b', text)
+        self.assertLessEqual({colour for colour, _ in RESULTS.values()}, set(COLOURS))
+
+
+if __name__ == '__main__':
+    unittest.main()

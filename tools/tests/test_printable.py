@@ -1,0 +1,39 @@
+"""Text that terminals and pages show."""
+
+import io
+import sys
+import unittest
+from unittest import mock
+
+from crashfs_tools.common.printable import print_utf8, printable
+
+
+class Printable(unittest.TestCase):
+    def test_what_controls_a_terminal_is_an_escape(self):
+        for shown, wanted in [
+            ('\x1b]0;owned\x07', '\\x1b]0;owned\\x07'),
+            ('a\nb\tc\r', 'a\\nb\\tc\\r'),
+            ('\x9b31m\x7f', '\\x9b31m\\x7f'),
+            ('to \u202etxt.exe', 'to \\u202etxt.exe'),
+            ('a\u200bb\u2066\ufeff', 'a\\u200bb\\u2066\\ufeff'),
+            ('\u2028\U000e0041', '\\u2028\\U000e0041'),
+            ('caf\udcff', 'caf\\xff'),
+        ]:
+            self.assertEqual(printable(shown), wanted)
+
+    def test_letters_of_any_language_and_what_is_allowed_stay(self):
+        for text in ['Zürich', '東京', 'שלום', '👍', '\ufffd', 'a\\n b']:
+            self.assertEqual(printable(text), text)
+        self.assertEqual(printable('a\n\tb\x1b', '\n\t'), 'a\n\tb\\x1b')
+
+    def test_output_is_utf_8_in_any_locale(self):
+        for encoding in ('ascii', 'iso8859-1'):
+            stream = io.TextIOWrapper(io.BytesIO(), encoding=encoding)
+            with mock.patch.object(sys, 'stdout', stream):
+                print_utf8()
+                print('東京 \udcff', end='', file=sys.stdout, flush=True)
+            self.assertEqual(stream.buffer.getvalue(), '東京 \\udcff'.encode())
+
+
+if __name__ == '__main__':
+    unittest.main()

@@ -1,0 +1,211 @@
+"""What goes wrong in a recording: one line says it, and whether a trace is written."""
+
+import os
+import subprocess
+import sys
+import unittest
+from unittest import mock
+
+from crashfs_tools.common import command, limits
+from crashfs_tools.recorder import main
+from crashfs_tools.recorder.mapped_files import MAPPED
+from crashfs_tools.common.trace import Start
+
+from .support import FAKE, TOOLS, as_strace, needs_strace, needs_version_3, recording_of
+from .test_record_command import InRecordings
+
+RECORD = str(TOOLS / 'crashfs-record')
+
+
+class WithoutStrace(InRecordings):
+    """Logs of files, and what is no log."""
+
+    def converted(self, *lines):
+        self.write('log', ''.join(as_strace(line) + '\n' for line in lines))
+        return self.run_tool('crashfs-record', '--no-say', '--from-log', 'log', 'd', 'out.trace')
+
+    def test_a_log_that_is_none_is_refused_with_its_line(self):
+        directory = self.path('d')
+        begin = f'7 openat(AT_FDCWD<{directory}>, "a", O_RDWR|O_CREAT, 0666) = 3<{directory}/a>'
+        for bad in [
+            '7 chmod("a", 0x1zz) = 0',
+            '7 chmod("a", 09) = 0',
+            '7 umask(zz) = 0',
+            f'7 ftruncate(3<{directory}/a>, many) = 0',
+            '7 fsync(3<\\x2f\\x6>) = 0',
+            f'7 openat(AT_FDCWD<{directory}>, "a", O_RDWR) = 3<\\x2fé>',
+            '7 mkdir("s") = 0',
+        ]:
+            with self.subTest(bad):
+                ran = self.converted(begin, bad)
+                self.assertEqual((ran.returncode, ran.stdout), (1, ''), ran.stderr)
+                self.assertRegex(
+                    ran.stderr,
+                    '^crashfs-record: the log is not as strace -f -y -xx writes it, in line 2\n$',
+                )
+                self.assertFalse(os.path.exists(self.path('out.trace')))
+
+    def fails_in(self, function, error, *words):
+        """The status and what is printed if a function fails by a fault of ours."""
+        with mock.patch(function, side_effect=error), mock.patch('sys.stderr') as shown:
+            with mock.patch.object(main, 'stop_by_exception'):
+                status = main.main(['--no-say', '--from-log', self.path('log'), *words])
+        return status, ''.join(call.args[0] for call in shown.write.call_args_list)
+
+    def test_a_fault_of_its_own_is_one_line_and_no_bad_log(self):
+        directory = self.path('d')
+        log = f'7 unlink("{directory}/old") = 0\n7 +++ exited with 0 +++\n'
+        self.write('log', ''.join(as_strace(line) + '\n' for line in log.split('\n')))
+        words = [directory, self.path('out.trace')]
+        place = 'crashfs_tools.recorder.calls.names.remove_name'
+        status, shown = self.fails_in(place, KeyError('ours'), *words)
+        self.assertEqual(
+            (status, shown.strip()),
+            (
+                1,
+                "crashfs-record: an error of its own, KeyError: 'ours'; no trace is written "
+                '(CRASHFS_TRACEBACK=1 shows where)',
+            ),
+        )
+        with mock.patch.dict(os.environ, {command.TRACEBACK: '1'}):
+            status, shown = self.fails_in(place, KeyError('ours'), *words)
+        self.assertIn('Traceback', shown)
+        place = 'crashfs_tools.recorder.summary.summary'
+        for error, told in [
+            (RecursionError('deep'), 'an error of its own, RecursionError: deep; the trace is'),
+            (OSError(5, 'Input/output error', 'x'), 'x: Input/output error; the trace is written'),
+        ]:
+            status, shown = self.fails_in(place, error, *words)
+            self.assertEqual(status, 3)
+            self.assertIn(f'crashfs-record: {told}', shown)
+            self.assertTrue(os.path.exists(self.path('out.trace')))
+
+    def test_a_directory_of_too_many_files_is_not_whole(self):
+        with mock.patch.object(limits, 'RECORDS', 3):
+            start = [Start(f'/{name}', 'u', 'u', 0o644, b'') for name in 'abc']
+            log = ['1 unlink("a") = 0', '1 truncate("c", 9) = 0']
+            recording = recording_of(log, start)
+        self.assertEqual(len(recording.trace.start), 2)
+        self.assertEqual(len(recording.trace.operations), 1)
+        (told,) = map(str, recording.troubles.values())
+        self.assertEqual(
+            told,
+            '/: the start tree leaves out 1 of its files and directories: a trace has 2 at most',
+        )
+        self.assertEqual(recording.differing, {'/c'})
+
+    def test_mappings_of_32_bit_programs_are_known(self):
+        line = '7 mmap2(NULL, 4096, PROT_READ|PROT_WRITE, MAP_SHARED, 3</d/f>, 0) = 0xf7000000'
+        for name in ('mmap', 'mmap2'):
+            self.assertTrue(MAPPED.match(as_strace(line.replace('mmap2', name))))
+
+    def test_closed_streams_are_opened(self):
+        for closed in ('>&-', '2>&-', '<&- >&- 2>&-'):
+            with self.subTest(closed):
+                line = f'{sys.executable} -S {RECORD} --help {closed}'
+                ran = subprocess.run(['sh', '-c', line], check=False, capture_output=True)
+                self.assertEqual(ran.returncode, 0)
+
+
+@needs_strace
+class WithStrace(InRecordings):
+    def test_a_directory_that_is_removed_or_renamed_is_reported(self):
+        for script, told in [
+            ('rm old; rmdir $PWD', 'the directory itself was removed'),
+            ('mv $PWD $PWD.2', 'the directory itself was renamed, or replaced'),
+            ('mv $PWD $PWD.3; ln -s $PWD.3 $PWD', 'the directory itself was renamed, or replaced'),
+        ]:
+            with self.subTest(script):
+                ran = self.record(script, '--crashfs', FAKE)
+                self.assertEqual(ran.returncode, 3, ran.stderr)
+                self.assertIn(f'not in the trace: /: {told}', ran.stderr)
+                self.assertNotIn('no trace is written', ran.stderr)
+                self.assertNotIn('no states', ran.stderr)
+                self.assertTrue(os.path.exists(self.path('out.trace')))
+                if not os.path.exists(self.path('d')):
+                    os.mkdir(self.path('d'))
+                    self.write('d/old', '1\n')
+
+    def write_to_log(self, text):
+        """What is printed if COMMAND writes a text into strace's log."""
+        self.write('garbage', text)
+        self.write('garble', 'echo 1 > f; for log in ../tmp/*/log; do cat ../garbage > $log; done')
+        ran = self.record('sh ../garble')
+        self.assert_nothing_left()
+        return ran.returncode, ran.stderr
+
+    def test_garbage_in_the_log_is_reported(self):
+        for text in ('\n7 fsync(3<\\x2>) = 0\n', '\n7 openat(AT_FDCWD, "a", 2) = 3<\\x>\n'):
+            status, err = self.write_to_log(text)
+            self.assertEqual(status, 1, err)
+            self.assertRegex(err, '^crashfs-record: the log is not as strace .*, in line [0-9]+\n$')
+        status, err = self.write_to_log('7 chmod("a"\n')
+        self.assertEqual(status, 3, err)
+        self.assertRegex(err, 'line [0-9]+ of the log is not a whole call, and is left out\n')
+
+    def test_names_that_are_no_text_are_shown_by_escapes(self):
+        ran = self.record("printf x > $(printf 'a\\033]0;b\\007\\377')")
+        self.assertEqual(ran.returncode, 3)
+        self.assertIn('/a\\x1b]0;b\\x07\\xff: ', ran.stderr)
+
+    @needs_version_3
+    def test_a_trace_of_a_private_store_is_private(self):
+        for umask, mode in [('022', 0o644), ('077', 0o600)]:
+            ran = self.record(f'umask {umask}; echo 1 > f; rm f')
+            self.assertEqual(ran.returncode, 0, ran.stderr)
+            self.assertEqual(os.stat(self.path('out.trace')).st_mode & 0o777, mode)
+            os.unlink(self.path('out.trace'))
+
+    def test_modes_that_are_set_by_other_calls(self):
+        script = self.write(
+            'modes.py',
+            """
+import ctypes, os, struct
+path = os.open('old', os.O_PATH)
+os.chmod(f'/proc/self/fd/{path}', 0o600)
+os.mkdir('s')
+path = os.open('s', os.O_PATH | os.O_DIRECTORY)
+os.chmod(f'/proc/self/fd/{path}', 0o711)
+with open('f', 'w') as file:
+    entries = ((1, 6), (4, 0), (32, 4))
+    value = struct.pack('<I', 2) + b''.join(struct.pack('<HHI', *it, 2**32 - 1) for it in entries)
+    os.setxattr(file.fileno(), 'system.posix_acl_access', value)
+ctypes.CDLL(None).chmod(b'f', 0o100640)
+""",
+        )
+        ran = self.record(f'{sys.executable} -S {script}')
+        self.assertEqual(ran.returncode, 0, ran.stderr)
+        modes = [line for line in self.operations() if 'chmod' in line]
+        self.assertEqual(
+            modes,
+            [
+                '{"op":"chmod","path":"/old","mode":"600"}',
+                '{"op":"chmod","path":"/s","mode":"711"}',
+                '{"op":"chmod","path":"/f","mode":"604"}',
+                '{"op":"chmod","path":"/f","mode":"640"}',
+            ],
+        )
+
+    def test_a_file_with_the_directory_s_path_is_noted(self):
+        self.write('d/start', f'see {self.path("d")}/old')
+        script = 'echo $PWD > here; echo ${PWD}2 > other; echo x > x; echo $PWD >> here'
+        ran = self.record(script)
+        self.assertEqual(ran.returncode, 4, ran.stderr)
+        self.assertIn(
+            'not in the trace: /start: it has the path of the recorded directory: a recovery that '
+            'opens that path reads no crash state, and of 1 path more\n',
+            ran.stderr,
+        )
+        os.unlink(self.path('d', 'start'))
+        os.unlink(self.path('d', 'here'))
+        self.assertEqual(self.record('echo ${PWD}2 > other').returncode, 0)
+        self.assertIn('/here: it has the path', self.record('echo $PWD > here').stderr)
+
+    def test_a_file_that_is_too_large_is_one_line(self):
+        ran = self.record('truncate -s 20M f')
+        self.assertEqual(ran.returncode, 3)
+        self.assertEqual(ran.stderr.count('/f: '), 1, ran.stderr)
+
+
+if __name__ == '__main__':
+    unittest.main()

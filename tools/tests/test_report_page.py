@@ -1,0 +1,236 @@
+"""The report as a page and as JUnit XML."""
+
+import json
+import re
+import unittest
+from dataclasses import replace
+from xml.dom import minidom
+
+from crashfs_tools.checker.findings.groups import Difference
+from crashfs_tools.checker.findings.tree_diff import different_lines, nearest_good
+from crashfs_tools.checker.report.drawing import drawing_of
+from crashfs_tools.checker.report.junit import junit_lines
+from crashfs_tools.checker.report.page import page
+from crashfs_tools.checker.running.runner import BAD, GOOD, NO_ANSWER, Outcome
+from crashfs_tools.common.entry import Entry
+from crashfs_tools.common.trace_lines import TraceLine
+
+from .test_groups import HEADER, findings_of, line, report_of, reported, write
+
+ODD = '/<b>&\\u0001'
+SIZE = 2_000_000
+
+
+def odd_findings():
+    """Of a store with an odd name, of which two of three lines are lost, and one state hangs."""
+    text = HEADER + line('creat', ODD) + line('say', text='one </script>')
+    text += write(ODD, 'row') + line('say', text='two')
+    findings = findings_of(
+        text, lambda files, says: '' if len(files) >= min(says, 1) else 'lost: <file>\x01'
+    )
+    findings.groups[0].outcome = Outcome(BAD, 'lost: <file>\x01', 'first\n<last>\x01\n')
+    return findings
+
+
+def odd_report():
+    return reported(odd_findings())
+
+
+class Pages(unittest.TestCase):
+    def data(self, text):
+        return json.loads(re.search(r'const windows = (.*);\n', text)[1])
+
+    def test_what_is_shown_is_text(self):
+        text = ''.join(page(odd_report()))
+        self.assertEqual((text.count('<script>'), text.count('</script>')), (1, 1))
+        self.assertIn('&lt;b&gt;&amp;', text)
+        self.assertNotIn('<file>', text)
+        self.assertNotRegex(text, r'https?:|src=|href=')
+
+    def test_a_name_does_not_end_the_script(self):
+        text = HEADER + line('mkdir', '/<') + line('creat', '/</script>')
+        shown = ''.join(page(report_of(text, lambda files, says: '')))
+        self.assertEqual(shown.count('</script>'), 1)
+
+    def test_an_entry_has_its_sentence_its_lines_and_what_was_printed(self):
+        text = ''.join(page(odd_report()))
+        section = re.search('<section>.*?</section>', text, re.S)[0]
+        self.assertIn('the directory / is never synced: fsync it between them', section)
+        self.assertIn('first\n&lt;last&gt;', section)
+        self.assertEqual(section.count('class="creat pair"'), 1)
+        self.assertEqual(text.count('<section>'), len(odd_report().groups()))
+
+    def test_each_state_is_drawn_with_its_result(self):
+        findings = odd_findings()
+        hanging = next(iter(findings.plan.states)).number
+        findings.by_state[hanging] = Outcome(NO_ANSWER)
+        del findings.by_state[findings.plan.states[1].number]
+        (data,) = self.data(''.join(page(reported(findings))))
+        self.assertEqual(data, drawing_of(findings))
+        self.assertEqual(data['prefixes'][:2], 'n-')
+        signs = data['prefixes'] + ''.join(data['holes']) + ''.join(one for _, one in data['picks'])
+        self.assertEqual(len(signs.replace(' ', '')), len(findings.plan.states))
+        failing = sum(one.result == BAD for one in findings.by_state.values())
+        self.assertEqual(signs.count('b'), failing)
+        for row, numbers in zip(data['holes'], data['numbers']):
+            self.assertEqual(len(row.replace(' ', '')), len(numbers))
+
+    def test_it_names_the_command_the_version_and_the_date(self):
+        report = odd_report()
+        report.head.command = ['/bin/check', 'a b', '<i>']
+        text = ''.join(page(report))
+        (about,) = re.findall('<p class="about">(.*)</p>', text)
+        self.assertIn(
+            'COMMAND: /bin/check &#x27;a b&#x27; &#x27;&lt;i&gt;&#x27;; crashfs-check ', about
+        )
+        self.assertRegex(about, r'\d{4}-\d\d-\d\d \d\d:\d\d:\d\d UTC$')
+        self.assertIn('td:first-child { text-align: right; color: #777; white-space: nowrap', text)
+
+    def test_nothing_controls_a_terminal_or_is_no_utf_8(self):
+        report = odd_report()
+        report.head.trace = '\x1b]0;owned\x07\udcff\u202e'
+        group = report.groups_of_windows[0][0]
+        group.outcome = Outcome(BAD, 'lost: \x1b[31m\udcff', '\x1b[31m\n')
+        shown = {
+            'report': '\n'.join(report.lines()),
+            'page': ''.join(page(report)),
+            'junit': ''.join(junit_lines(report)),
+            'json': ''.join(report.json_pieces()),
+        }
+        for name, text in shown.items():
+            self.assertNotRegex(text, '[\x1b\x07\u202e]' if name != 'json' else '[\x1b\x07]', name)
+            text.encode('utf-8')
+        self.assertIn('lost: \\x1b[31m\\xff', shown['report'])
+        self.assertEqual(json.loads(shown['json'])['trace'], report.head.trace)
+
+    def test_a_page_of_thousands_of_states_is_small(self):
+        text = HEADER + ''.join(line('creat', f'/{number}') for number in range(100))
+        report = report_of(text, lambda files, says: 'lost: one' if len(files) == 7 else '')
+        self.assertGreater(report.counts.states, 5_000)
+        self.assertLess(len(''.join(page(report))), SIZE)
+
+
+class Differences(unittest.TestCase):
+    def test_each_path_that_differs_has_a_line(self):
+        def entry(data, mode=0o644):
+            return Entry('u', 'u', mode, None if data is None else bytearray(data))
+
+        failing = {
+            '/a': entry(b'abcdefgh-old'),
+            '/b': entry(b''),
+            '/bytes': entry(b'ab'),
+            '/d': entry(None, 0o700),
+            '/same': entry(b'x'),
+            '/short': entry(b'ab'),
+        }
+        good = {
+            '/a': entry(b'abcdefgh-new'),
+            '/c': entry(b'12'),
+            '/bytes': entry(b'\0\xff'),
+            '/d': entry(None),
+            '/same': entry(b'x'),
+            '/short': entry(b'abc'),
+        }
+        self.assertEqual(
+            list(different_lines(failing, good)),
+            [
+                '/a has 12 bytes in both; at byte 9 "old", in the good state "new"',
+                '/b (0 bytes) is only in the failing state',
+                '/bytes has 2 bytes in both; at byte 0 "ab", in the good state 00ff',
+                '/c (2 bytes) is only in the good state',
+                '/d is 700 u u, in the good state 644 u u',
+                '/short has 2 bytes, in the good state 3 bytes; at byte 2 its end, in the good '
+                'state "c"',
+            ],
+        )
+
+    def test_the_nearest_good_state_lacks_or_has_the_least_beside(self):
+        findings = odd_findings()
+        group, kept = findings.groups[0], findings.plan.kept
+        good = nearest_good(findings, group)
+        self.assertEqual(findings.by_state[good.number].result, GOOD)
+        far = [
+            bin(kept[state] ^ kept[group.example.number]).count('1')
+            for state, one in findings.by_state.items()
+            if one.result == GOOD
+        ]
+        self.assertEqual(bin(kept[good.number] ^ kept[group.example.number]).count('1'), min(far))
+
+    def test_equal_files_are_said_to_be_so(self):
+        findings = odd_findings()
+        findings.groups[0].difference = Difference(3, [])
+        text = ''.join(page(reported(findings)))
+        self.assertIn('has the same files as state 3, which is good: other lines', text)
+        self.assertNotIn('<ul class="differences">', text)
+
+    def test_they_are_shown_as_text(self):
+        findings = odd_findings()
+        findings.groups[0].difference = Difference(3, ['/<b> is only here'])
+        report = reported(findings)
+        text = ''.join(page(report))
+        self.assertIn('and state 3, which is good', text)
+        self.assertIn('<li>/&lt;b&gt; is only here</li>', text)
+        fields = json.loads(''.join(report.json_pieces()))
+        self.assertEqual(fields['groups'][0]['differences'], ['/<b> is only here'])
+
+
+class JUnit(unittest.TestCase):
+    def test_there_is_a_case_for_each_entry_and_one_for_the_others(self):
+        report = odd_report()
+        report.began -= 8
+        suite = minidom.parseString(''.join(junit_lines(report))).documentElement
+        cases = suite.getElementsByTagName('testcase')
+        self.assertEqual(len(cases), len(report.groups()) + 1)
+        self.assertEqual(int(suite.getAttribute('tests')), len(cases))
+        self.assertEqual(
+            int(suite.getAttribute('failures')), len(suite.getElementsByTagName('failure'))
+        )
+        self.assertEqual(cases[0].getAttribute('name'), 'lost: <file>\\x01')
+        (failure,) = cases[0].getElementsByTagName('failure')
+        message = failure.getAttribute('message')
+        self.assertTrue(message.startswith('line 2 (creat /<b>&\\x01) was not durable when'))
+        self.assertTrue(message.endswith('is never synced: fsync it between them'), message)
+        for case in cases:
+            self.assertGreaterEqual(float(case.getAttribute('time')), 0)
+        self.assertGreater(float(suite.getAttribute('time')), 7)
+        self.assertIn(
+            'the directory / is never synced: fsync it between them', failure.firstChild.data
+        )
+        (output,) = cases[0].getElementsByTagName('system-out')
+        self.assertEqual(output.firstChild.data, 'first\n<last>\\x01\n')
+        self.assertRegex(cases[-1].getAttribute('name'), r'^all other states \(\d+\)$')
+
+    def test_names_of_cases_are_unique(self):
+        report = odd_report()
+        first = report.groups_of_windows[0][0]
+        report.groups_of_windows[0] = [
+            replace(first, kept=None, lost=TraceLine(number, f'word {letter}'))
+            for number, letter in enumerate('abc')
+        ]
+        suite = minidom.parseString(''.join(junit_lines(report))).documentElement
+        names = [one.getAttribute('name') for one in suite.getElementsByTagName('testcase')]
+        self.assertEqual((len(names), len(set(names))), (4, 4))
+        self.assertEqual(names[1], names[0] + ' (2)')
+
+    def test_it_is_well_formed_for_any_name_of_a_trace(self):
+        for name in ['a\x1b\0.trace', 'b\udcff\ufffe.trace', 'c"<>&\n.trace', '\u202ed']:
+            report = odd_report()
+            report.head.trace = name
+            text = ''.join(junit_lines(report))
+            minidom.parseString(text.encode())
+            self.assertNotIn('\u202e', text)
+
+    def test_a_state_without_an_answer_is_an_error(self):
+        findings = odd_findings()
+        for group in findings.groups:
+            group.outcome = Outcome(NO_ANSWER, group.cause)
+        report = reported(findings)
+        suite = minidom.parseString(''.join(junit_lines(report))).documentElement
+        self.assertEqual(
+            (suite.getAttribute('failures'), suite.getAttribute('errors')),
+            ('0', str(len(report.groups()))),
+        )
+
+
+if __name__ == '__main__':
+    unittest.main()

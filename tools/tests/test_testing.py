@@ -1,0 +1,193 @@
+"""What `tools/test` makes of what the tests print, and how many parts it runs at once."""
+
+from __future__ import annotations
+
+import io
+import os
+import threading
+import unittest
+from contextlib import redirect_stderr, redirect_stdout
+from typing import Dict, Iterator, List, Optional
+from unittest import mock
+
+from testing import crates, examples, main, tools_tests
+from testing.at_once import Part, outcomes, places
+from testing.crates import LEFT_CRATES, LEFT_TESTS, Crate, crates_with_tests
+from testing.examples import EXAMPLES, Files, scripts, try_examples, try_scripts
+from testing.outcome import Outcome
+
+from .support import InFolder
+
+SLOW = 'tests::a::slow'
+OK = 'test tests::a::one ... ok\n'
+
+
+class Crates(unittest.TestCase):
+    def counts(self, printed: str, left: Optional[Dict[str, str]] = None) -> List[int]:
+        found = crates.outcome_of(Crate('low', 2, 9, left or {}), printed)
+        self.assertEqual(found.output != '', found.failed > 0)
+        return [found.passed, found.failed, len(found.left)]
+
+    def test_a_test_that_is_not_named_has_failed(self) -> None:
+        self.assertEqual(self.counts(OK + 'test tests::a::two ... ok\n'), [2, 0, 0])
+        self.assertEqual(self.counts(OK + 'test tests::a::two ... FAILED\n'), [1, 1, 0])
+        self.assertEqual(self.counts(OK), [1, 1, 0])
+        self.assertEqual(self.counts('rt: no such toolchain\n'), [0, 2, 0])
+
+    def test_a_test_that_is_left_to_the_gate_has_not_failed(self) -> None:
+        left = {SLOW: 'too slow'}
+        self.assertEqual(self.counts(f'{OK}test {SLOW} ... FAILED\n', left), [1, 0, 1])
+        self.assertEqual(self.counts(OK, left), [1, 0, 1])
+        self.assertEqual(self.counts(f'{OK}test {SLOW} ... ok\n', left), [2, 0, 0])
+        self.assertEqual(self.counts(f'test {SLOW} ... FAILED\n', left), [0, 1, 1])
+
+    def test_what_passed_is_not_printed(self) -> None:
+        found = crates.outcome_of(Crate('low', 2, 9), OK + 'test tests::a::two ... FAILED\nwhy\n')
+        lines = ['low: results of 2 of 2 tests', 'test tests::a::two ... FAILED', 'why']
+        self.assertEqual(found.output.splitlines(), lines)
+
+    def test_what_is_left_to_the_gate_exists(self) -> None:
+        known = {crate.name: crate for crate in crates_with_tests()}
+        self.assertLessEqual(set(LEFT_CRATES), set(known))
+        for name, tests in LEFT_TESTS.items():
+            self.assertEqual(known[name].left, tests)
+
+
+class Tools(unittest.TestCase):
+    def test_the_counts_are_those_of_the_last_lines(self) -> None:
+        rows = [
+            ('Ran 9 tests in 1.2s\n\nOK\n', 0, (9, 0, 0)),
+            (
+                'x: the tests that need it are skipped\nRan 9 tests in 1.2s\n\nOK (skipped=2)\n',
+                0,
+                (7, 0, 2),
+            ),
+            ('Ran 9 tests in 1.2s\n\nFAILED (failures=1, errors=2, skipped=3)\n', 1, (3, 3, 3)),
+            ('Ran 1 test in 0.1s\n\nFAILED (unexpected successes=1)\n', 1, (0, 1, 0)),
+            ('ImportError: no such module\n', 1, (0, 1, 0)),
+            ('Ran 9 tests in 1.2s\n\nOK\n', 2, (8, 1, 0)),
+        ]
+        for printed, status, counts in rows:
+            with self.subTest(printed):
+                found = tools_tests.outcome_of(printed, status)
+                self.assertEqual((found.passed, found.failed, found.skipped), counts)
+                self.assertEqual(found.output, printed if counts[1] else '')
+
+    def test_what_is_skipped_is_named_once_with_its_reason(self) -> None:
+        line = 'fish is not there: the tests that need it are skipped\n'
+        found = tools_tests.outcome_of(f'{line}{line}Ran 3 tests in 1s\n\nOK (skipped=2)\n', 0)
+        self.assertEqual(found.left, ['2 tests of the tools: fish is not there'])
+
+
+FAKE_RT = """#!/bin/sh
+for word; do case $word in */crashfs-test-*) folder=$word ;; esac; done
+for script in "$folder"/*; do
+    name=$(basename "$script" .script)
+    echo "== $name.script"
+    {command}
+    echo "case=$name.script run=ended status=0"
+done
+"""
+
+
+class Examples(InFolder):
+    def with_rt(self, command: str) -> Outcome:
+        """What comes of the scripts over the usual files, with a command in the place of `rt`."""
+        self.write('rt', FAKE_RT.format(command=command), 0o755)
+        path = f'{self.folder}:{os.environ["PATH"]}'
+        files, names = next(iter(scripts().items()))
+        with mock.patch.dict(os.environ, PATH=path):
+            return try_scripts(files, names)
+
+    def test_each_script_has_its_files(self) -> None:
+        self.assertEqual(
+            scripts(),
+            {
+                Files('start.trace', 'users'): ['first_exchange', 'shared_run', 'versions'],
+                Files('store.trace', 'store.users'): ['recovery'],
+            },
+        )
+
+    def test_replies_are_compared_with_those_that_are_kept(self) -> None:
+        found = self.with_rt(f'cat {EXAMPLES}/$name.replies')
+        self.assertEqual((found.passed, found.failed, found.output), (3, 0, ''))
+        found = self.with_rt(f'sed s/^[0-9]/9/ {EXAMPLES}/$name.replies')
+        self.assertEqual((found.passed, found.failed), (0, 3))
+        self.assertIn('examples/versions.replies is not what was printed', found.output)
+
+    def test_a_toolchain_that_says_nothing_has_failed(self) -> None:
+        self.assertEqual(self.with_rt('exit 1').failed, 3)
+
+    def test_without_a_program_the_lists_are_those_of_the_second_reading(self) -> None:
+        with mock.patch.object(examples.Crashfs, 'find', return_value=None):
+            alone, with_rt = try_examples(False), try_examples(True)
+        self.assertEqual((alone.passed, alone.failed, len(alone.left)), (2, 0, 1))
+        self.assertEqual((with_rt.passed, with_rt.failed, with_rt.left), (2, 0, []))
+        self.assertIn('4 examples', alone.left[0])
+
+    def test_with_a_program_it_prints_all_examples(self) -> None:
+        path = self.write('crashfs', '#!/bin/sh\necho another list\n', 0o755)
+        with mock.patch.object(examples.Crashfs, 'find', return_value=examples.Crashfs(path)):
+            found = try_examples(False)
+        self.assertEqual((found.passed, found.failed, found.left), (0, 6, []))
+
+
+class AtOnce(unittest.TestCase):
+    def test_there_is_a_place_for_each_processor_that_has_memory(self) -> None:
+        rows = [(4, 24, 4), (4, 7.5, 2), (4, 1, 1), (1, 100, 1), (2, 6, 2)]
+        for processors, gigabytes, count in rows:
+            self.assertEqual(places(processors, gigabytes), count)
+
+    def test_parts_run_at_once_and_each_has_its_outcome(self) -> None:
+        both = threading.Barrier(2)
+
+        def part(name: str) -> Part:
+            def run() -> Outcome:
+                both.wait(60)
+                return Outcome(name, 1)
+
+            return run
+
+        found = list(outcomes({name: part(name) for name in 'ab'}, 2))
+        self.assertEqual(sorted(one.name for one in found), ['a', 'b'])
+
+    def test_a_part_that_breaks_is_no_success(self) -> None:
+        def broken() -> Outcome:
+            raise OSError('no rt')
+
+        threads = threading.active_count()
+        with self.assertRaises(OSError):
+            list(outcomes({'a': broken}, 1))
+        self.assertEqual(threading.active_count(), threads)
+
+
+class Main(unittest.TestCase):
+    def run_main(self, found: List[Outcome], rt: Optional[str]) -> List[str]:
+        """The lines that the command prints for these outcomes, and its status."""
+
+        def all_outcomes(has_rt: bool, count: int) -> Iterator[Outcome]:
+            return iter(found)
+
+        printed, errors = io.StringIO(), io.StringIO()
+        with mock.patch.object(main, 'all_outcomes', all_outcomes), mock.patch.object(
+            main.shutil, 'which', return_value=rt
+        ), mock.patch('sys.argv', ['test']), redirect_stdout(printed), redirect_stderr(errors):
+            status = main.main()
+        return [*printed.getvalue().splitlines(), str(status)]
+
+    def test_the_last_line_counts_all(self) -> None:
+        lines = self.run_main([Outcome('a', 2), Outcome('b', 3, left=['one: why'])], 'rt')
+        self.assertEqual(lines[:2], ['a: 2 passed, 0 s', 'b: 3 passed, 0 s'])
+        self.assertIn('not run: one: why', lines)
+        self.assertTrue(any('cs_growth_tests' in line for line in lines))
+        self.assertEqual(lines[-2:], ['5 passed, 0 failed', '0'])
+
+    def test_one_failure_is_status_1(self) -> None:
+        lines = self.run_main([Outcome('a', 2, 1, output='why')], None)
+        self.assertEqual(lines[0], 'a: 2 passed, 1 FAILED, 0 s')
+        self.assertTrue(any(line.startswith('not run: the ') for line in lines))
+        self.assertEqual(lines[-2:], ['2 passed, 1 failed', '1'])
+
+
+if __name__ == '__main__':
+    unittest.main()

@@ -1,0 +1,85 @@
+"""The tree under a trace's operations: the paths of a file, and the tree as start lines."""
+
+from __future__ import annotations
+
+import unittest
+
+from crashfs_tools.common.entry import Entry
+from crashfs_tools.common.trace import (
+    Creat,
+    Header,
+    Link,
+    Mkdir,
+    Rename,
+    Start,
+    StartLink,
+    Unlink,
+    Write,
+)
+from crashfs_tools.common.tree import Tree, start_lines
+
+
+def small_tree() -> Tree:
+    """A tree with a file of two paths, one of one path, and a directory."""
+    tree = Tree('r', 'g', 0o755)
+    tree.start(Start('/a', 'u', 'g', 0o644, b'one'))
+    tree.start(StartLink('/b', '/a'))
+    for operation in (Mkdir('/d', 'u', 'g', 0o700), Creat('/d/f', 'u', 'g', 0o600)):
+        tree.apply(operation)
+    return tree
+
+
+class Links(unittest.TestCase):
+    def test_a_write_shows_at_each_path_of_its_file_and_at_no_other(self) -> None:
+        tree = small_tree()
+        start = Start('/c', 'u', 'g', 0o644, b'one')
+        tree.start(start)
+        tree.apply(Write('/b', 3, b'more'))
+        shown = {path: entry.data for path, entry in tree.entries.items()}
+        self.assertEqual((shown['/a'], shown['/b'], shown['/c']), (b'onemore', b'onemore', b'one'))
+        self.assertEqual(start.data, b'one')
+
+    def test_a_rename_onto_a_path_of_the_same_file_does_nothing(self) -> None:
+        tree = small_tree()
+        before = tree.micro_operations
+        tree.apply(Rename('/a', '/b'))
+        self.assertEqual((tree.micro_operations, '/a' in tree.entries), (before, True))
+        tree.apply(Rename('/d/f', '/b'))
+        self.assertEqual((tree.micro_operations, '/d/f' in tree.entries), (before + 1, False))
+        self.assertNotEqual(tree.files['/a'], tree.files['/b'])
+
+    def test_each_path_has_a_number_and_a_path_that_is_gone_has_none(self) -> None:
+        tree = small_tree()
+        tree.apply(Link('/d/f', '/d/g'))
+        tree.apply(Unlink('/d/f'))
+        tree.apply(Creat('/d/f', 'u', 'g', 0o600))
+        self.assertEqual(set(tree.files), set(tree.entries))
+        self.assertEqual(len(set(tree.files.values())), len(tree.files) - 1)
+
+
+class Lines(unittest.TestCase):
+    def test_the_first_path_of_a_file_has_its_line_and_the_others_are_links(self) -> None:
+        tree = small_tree()
+        tree.apply(Link('/d/f', '/d-'))
+        header, lines = start_lines(tree.entries, tree.files)
+        self.assertEqual(header, Header('r', 'g', 0o755))
+        self.assertEqual(
+            lines,
+            [
+                Start('/a', 'u', 'g', 0o644, b'one'),
+                StartLink('/b', '/a'),
+                Start('/d', 'u', 'g', 0o700, None),
+                Start('/d/f', 'u', 'g', 0o600, b''),
+                StartLink('/d-', '/d/f'),
+            ],
+        )
+
+    def test_files_that_are_equal_but_not_the_same_are_no_links(self) -> None:
+        entry = Entry('u', 'g', 0o644, b'same')
+        entries = {'/': Entry('u', 'g', 0o755, None), '/a': entry, '/b': entry}
+        _, lines = start_lines(entries, {'/': 0, '/a': 1, '/b': 2})
+        self.assertEqual([type(line) for line in lines], [Start, Start])
+
+
+if __name__ == '__main__':
+    unittest.main()
