@@ -4,7 +4,7 @@ ghost use Rattle.cs_families.specs.Families.{WritesFamily};
 
 use crate::family::{Family, write_family};
 use crate::fault::{CommandFault, FamilyFault};
-use cs_serve::{Inputs, scene_of};
+use cs_inputs::{Inputs, scene_of};
 use std::alloc::Global;
 use std::io::Write;
 

@@ -1,5 +1,5 @@
 //! The faults of printing a family of sets.
-use cs_serve::ProgramFault;
+use cs_inputs::ProgramFault;
 use std::alloc::AllocError;
 use thiserror::Error;
 

@@ -1,4 +1,4 @@
-//! One set as a line of a picks file. `read_picks` of cs_serve reads such lines.
+//! One set as a line of a picks file. `read_picks` of cs_inputs reads such lines.
 ghost use Rattle.std.specs.Prelude.{◌≡◌, OnOk};
 ghost use Rattle.std.specs.Io.KnownBytes.{Appends};
 ghost use Rattle.cs_families.specs.Texts.{pick_line};

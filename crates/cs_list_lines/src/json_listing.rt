@@ -12,9 +12,9 @@ use crate::json::{op_line, state_line};
 use crate::lines::number_at;
 use crate::paths::FilePaths;
 use cs_families::least_with;
+use cs_inputs::ProgramFault;
 use cs_names::Path;
 use cs_plan::{Places, Scene};
-use cs_serve::ProgramFault;
 use std::alloc::{AllocError, Global};
 
 /// The line of the micro-operation at the place. `path` is one path of the file that it changes, if

@@ -5,8 +5,8 @@ ghost use Rattle.cs_picks.specs.Sets.{Writes, WritesSets};
 use crate::fault::CommandFault;
 use crate::order::order_of;
 use cs_every::{EveryFault, has_more_than, write_count, write_every, write_sample};
+use cs_inputs::{Inputs, scene_of};
 use cs_plan::Scene;
-use cs_serve::{Inputs, scene_of};
 use std::alloc::Global;
 use std::io::Write;
 
