@@ -3,7 +3,7 @@ ghost use Rattle.std.specs.Prelude.{◌≡◌};
 
 use crate::ask::{Ask, Job};
 use crate::users::users_of_trace;
-use cs_serve::Inputs;
+use cs_inputs::Inputs;
 use cs_tcp::with_line_feeds;
 use std::fs::{File, OpenFile};
 use std::io::{self, Read, Write};

@@ -4,7 +4,7 @@ ghost use Rattle.cs_archive.specs.Archives.{WritesArchive};
 
 use crate::fault::{ArchiveFault, CommandFault};
 use crate::states::{States, write_states};
-use cs_serve::{Inputs, scene_of};
+use cs_inputs::{Inputs, scene_of};
 use std::alloc::Global;
 use std::io::Write;
 use std::sync::Arc;

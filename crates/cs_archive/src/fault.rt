@@ -2,7 +2,7 @@
 ghost use Rattle.std.specs.Prelude.{◌≡◌};
 ghost use Rattle.cs_archive.specs.Faults.{of_writing};
 
-use cs_serve::ProgramFault;
+use cs_inputs::ProgramFault;
 use cs_tar::TarFault;
 use thiserror::Error;
 

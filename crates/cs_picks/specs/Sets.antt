@@ -9,8 +9,8 @@ use Rattle.cs_every.specs.declared.fault.EveryFault.TheVariants.{More, TooMany, 
 use Rattle.cs_every.specs.Drawn.{WritesSample}
 use Rattle.cs_every.specs.Faults.{IsOutside, IsUncounted, IsUndrawn}
 use Rattle.cs_every.specs.Texts.{count_text, picks_text}
-use Rattle.cs_serve.specs.Commands.{IsScene}
-use Rattle.cs_serve.specs.declared.inputs.Inputs.{Inputs}
+use Rattle.cs_inputs.specs.Scenes.{IsScene}
+use Rattle.cs_inputs.specs.declared.inputs.Inputs.{Inputs}
 use Rattle.cs_picks.specs.Families.{family_in}
 use Rattle.cs_picks.specs.declared.sets.PickSets.{PickSets}
 use Rattle.cs_picks.specs.declared.sets.PickSets.TheVariants.{Of, Every, Count, Sample}

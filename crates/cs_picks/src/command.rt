@@ -5,7 +5,7 @@ ghost use Rattle.cs_picks.specs.Sets.{PrintsSets};
 use crate::fault::CommandFault;
 use crate::sets::{PickSets, write_sets};
 use cs_every::EveryFault;
-use cs_serve::{Inputs, scene_of};
+use cs_inputs::{Inputs, scene_of};
 use std::alloc::Global;
 use std::io::Write;
 

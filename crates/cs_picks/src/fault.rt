@@ -1,6 +1,6 @@
 //! The faults of the command.
 use cs_every::EveryFault;
-use cs_serve::ProgramFault;
+use cs_inputs::ProgramFault;
 use thiserror::Error;
 
 /// Why the command ends with status 1. Its text follows `crashfs: ` on standard error.

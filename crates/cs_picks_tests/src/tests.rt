@@ -1,6 +1,6 @@
 //! All sets of small traces, worked out by hand.
+use cs_inputs::Inputs;
 use cs_picks::{Sets, every_of};
-use cs_serve::Inputs;
 use std::alloc::Global;
 use std::process::Abort;
 

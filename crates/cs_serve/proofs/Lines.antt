@@ -2,8 +2,8 @@
 use Rattle.std.proofs.Common.{◌≡◌, ℕ, List, [], ◌∷◌, ◌++◌, Option, None, Some, sym, ap, ◌∙◌, append_assoc, refl}
 use Rattle.std.specs.Option.{option_map}
 use Rattle.std.specs.Prelude.{Result, Ok, Err}
-use Rattle.cs_serve.specs.declared.fault.ProgramFault.{ProgramFault}
-use Rattle.cs_serve.specs.declared.fault.ProgramFault.TheVariants.{Script}
+use Rattle.cs_inputs.specs.declared.fault.ProgramFault.{ProgramFault}
+use Rattle.cs_inputs.specs.declared.fault.ProgramFault.TheVariants.{Script}
 use Rattle.cs_serve.specs.declared.script.ScriptLine.{ScriptLine}
 use Rattle.cs_serve.specs.Scripts.{with_lines_first, with_line}
 

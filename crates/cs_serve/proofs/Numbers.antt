@@ -9,7 +9,8 @@ use Rattle.std.specs.Str.{all_ascii_digits}
 use Rattle.std.specs.Str.Parse.{ParsesUnsigned, digits_value}
 use Rattle.std.proofs.lemmas.Bool.{ltb-true, lt-ltb}
 use Rattle.std.proofs.lemmas.Str.Parse.{numerals_by_value, parse_digits, tells_all_ascii_digits}
-use Rattle.cs_serve.specs.Scripts.{is_decimal, number_in, number_of_32_bits}
+use Rattle.cs_inputs.specs.PickLines.{number_of_32_bits}
+use Rattle.cs_serve.specs.Scripts.{is_decimal, number_in}
 
 digits_same : (bs : List ℕ) → list_all is_ascii_digit bs ≡ all_ascii_digits bs
 digits_same [] = refl

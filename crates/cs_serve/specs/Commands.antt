@@ -3,29 +3,18 @@
 use Rattle.std.specs.Prelude.{◌≡◌, ◌⊎◌, true, ℕ, zero, suc, List, ◌++◌, length, replicate, Option}
 use Rattle.std.specs.Prelude.{Result, Ok, Err}
 use Rattle.std.specs.Io.KnownBytes.{Appends, Consumes, IsAtEnd, Keeps}
-use Rattle.cs_apm.specs.Orders.{order_of}
-use Rattle.cs_micro.specs.Micros.{micros_in}
-use Rattle.cs_serve.specs.Picks.{picks_in}
 use Rattle.cs_plan.specs.Lists.{list_text}
-use Rattle.cs_plan.specs.Plans.{plan_of}
 use Rattle.cs_plan.specs.Scenes.{Scene}
-use Rattle.cs_trace.specs.Traces.{trace_in}
 use Rattle.cs_users.specs.Reading.{users_in}
 use Rattle.cs_users.specs.Rows.{Row}
 use Rattle.cs_world.specs.Worlds.{World, new_world}
-use Rattle.cs_serve.specs.declared.inputs.Inputs.{Inputs}
+use Rattle.cs_inputs.specs.Scenes.{IsScene}
+use Rattle.cs_inputs.specs.declared.inputs.Inputs.{Inputs}
 use Rattle.cs_serve.specs.declared.script.ScriptLine.{ScriptLine}
 use Rattle.cs_serve.specs.Printed.{PrintsAll}
 use Rattle.cs_registry.specs.Publishing.{with_published}
 use Rattle.cs_serve.specs.Scripts.{script_in}
 use Rattle.cs_stream.specs.Streams.{AppendsFront}
-
--- the scene is that of the trace, with holes if they are asked for, and the picks
-pub record IsScene (inputs : Inputs) (scene : Scene) : Type 0 where
-  pub picks : List (List ℕ)
-  pub traced : trace_in inputs.trace.now ≡ Ok scene.trace
-  pub picked : picks_in inputs.picks.now ≡ Ok picks
-  pub planned : scene.plan ≡ plan_of (order_of (micros_in scene.trace)) inputs.holes picks
 
 -- ---- list
 

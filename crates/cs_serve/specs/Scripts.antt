@@ -1,5 +1,5 @@
 -- A script: what connections do, and the users files that are taken, a line each.
-use Rattle.std.specs.Prelude.{ℕ, ◌+◌, ◌*◌, ◌^◌, ◌==◌, ◌&&◌, Bool, nat_le, nat_lt, List, [], ◌∷◌}
+use Rattle.std.specs.Prelude.{ℕ, ◌+◌, ◌*◌, ◌==◌, ◌&&◌, Bool, nat_le, nat_lt, List, [], ◌∷◌}
 use Rattle.std.specs.Prelude.{◌++◌, codes, length, Option, Some, None, Result, Ok, Err, option_map}
 use Rattle.std.specs.Prelude.{option_and_then, if◌then◌else◌}
 use Rattle.std.specs.Io.BufRead.{strip_last}
@@ -11,8 +11,9 @@ use Rattle.hex.specs.Hex.{decode_of}
 use Rattle.cs_names.specs.Pieces.{pieces}
 use Rattle.cs_names.specs.Texts.{same_bytes}
 use Rattle.cs_names.specs.declared.limits.TheConstants.{CONNECTIONS, MESSAGE_BYTES, SCRIPT_LINES}
-use Rattle.cs_serve.specs.declared.fault.ProgramFault.{ProgramFault}
-use Rattle.cs_serve.specs.declared.fault.ProgramFault.TheVariants.{Script}
+use Rattle.cs_inputs.specs.PickLines.{number_of_32_bits}
+use Rattle.cs_inputs.specs.declared.fault.ProgramFault.{ProgramFault}
+use Rattle.cs_inputs.specs.declared.fault.ProgramFault.TheVariants.{Script}
 use Rattle.cs_serve.specs.declared.script.Action.{Action}
 use Rattle.cs_serve.specs.declared.script.Action.TheVariants.{Send, HangUp}
 use Rattle.cs_serve.specs.declared.script.ScriptLine.{ScriptLine}
@@ -23,10 +24,6 @@ use Rattle.cs_serve.specs.declared.script.ScriptLine.TheVariants.{Act, Reload}
 -- one digit or more, and nothing else
 abbrev pub is_decimal : List ℕ → Bool
 is_decimal text = nat_lt 0 (length text) && list_all is_ascii_digit text
-
--- what fits 32 bits
-abbrev pub number_of_32_bits : ℕ → Option ℕ
-number_of_32_bits number = if nat_lt number (2 ^ 32) then Some number else None
 
 -- a number of 32 bits, of nothing but digits
 abbrev pub number_in : List ℕ → Option ℕ

@@ -1,13 +1,10 @@
 //! The command `list`: what a trace is made of, and which states a crash may leave.
 ghost use Rattle.std.specs.Prelude.{◌≤◌, IfErr};
 ghost use Rattle.cs_serve.specs.Commands.{Lists};
-ghost use Rattle.cs_serve.specs.Written.{BlamesOutput};
+ghost use Rattle.cs_inputs.specs.Written.{BlamesOutput};
 ghost use Rattle.cs_stream.specs.Streams.{KeepsReads};
 
-use crate::ending::exit_status;
-use crate::fault::ProgramFault;
-use crate::inputs::{Inputs, scene_of};
-use crate::printing::print;
+use cs_inputs::{Inputs, ProgramFault, exit_status, print, scene_of};
 use cs_stream::{Stream, TwoEnded};
 use std::alloc::Global;
 use std::io::Write;

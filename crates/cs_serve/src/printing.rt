@@ -1,17 +1,12 @@
-//! The lines of a script's output, each made with its line feed at the end, and how a text is
-//! written to a stream. The only error of a `_text` function is out of memory.
-ghost use Rattle.std.specs.Prelude.{◌≡◌, IfErr, IfOk, string_bytes};
+//! The lines of a script's output, each made with its line feed at the end. The only error of a
+//! `_text` function is out of memory.
+ghost use Rattle.std.specs.Prelude.{◌≡◌, IfOk, string_bytes};
 ghost use Rattle.cs_wire.specs.Messages.{Fits, r_view};
-ghost use Rattle.cs_stream.specs.Streams.{KeepsFaults, KeepsReads};
 ghost use Rattle.cs_serve.specs.Printed.{closed_text, refused_text, reloaded_text, reply_text};
-ghost use Rattle.cs_serve.specs.Written.{BlamesOutput, Writes};
 
-use crate::fault::ProgramFault;
-use cs_stream::{Stream, TwoEnded, write_all};
 use cs_users::UsersFault;
 use cs_wire::{RMessage, encode_reply};
 use std::alloc::{AllocError, Global};
-use std::io::Write;
 
 /// The line of a reply: the connection's number, a space, and the reply's bytes in lower case
 /// hexadecimal. The reply must fit a message.
@@ -44,27 +39,4 @@ pub(crate) fn refused_text(alloc: Global, fault: UsersFault) -> Result<String, A
     ensures { IfOk result (λ text. string_bytes text ≡ refused_text fault) }
 {
     format!(in alloc; "reload refused: {fault}\n")
-}
-
-/// Writes a text to a stream. The error is Output if a write fails, takes no byte, or is the
-/// thousandth in a row that is interrupted. After it some of the text, from the front, was written,
-/// or none.
-pub(crate) fn print<S: Stream>(stream: &mut S, text: &[u8]) -> Result<(), ProgramFault>
-    ensures written { Writes result (S.contents stream.old) (S.contents stream.new) text.now }
-    ensures fault { IfErr result (BlamesOutput (S.counts stream.old) (S.counts stream.new)) }
-    ensures faults { KeepsFaults (S.counts stream.old) (S.counts stream.new) }
-    ensures reads { KeepsReads (S.counts stream.old) (S.counts stream.new) }
-    ensures remaining { S.remaining stream.new ≡ S.remaining stream.old }
-{
-    match write_all(stream, text) {
-        Ok(()) => Ok(()),
-        Err(_) => Err(ProgramFault::Output),
-    }
-}
-
-/// Writes a text to a writer, as `print` does.
-pub fn print_to<W: Write>(out: &mut W, text: &[u8]) -> Result<(), ProgramFault> {
-    // nothing is read
-    let mut stream = TwoEnded::new(b"".as_slice(), out);
-    print(&mut stream, text)
 }

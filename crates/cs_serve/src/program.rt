@@ -3,15 +3,13 @@ ghost use Rattle.std.specs.Prelude.{◌≡◌, ◌≤◌, IfErr, IfOk};
 ghost use Rattle.cs_names.specs.declared.limits.TheConstants.{CONNECTION_READS};
 ghost use Rattle.cs_stream.specs.Streams.{KeepsFaults, saturating_sum};
 ghost use Rattle.cs_serve.specs.Commands.{Begins, Scripts};
-ghost use Rattle.cs_serve.specs.Written.{Blames};
+ghost use Rattle.cs_inputs.specs.Written.{Blames};
 
-use crate::ending::exit_status;
-use crate::fault::ProgramFault;
-use crate::inputs::{Inputs, scene_of, users_of};
 use crate::publishing::world_of;
 use crate::reading::read_all;
 use crate::running::run_lines;
 use crate::script::{ScriptLine, read_script};
+use cs_inputs::{Inputs, ProgramFault, exit_status, scene_of, users_of};
 use cs_stream::{Stream, TwoEnded};
 use cs_world::World;
 use std::alloc::Global;

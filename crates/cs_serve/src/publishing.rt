@@ -1,9 +1,9 @@
 //! The world of a scene, with all of its states published.
 ghost use Rattle.std.specs.Prelude.{◌≡◌, IfErr, IfOk, OnOk};
 ghost use Rattle.cs_serve.specs.Commands.{served_world, with_first};
-ghost use Rattle.cs_serve.specs.Written.{IsOfNoStream};
+ghost use Rattle.cs_inputs.specs.Written.{IsOfNoStream};
 
-use crate::fault::ProgramFault;
+use cs_inputs::ProgramFault;
 use cs_plan::Scene;
 use cs_users::Users;
 use cs_world::{Reply, Step, World};

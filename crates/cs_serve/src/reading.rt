@@ -3,9 +3,9 @@ ghost use Rattle.std.specs.Prelude.{◌≡◌, ◌≤◌, IfErr, IfOk, OnOk};
 ghost use Rattle.std.specs.Io.KnownBytes.{Consumes, IsAtEnd};
 ghost use Rattle.cs_names.specs.declared.limits.TheConstants.{CONNECTION_READS};
 ghost use Rattle.cs_stream.specs.Streams.{KeepsFaults, saturating_sum};
-ghost use Rattle.cs_serve.specs.Written.{Blames};
+ghost use Rattle.cs_inputs.specs.Written.{Blames};
 
-use crate::fault::ProgramFault;
+use cs_inputs::ProgramFault;
 use cs_names::limits::{CONNECTION_READS, INTERRUPTIONS};
 use cs_stream::{Stream, Transfer};
 use std::alloc::Global;

@@ -4,15 +4,15 @@ ghost use Rattle.std.specs.Prelude.{string_bytes};
 ghost use Rattle.cs_names.specs.declared.limits.TheConstants.{CONNECTIONS};
 ghost use Rattle.cs_serve.specs.Commands.{RanTo, StoppedAt};
 ghost use Rattle.cs_serve.specs.Printed.{Acts, Loaded, Prints};
-ghost use Rattle.cs_serve.specs.Written.{BlamesOutput, Writes};
+ghost use Rattle.cs_inputs.specs.Written.{BlamesOutput, Writes};
 ghost use Rattle.cs_serve.specs.declared.script.Action.TheVariants.{HangUp, Send};
 ghost use Rattle.cs_stream.specs.Streams.{KeepsFaults, KeepsReads};
 ghost use Rattle.cs_users.specs.Reading.{users_in};
 
-use crate::fault::ProgramFault;
 use crate::message_lines::print_exchange;
-use crate::printing::{closed_text, print, refused_text, reloaded_text, reply_text};
+use crate::printing::{closed_text, refused_text, reloaded_text, reply_text};
 use crate::script::{Action, ScriptAct, ScriptLine};
+use cs_inputs::{ProgramFault, print};
 use cs_stream::Stream;
 use cs_users::{Users, UsersFault};
 use cs_wire::{RMessage, decode_request};

@@ -4,12 +4,12 @@ ghost use Rattle.std.specs.Prelude.{◌≡◌, ◌≢◌, ◌<◌, ◌≤◌, []
 ghost use Rattle.std.specs.Prelude.{OnOk, Some, length, option_map, vec_items};
 ghost use Rattle.std.specs.Io.BufRead.{strip_last};
 ghost use Rattle.cs_names.specs.declared.limits.TheConstants.{CONNECTIONS};
-ghost use Rattle.cs_serve.specs.declared.fault.ProgramFault.TheVariants.{Memory, Script};
+ghost use Rattle.cs_inputs.specs.declared.fault.ProgramFault.TheVariants.{Memory, Script};
 ghost use Rattle.cs_serve.specs.Scripts.{act_from, action_in, bytes_in, conn_in, is_decimal};
 ghost use Rattle.cs_serve.specs.Scripts.{line_at, line_in, line_of, number_in, script_in, sent_in};
-ghost use Rattle.cs_serve.specs.Written.{IsOfNoStream};
+ghost use Rattle.cs_inputs.specs.Written.{IsOfNoStream};
 
-use crate::fault::ProgramFault;
+use cs_inputs::ProgramFault;
 use cs_names::limits::{CONNECTIONS, MESSAGE_BYTES, SCRIPT_LINES};
 use cs_names::{Pieces, is_all_digits};
 use std::alloc::{AllocError, Global};

@@ -7,7 +7,7 @@ use crate::entrance::{Admitted, Entrance};
 use crate::log::Log;
 use crate::reloading::ReadsFiles;
 use crate::site::Site;
-use cs_serve::ProgramFault;
+use cs_inputs::ProgramFault;
 use cs_shared_runs::ServerBrand;
 use std::alloc::Global;
 use std::io::{self, Read, Write};

@@ -4,9 +4,9 @@ ghost use Rattle.cs_tcp.specs.Summary.{AreReported, IsReport, IsSummary, finding
 ghost use Rattle.cs_tcp.specs.Summary.{verdict_text};
 
 use cs_connection::{GivenPasses, Server};
+use cs_inputs::ProgramFault;
 use cs_journal::AuditFault;
 use cs_registry::RunKey;
-use cs_serve::ProgramFault;
 use cs_shared_runs::{AuditBy, ServerBrand, SharedRun};
 use std::alloc::{AllocError, Global};
 use std::fmt;

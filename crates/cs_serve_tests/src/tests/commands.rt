@@ -1,5 +1,6 @@
 //! The commands `script` and `list` over streams that fail.
-use cs_serve::{Inputs, list_of, script_of};
+use cs_inputs::Inputs;
+use cs_serve::{list_of, script_of};
 use std::alloc::Global;
 use std::io::{self, ErrorKind, Read, Write};
 use std::process::Abort;

@@ -1,7 +1,7 @@
 //! A small tree and its scene.
 
+use cs_inputs::{Inputs, scene_of};
 use cs_plan::Scene;
-use cs_serve::{Inputs, scene_of};
 use std::alloc::Global;
 use std::sync::Arc;
 use std::thread;

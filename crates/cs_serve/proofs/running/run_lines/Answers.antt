@@ -1,6 +1,6 @@
 use Rattle.std.proofs.Common.{refl, ◌∙◌}
 use Rattle.cs_stream.proofs.Counting.{keeps_faults_same, keeps_faults_then, keeps_reads_same, keeps_reads_then}
-use Rattle.cs_serve.proofs.Blaming.{output_later}
+use Rattle.cs_inputs.proofs.Blaming.{output_later}
 use Rattle.cs_serve.proofs.RunLines.{ran_none, ran_next, ran_until}
 use Rattle.cs_serve.proofs.running.run_lines.Goals as goal
 

@@ -2,10 +2,10 @@
 use Rattle.cs_stream.specs.declared.stream.Counts.{Counts}
 use Rattle.cs_stream.specs.Streams.{KeepsFaults}
 use Rattle.cs_stream.proofs.Counting.{blames_writes}
-use Rattle.cs_serve.specs.declared.fault.ProgramFault.{ProgramFault}
-use Rattle.cs_serve.specs.declared.fault.ProgramFault.TheVariants.{TraceNotText, Trace, Users, Picks, Scene, Script, Listen, Publishing}
-use Rattle.cs_serve.specs.declared.fault.ProgramFault.TheVariants.{Input, Output, Memory}
-use Rattle.cs_serve.specs.Written.{Blames, BlamesOutput, IsOfNoStream}
+use Rattle.cs_inputs.specs.declared.fault.ProgramFault.{ProgramFault}
+use Rattle.cs_inputs.specs.declared.fault.ProgramFault.TheVariants.{TraceNotText, Trace, Users, Picks, Scene, Script, Listen, Publishing}
+use Rattle.cs_inputs.specs.declared.fault.ProgramFault.TheVariants.{Input, Output, Memory}
+use Rattle.cs_inputs.specs.Written.{Blames, BlamesOutput, IsOfNoStream}
 
 -- a fault of no stream blames none
 pub blames_none : (old new : Counts) (fault : ProgramFault) → IsOfNoStream fault → Blames old new fault

@@ -1,7 +1,7 @@
 //! Why a picks file can't be read.
 ghost use Rattle.std.specs.Prelude.{◌≡◌, Some};
-ghost use Rattle.cs_serve.specs.PicksFaults.{fault_text};
-ghost use Rattle.cs_serve.specs.declared.picks_fault.PicksFault.TheVariants.{Memory};
+ghost use Rattle.cs_inputs.specs.PicksFaults.{fault_text};
+ghost use Rattle.cs_inputs.specs.declared.picks_fault.PicksFault.TheVariants.{Memory};
 
 use std::alloc::AllocError;
 use std::fmt;

@@ -2,8 +2,8 @@
 ghost use Rattle.std.specs.Prelude.{◌≡◌, IfErr, IfOk, Ok};
 ghost use Rattle.cs_trace.specs.Traces.{trace_in};
 ghost use Rattle.cs_users.specs.Reading.{users_in};
-ghost use Rattle.cs_serve.specs.Commands.{IsScene};
-ghost use Rattle.cs_serve.specs.Written.{IsOfNoStream};
+ghost use Rattle.cs_inputs.specs.Scenes.{IsScene};
+ghost use Rattle.cs_inputs.specs.Written.{IsOfNoStream};
 
 use crate::fault::ProgramFault;
 use crate::picks::read_picks;

@@ -6,10 +6,10 @@ use Rattle.std.specs.Option.{option_map}
 use Rattle.std.specs.Prelude.{Result, Ok, Err}
 use Rattle.serde_json.specs.View.{items_view, view}
 use Rattle.serde_json.specs.declared.value.Value.{Value}
-use Rattle.cs_serve.specs.PickLines.{place_of, places_of, with_place}
-use Rattle.cs_serve.specs.Picks.{with_picks_first, with_line}
-use Rattle.cs_serve.specs.declared.picks_fault.PicksFault.{PicksFault}
-use Rattle.cs_serve.specs.declared.picks_fault.PicksFault.TheVariants.{Syntax}
+use Rattle.cs_inputs.specs.PickLines.{place_of, places_of, with_place}
+use Rattle.cs_inputs.specs.Picks.{with_picks_first, with_line}
+use Rattle.cs_inputs.specs.declared.picks_fault.PicksFault.{PicksFault}
+use Rattle.cs_inputs.specs.declared.picks_fault.PicksFault.TheVariants.{Syntax}
 
 -- ---- the places of a line
 

@@ -1,5 +1,5 @@
 //! Why the program ends with a fault.
-ghost use Rattle.cs_serve.specs.Written.{IsOfNoStream};
+ghost use Rattle.cs_inputs.specs.Written.{IsOfNoStream};
 
 use crate::picks_fault::PicksFault;
 use cs_plan::SceneFault;

@@ -1,8 +1,8 @@
 //! The picks of a file, line by line.
 ghost use Rattle.std.specs.Prelude.{◌≡◌, ◌≢◌, ◌++◌, Some, None, Ok, Err, IfErr, IfOk, OnOk};
 ghost use Rattle.std.specs.Prelude.{option_map};
-ghost use Rattle.cs_serve.specs.Picks.{picks_in, picks_on};
-ghost use Rattle.cs_serve.specs.declared.picks_fault.PicksFault.TheVariants.{Memory, Syntax};
+ghost use Rattle.cs_inputs.specs.Picks.{picks_in, picks_on};
+ghost use Rattle.cs_inputs.specs.declared.picks_fault.PicksFault.TheVariants.{Memory, Syntax};
 
 use crate::pick_line::pick_in;
 use crate::picks_fault::PicksFault;

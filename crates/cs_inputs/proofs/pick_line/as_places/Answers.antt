@@ -1,7 +1,7 @@
 use Rattle.std.proofs.Common.{◌+◌, ap, sym, ◌∙◌, Some}
-use Rattle.cs_serve.specs.PickLines.{with_place}
-use Rattle.cs_serve.proofs.ReadingPicks.{placed, placed_more, place_next, places_end, places_from}
-use Rattle.cs_serve.proofs.pick_line.as_places.Goals as goal
+use Rattle.cs_inputs.specs.PickLines.{with_place}
+use Rattle.cs_inputs.proofs.ReadingPicks.{placed, placed_more, place_next, places_end, places_from}
+use Rattle.cs_inputs.proofs.pick_line.as_places.Goals as goal
 
 pub loop-value-preserved : goal.loop-value-preserved
 loop-value-preserved c =

@@ -1,8 +1,8 @@
 use Rattle.std.proofs.Common.{◌≡◌, ◌+◌, length}
 use Rattle.cs_names.specs.Pieces.{pieces}
 use Rattle.cs_names.specs.PiecesLeft.{pieces_left}
-use Rattle.cs_serve.specs.Picks.{with_picks_first, picks_from}
-use Rattle.cs_serve.proofs.picks.read_picks.Given as goal
+use Rattle.cs_inputs.specs.Picks.{with_picks_first, picks_from}
+use Rattle.cs_inputs.proofs.picks.read_picks.Given as goal
 
 abbrev pub invariant-loop-line : goal.invariant-loop-line
 invariant-loop-line l = record {

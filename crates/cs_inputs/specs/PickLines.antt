@@ -1,11 +1,14 @@
 -- A line of a picks file, through what `serde_json` reads as a value: an array of places.
-use Rattle.std.specs.Prelude.{ℕ, if◌then◌else◌, List, [], ◌∷◌, Option, None, Some}
+use Rattle.std.specs.Prelude.{ℕ, ◌^◌, nat_lt, if◌then◌else◌, List, [], ◌∷◌, Option, None, Some}
 use Rattle.std.specs.Prelude.{option_map, option_and_then}
 use Rattle.std.specs.Str.{is_utf8}
 use Rattle.serde_json.specs.Data.{Data, Items, no_items, item}
 use Rattle.serde_json.specs.Find.{as_array, as_number, as_u64}
 use Rattle.serde_json.specs.Read.{read}
-use Rattle.cs_serve.specs.Scripts.{number_of_32_bits}
+
+-- what fits 32 bits
+abbrev pub number_of_32_bits : ℕ → Option ℕ
+number_of_32_bits number = if nat_lt number (2 ^ 32) then Some number else None
 
 -- a whole number without sign, point or exponent, of at most 32 bits
 abbrev pub place_of : Data → Option ℕ

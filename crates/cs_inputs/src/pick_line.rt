@@ -1,7 +1,7 @@
 //! A line of a picks file.
 ghost use Rattle.std.specs.Prelude.{◌≡◌, IfOk};
 ghost use Rattle.serde_json.specs.View.{items_view, view};
-ghost use Rattle.cs_serve.specs.PickLines.{pick_in, place_of, places_in, places_of};
+ghost use Rattle.cs_inputs.specs.PickLines.{pick_in, place_of, places_in, places_of};
 
 use cs_names::as_utf8;
 use cs_plan::Places;

@@ -7,7 +7,7 @@ use std::io::Write;
 /// The status of a command that ended with `done`: 0, or 1 if it failed, which one line on `err`
 /// reports. `out` is flushed first; if only the flush fails, the fault is Output. A failed write to
 /// `err` is passed over.
-pub(crate) fn exit_status<W: Write, E: Write>(
+pub fn exit_status<W: Write, E: Write>(
     done: Result<(), ProgramFault>,
     out: &mut W,
     err: &mut E,

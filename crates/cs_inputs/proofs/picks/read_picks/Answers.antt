@@ -3,9 +3,9 @@ use Rattle.std.proofs.lemmas.List.{append-nil}
 use Rattle.std.specs.Prelude.{Err, Ok}
 use Rattle.cs_names.proofs.Cutting.{length-pieces}
 use Rattle.cs_names.specs.PiecesLeft.{pieces_left}
-use Rattle.cs_serve.specs.Picks.{with_picks_first, picks_from, picks_in, picks_on}
-use Rattle.cs_serve.proofs.ReadingPicks.{line_kept, line_refused}
-use Rattle.cs_serve.proofs.picks.read_picks.Goals as goal
+use Rattle.cs_inputs.specs.Picks.{with_picks_first, picks_from, picks_in, picks_on}
+use Rattle.cs_inputs.proofs.ReadingPicks.{line_kept, line_refused}
+use Rattle.cs_inputs.proofs.picks.read_picks.Goals as goal
 
 pub overflow_add-before : goal.overflow_add-before
 overflow_add-before c =

@@ -3,8 +3,8 @@ use Rattle.std.specs.Prelude.{ℕ, List, ⊤, Option, Result, Ok, Err}
 use Rattle.std.specs.Io.KnownBytes.{Appends}
 use Rattle.cs_stream.specs.declared.stream.Counts.{Counts}
 use Rattle.cs_stream.specs.Streams.{AppendsFront, BlamesReads, BlamesWrites}
-use Rattle.cs_serve.specs.declared.fault.ProgramFault.{ProgramFault}
-use Rattle.cs_serve.specs.declared.fault.ProgramFault.TheVariants.{Input, Output}
+use Rattle.cs_inputs.specs.declared.fault.ProgramFault.{ProgramFault}
+use Rattle.cs_inputs.specs.declared.fault.ProgramFault.TheVariants.{Input, Output}
 
 -- all of it, or after a fault some of it from the front
 abbrev pub Writes : {E : Type 0} → Result (Unit {0}) E → Option (List ℕ) → Option (List ℕ) → List ℕ

@@ -2,9 +2,9 @@
 use Rattle.std.specs.Prelude.{ℕ, ◌+◌, List, [], ◌∷◌, ◌++◌, Option, None, Some, option_map, Result}
 use Rattle.std.specs.Prelude.{Ok, Err}
 use Rattle.cs_names.specs.Pieces.{pieces}
-use Rattle.cs_serve.specs.PickLines.{pick_in}
-use Rattle.cs_serve.specs.declared.picks_fault.PicksFault.{PicksFault}
-use Rattle.cs_serve.specs.declared.picks_fault.PicksFault.TheVariants.{Syntax}
+use Rattle.cs_inputs.specs.PickLines.{pick_in}
+use Rattle.cs_inputs.specs.declared.picks_fault.PicksFault.{PicksFault}
+use Rattle.cs_inputs.specs.declared.picks_fault.PicksFault.TheVariants.{Syntax}
 
 -- an empty line has no pick, and any other line has one
 abbrev pub picks_on : List ℕ → Option (List (List ℕ))

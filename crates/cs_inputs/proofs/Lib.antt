@@ -1,0 +1,3 @@
+pub mod Blaming
+pub mod ReadingPicks
+pub mod Scened

@@ -1,0 +1,5 @@
+pub mod PickLines
+pub mod Picks
+pub mod PicksFaults
+pub mod Scenes
+pub mod Written
