@@ -1,6 +1,6 @@
 //! What the command line asks for. It is read in `command_line`.
 use cs_archive::States;
-use cs_families::Family;
+use cs_picks::Family;
 use cs_list_lines::ListOptions;
 use cs_tcp::Serving;
 

@@ -4,7 +4,7 @@ use crate::commands::{command, tar_command};
 use clap::error::ErrorKind;
 use clap::{ArgMatches, Error};
 use cs_archive::{StateRange, States};
-use cs_families::Family;
+use cs_picks::Family;
 use cs_list_lines::ListOptions;
 use cs_tcp::{Client, Serving};
 use std::alloc::{AllocError, Global};

@@ -17,7 +17,7 @@ use clap::Error;
 use clap::error::ErrorKind;
 use command_line::ask_of;
 use cs_archive::tar_of;
-use cs_families::picks_of;
+use cs_picks::{PickSets, picks_of};
 use cs_inputs::Inputs;
 use cs_list_lines::list_with;
 use cs_serve::script_of;
@@ -95,7 +95,9 @@ where
     let status = match &ask.job {
         Job::List(options) => list_with(alloc, &inputs, *options, &mut out, &mut faults),
         Job::Tar(states) => tar_of(alloc, &inputs, states, &mut out, &mut faults),
-        Job::Picks(family) => picks_of(alloc, &inputs, *family, &mut out, &mut faults),
+        Job::Picks(family) => {
+            picks_of(alloc, &inputs, PickSets::Of(*family), &mut out, &mut faults)
+        }
         // these have no buffer: their writes are counted
         Job::Script => script_of(alloc, &inputs, &mut rt.reader(), &mut io::writer(rt), err),
         Job::Serve(serving) => {
