@@ -1,5 +1,5 @@
 -- The scene that inputs give.
-use Rattle.std.specs.Prelude.{◌≡◌, ℕ, List, Ok}
+use Rattle.std.specs.Prelude.{◌≡◌, ◌++◌, ℕ, List, Ok}
 use Rattle.cs_apm.specs.Orders.{order_of}
 use Rattle.cs_micro.specs.Micros.{micros_in}
 use Rattle.cs_plan.specs.Plans.{plan_of}
@@ -14,3 +14,11 @@ pub record IsScene (inputs : Inputs) (scene : Scene) : Type 0 where
   pub traced : trace_in inputs.trace.now ≡ Ok scene.trace
   pub picked : picks_in inputs.picks.now ≡ Ok picks
   pub planned : scene.plan ≡ plan_of (order_of (micros_in scene.trace)) inputs.holes picks
+
+-- the same with more picks, after those of the picks file
+pub record IsSceneWith (inputs : Inputs) (more : List (List ℕ)) (scene : Scene) : Type 0 where
+  pub picks : List (List ℕ)
+  pub traced : trace_in inputs.trace.now ≡ Ok scene.trace
+  pub picked : picks_in inputs.picks.now ≡ Ok picks
+  pub planned : scene.plan
+      ≡ plan_of (order_of (micros_in scene.trace)) inputs.holes (picks ++ more)

@@ -1,16 +1,9 @@
--- What was written of a text, and what a fault blames.
-use Rattle.std.specs.Prelude.{ℕ, List, ⊤, Option, Result, Ok, Err}
-use Rattle.std.specs.Io.KnownBytes.{Appends}
+-- What a fault blames.
+use Rattle.std.specs.Prelude.{⊤}
 use Rattle.cs_stream.specs.declared.stream.Counts.{Counts}
-use Rattle.cs_stream.specs.Streams.{AppendsFront, BlamesReads, BlamesWrites}
+use Rattle.cs_stream.specs.Streams.{BlamesReads, BlamesWrites}
 use Rattle.cs_inputs.specs.declared.fault.ProgramFault.{ProgramFault}
 use Rattle.cs_inputs.specs.declared.fault.ProgramFault.TheVariants.{Input, Output}
-
--- all of it, or after a fault some of it from the front
-abbrev pub Writes : {E : Type 0} → Result (Unit {0}) E → Option (List ℕ) → Option (List ℕ) → List ℕ
-    → Type 0
-Writes (Ok done) old new text = Appends old new text
-Writes (Err fault) old new text = AppendsFront old new text
 
 -- a failed input is due to the reads of a stream, and a failed output to its writes, by its counts
 abbrev pub Blames : Counts → Counts → ProgramFault → Type 0

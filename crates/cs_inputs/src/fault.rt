@@ -1,6 +1,4 @@
 //! Why the program ends with a fault.
-ghost use Rattle.cs_inputs.specs.Written.{IsOfNoStream};
-
 use crate::picks_fault::PicksFault;
 use cs_plan::SceneFault;
 use cs_trace::TraceFault;
@@ -43,28 +41,4 @@ pub enum ProgramFault {
     /// An allocation failed.
     #[error("out of memory")]
     Memory,
-}
-
-impl From<PicksFault> for ProgramFault {
-    ghost from_gives = { λ _ fault. IsOfNoStream fault };
-
-    /// Memory stays Memory; any other fault is one of the picks.
-    fn from(fault: PicksFault) -> ProgramFault {
-        match fault {
-            PicksFault::Memory => ProgramFault::Memory,
-            fault => ProgramFault::Picks(fault),
-        }
-    }
-}
-
-impl From<SceneFault> for ProgramFault {
-    ghost from_gives = { λ _ fault. IsOfNoStream fault };
-
-    /// Memory stays Memory; any other fault is one of the scene.
-    fn from(fault: SceneFault) -> ProgramFault {
-        match fault {
-            SceneFault::Memory => ProgramFault::Memory,
-            fault => ProgramFault::Scene(fault),
-        }
-    }
 }

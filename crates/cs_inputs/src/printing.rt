@@ -1,10 +1,10 @@
 //! How a text is written to a stream, or to a writer.
 ghost use Rattle.std.specs.Prelude.{◌≡◌, IfErr};
-ghost use Rattle.cs_stream.specs.Streams.{KeepsFaults, KeepsReads};
-ghost use Rattle.cs_inputs.specs.Written.{BlamesOutput, Writes};
+ghost use Rattle.cs_stream.specs.Streams.{KeepsFaults, KeepsReads, Writes};
+ghost use Rattle.cs_inputs.specs.Written.{BlamesOutput};
 
 use crate::fault::ProgramFault;
-use cs_stream::{Stream, TwoEnded, write_all};
+use cs_stream::{Stream, write_all};
 use std::io::Write;
 
 /// Writes a text to a stream. The error is Output if a write fails, takes no byte, or is the
@@ -23,9 +23,12 @@ pub fn print<S: Stream>(stream: &mut S, text: &[u8]) -> Result<(), ProgramFault>
     }
 }
 
-/// Writes a text to a writer, as `print` does.
-pub fn print_to<W: Write>(out: &mut W, text: &[u8]) -> Result<(), ProgramFault> {
-    // nothing is read
-    let mut stream = TwoEnded::new(b"".as_slice(), out);
-    print(&mut stream, text)
+/// Writes a text to a writer, as `print` does to a stream.
+pub fn print_to<W: Write>(out: &mut W, text: &[u8]) -> Result<(), ProgramFault>
+    ensures { Writes result (W.contents out.old) (W.contents out.new) text.now }
+{
+    match cs_tar::write_all(out, text) {
+        Ok(()) => Ok(()),
+        Err(_) => Err(ProgramFault::Output),
+    }
 }

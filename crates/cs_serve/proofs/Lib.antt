@@ -1,7 +1,1 @@
-pub mod Filled
-pub mod Lines
-pub mod Loading
-pub mod Numbers
-pub mod RunLines
-pub mod Serving
-pub mod Told
+pub mod Reporting

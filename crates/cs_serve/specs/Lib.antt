@@ -1,3 +1,2 @@
-pub mod Commands
-pub mod Printed
-pub mod Scripts
+pub mod Reloads
+pub mod Summary

@@ -2,7 +2,7 @@
 
 use cs_bench::{Bound, Total, Work, print_figure};
 use cs_inputs::{Inputs, scene_of, users_of};
-use cs_serve::world_of;
+use cs_script::world_of;
 use cs_world::World;
 use std::alloc::Global;
 use std::io;

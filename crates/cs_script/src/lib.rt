@@ -1,0 +1,15 @@
+//! The command `script`: the messages that a script's connections send, one a line, answered by a
+//! world in which all states of a trace are published.
+#![tactic(auto)]
+
+mod message_lines;
+mod printing;
+mod program;
+mod publishing;
+mod reading;
+mod running;
+mod script;
+
+pub use message_lines::print_exchange;
+pub use program::{script_of, script_over, script_with};
+pub use publishing::world_of;
