@@ -1,1 +1,4 @@
+mod Allowed
+mod Covering
 mod Filled
+mod Written
