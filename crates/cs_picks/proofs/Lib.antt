@@ -1,4 +1,4 @@
 mod Allowed
-mod Covering
+mod Holes
 mod Filled
 mod Written

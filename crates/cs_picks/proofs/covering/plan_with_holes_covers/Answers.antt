@@ -1,4 +1,4 @@
-use Rattle.cs_picks.proofs.Covering.{has_pairs, has_singles}
+use Rattle.cs_picks.proofs.Holes.{has_pairs, has_singles}
 use Rattle.cs_picks.proofs.covering.plan_with_holes_covers.Goals as goal
 
 pub returns-clause-pairs : goal.returns-clause-pairs
