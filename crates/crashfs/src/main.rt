@@ -4,7 +4,7 @@
 use clap::Error;
 use clap::error::ErrorKind;
 use cs_command_line::ask_of;
-use cs_families::{Family, picks_of};
+use cs_picks::{Family, PickSets, picks_of};
 use cs_files::{FAULT, InputFiles, Output, out_of_memory};
 use cs_inputs::Inputs;
 use cs_list::list_with;
@@ -40,10 +40,10 @@ fn workers_of(rt: &impl Threads, workers: u32) -> u32 {
 }
 
 /// The family that the options of `picks` ask for.
-fn family_of(options: PicksOptions) -> Family {
+fn sets_of(options: PicksOptions) -> PickSets {
     match options {
-        PicksOptions::Lost => Family::Lost,
-        PicksOptions::Files => Family::Files,
+        PicksOptions::Lost => PickSets::Of(Family::Lost),
+        PicksOptions::Files => PickSets::Of(Family::Files),
     }
 }
 
@@ -90,7 +90,7 @@ where
         Job::List(options) => list_with(alloc, &inputs, *options, &mut out, &mut faults),
         Job::Tar(states) => tar_of(alloc, &inputs, states, &mut out, &mut faults),
         Job::Picks(options) => {
-            picks_of(alloc, &inputs, family_of(*options), &mut out, &mut faults)
+            picks_of(alloc, &inputs, sets_of(*options), &mut out, &mut faults)
         }
         // its writes are counted, so they have no buffer
         Job::Script => {

@@ -1,8 +1,8 @@
 -- What is written so far, and what is left.
 use Rattle.std.proofs.Common.{◌≡◌, ℕ, zero, suc, ◌+◌, ◌-◌, ◌<◌, ◌≤◌, Bool, true, false, cond, List, [], ◌∷◌, ◌++◌, Option, codes, decimal}
-use Rattle.std.proofs.Common.{length, refl, sym, ap, ◌∙◌, subst, arith, append_assoc, length-append}
+use Rattle.std.proofs.Common.{get_or, take, length, refl, sym, ap, ◌∙◌, subst, arith, append_assoc, length-append}
 use Rattle.std.proofs.KnownBytes.{Appends-nil, Appends-trans}
-use Rattle.std.proofs.lemmas.List.{append-nil, flat_map_more}
+use Rattle.std.proofs.lemmas.List.{append-nil, flat_map_more, take_more}
 use Rattle.std.proofs.lemmas.List.Elements.{All-nil, All-push}
 use Rattle.std.specs.Io.KnownBytes.{Appends}
 use Rattle.std.specs.List.{All, Contains, filter, flat_map, range_with_len}
@@ -83,6 +83,15 @@ pub three_parts : (old a b new : Option (List ℕ)) (x y z all : List ℕ) → A
     → x ++ (y ++ z) ≡ all → Appends old new all
 three_parts old a b new x y z all p q r e =
     subst (λ v. Appends old new v) e (Appends-trans old a new x (y ++ z) p (Appends-trans a b new y z q r))
+
+-- the text of one more place
+pub others_more : (old now new : Option (List ℕ)) (places : List ℕ) (i : ℕ) → i < length places
+    → Appends old now (others_text (take i places)) → Appends now new (codes "," ++ decimal (get_or places i 0))
+    → Appends old new (others_text (take (i + 1) places))
+others_more old now new places i there before written =
+    subst (λ v. Appends old new v)
+    (flat_map_more (λ k. codes "," ++ decimal k) [] (take i places) (get_or places i 0) ∙ ap others_text (sym (take_more places i 0 there)))
+    (Appends-trans old now new (others_text (take i places)) (codes "," ++ decimal (get_or places i 0)) before written)
 
 -- ---- sets
 

@@ -1,10 +1,11 @@
 //! Sets drawn at random, each set with the same chance.
-ghost use Rattle.std.specs.Prelude.{◌≡◌, ◌<◌, length, OnOk, IfOk};
+ghost use Rattle.std.specs.Prelude.{◌≡◌, ◌<◌, length, IfErr, IfOk, OnOk};
 ghost use Rattle.std.specs.List.{Contains};
 ghost use Rattle.cs_sets.specs.Every.{every};
 ghost use Rattle.cs_sets.specs.Orders.{needs_in};
 ghost use Rattle.cs_sets.specs.Places.{places_of};
 ghost use Rattle.cs_every.specs.Drawn.{WritesSample};
+ghost use Rattle.cs_every.specs.Faults.{IsUndrawn};
 
 use crate::fault::EveryFault;
 use crate::printed::write_set;
@@ -25,7 +26,8 @@ fn draw_set(sets: &mut Numbers<'_>, generator: &mut Pcg64) -> Result<Row, AllocE
 }
 
 /// Writes `count` sets, drawn one after the other, each from all sets that the order allows. The
-/// same seed gives the same sets. After a fault some of the lines may be written.
+/// same seed gives the same sets. TooMany if they can't be counted, as `Order::count` has it, or if
+/// there are more than 2^64 - 1. After another fault some of the lines may be written.
 pub fn write_sample<W: Write>(
     alloc: Global,
     order: &Order,
@@ -33,7 +35,8 @@ pub fn write_sample<W: Write>(
     count: u32,
     out: &mut W,
 ) -> Result<(), EveryFault>
-    ensures { OnOk result (WritesSample (every (needs_in order.now) (length order.now)) count
+    ensures fault { IfErr result (IsUndrawn (needs_in order.now) (length order.now)) }
+    ensures sample { OnOk result (WritesSample (every (needs_in order.now) (length order.now)) count
         (W.contents out.old) (W.contents out.new)) }
 {
     let mut sets = Numbers::of(alloc, order)?;

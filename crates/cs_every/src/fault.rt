@@ -1,4 +1,8 @@
 //! The faults of printing, counting and drawing sets.
+ghost use Rattle.std.specs.Prelude.{◌≡◌};
+ghost use Rattle.cs_every.specs.Counted.{of_count};
+ghost use Rattle.cs_every.specs.declared.fault.EveryFault.TheVariants.{Memory};
+
 use cs_sets::CountFault;
 use std::alloc::AllocError;
 use thiserror::Error;
@@ -21,6 +25,8 @@ pub enum EveryFault {
 }
 
 impl From<AllocError> for EveryFault {
+    ghost from_gives = { λ _ fault. fault ≡ Memory };
+
     /// An allocation that fails is Memory.
     fn from(_refused: AllocError) -> EveryFault {
         EveryFault::Memory
@@ -28,6 +34,8 @@ impl From<AllocError> for EveryFault {
 }
 
 impl From<CountFault> for EveryFault {
+    ghost from_gives = { λ given fault. fault ≡ of_count given };
+
     /// The fault of the same name.
     fn from(fault: CountFault) -> EveryFault {
         match fault {

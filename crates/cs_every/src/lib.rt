@@ -1,5 +1,5 @@
-//! Every crash state of a trace: all sets of its micro-operations that a crash may leave, printed
-//! as a picks file, counted, or drawn at random.
+//! Sets of places as lines of a picks file; all sets that an order of places allows, printed,
+//! counted, or drawn at random.
 #![tactic(auto)]
 
 mod counted;
@@ -10,4 +10,4 @@ mod printed;
 pub use counted::{has_more_than, write_count};
 pub use drawn::write_sample;
 pub use fault::EveryFault;
-pub use printed::write_every;
+pub use printed::{write_every, write_pick, write_set};

@@ -237,7 +237,7 @@ fn fields_of(alloc: Global, op: &MicroOp, path: Option<&Path>) -> Result<String,
     }
 }
 
-/// Places that are shown as a JSON array, as `write_pick` of cs_families writes them.
+/// Places that are shown as a JSON array, as `write_pick` of cs_every writes them.
 #[derive(Clone, Copy)]
 struct PlacesArray<'a> {
     places: &'a Places,

@@ -4,15 +4,15 @@ ghost use Rattle.std.specs.Prelude.{◌≡◌, ◌<◌, IfErr, IfOk, length, str
 ghost use Rattle.std.specs.Option.{option_copied};
 ghost use Rattle.cs_apm.specs.Orders.{needs_in};
 ghost use Rattle.cs_apm.specs.Rules.{op_at};
-ghost use Rattle.cs_families.specs.Families.{least_with};
 ghost use Rattle.cs_inputs.specs.Written.{IsOfNoStream};
+ghost use Rattle.cs_picks.specs.Families.{least_with};
 ghost use Rattle.cs_plan.specs.Scenes.{micros_of, order_in};
 ghost use Rattle.cs_list.specs.Json as spec;
 
 use crate::json::{op_line, state_line};
 use crate::lines::number_at;
 use crate::paths::FilePaths;
-use cs_families::least_with;
+use cs_picks::least_with;
 use cs_inputs::ProgramFault;
 use cs_names::Path;
 use cs_plan::{Places, Scene};

@@ -51,7 +51,7 @@ impl<'a> FilePaths<'a> {
     }
 
     /// The oldest path of the file whose size, block or rights the micro-operation changes. None if
-    /// it changes no file, or one that has no path any more. `file_changed` of cs_families and
+    /// it changes no file, or one that has no path any more. `file_changed` of cs_picks and
     /// `changed_file` of cs_same_states have the same cases: change all three.
     pub fn path_of_changed_file(&self, op: &MicroOp) -> Option<&'a Path> {
         let file = match op {

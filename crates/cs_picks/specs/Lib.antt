@@ -1,1 +1,5 @@
+pub mod Changes
+pub mod Losses
+pub mod Left
+pub mod Families
 pub mod Sets

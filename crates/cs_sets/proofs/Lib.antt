@@ -10,3 +10,4 @@ mod Entries
 mod Ordering
 mod Carrying
 mod Admitting
+mod Crowding

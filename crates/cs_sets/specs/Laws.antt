@@ -10,8 +10,6 @@ pub mod Capped
 pub mod Futures
 pub mod Firsts
 pub mod Classes
-pub mod Seen
-pub mod Leading
 pub mod Reaching
 pub mod Chosen
 pub mod Holes

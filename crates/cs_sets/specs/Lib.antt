@@ -3,6 +3,7 @@ pub mod Chains
 pub mod Orders
 pub mod Every
 pub mod Bits
+pub mod Sound
 pub mod Following
 pub mod Places
 pub mod Nexts
@@ -12,7 +13,6 @@ pub mod Rows
 pub mod Reach
 pub mod Drawing
 pub mod Counting
+pub mod Crowding
 pub mod Different
-pub mod Seen
-pub mod Classing
 pub mod Laws

@@ -1,7 +1,14 @@
 //! How many allowed sets there are, without going through them: by the futures of the sets of the
 //! places below each place.
-ghost use Rattle.std.specs.Prelude.{◌≡◌, ◌+◌, ◌-◌, ◌<◌, ◌≤◌, ℕ, Bool, length, min, IfOk, OnOk};
-ghost use Rattle.cs_sets.specs.Counting.{Capped, weigh, weight};
+ghost use Rattle.std.specs.Prelude.{◌≡◌, ◌+◌, ◌-◌, ◌<◌, ◌≤◌, ℕ, Bool, [], false, length, min};
+ghost use Rattle.std.specs.Prelude.{IfErr, IfOk, OnOk};
+ghost use Rattle.std.specs.List.Sorted.{IsSortedByKey};
+ghost use Rattle.std.specs.Ordering.{is_lt};
+ghost use Rattle.cs_sets.specs.declared.fault.CountFault.TheVariants.{TooMany};
+ghost use Rattle.cs_sets.specs.declared.row.Row.{Row};
+ghost use Rattle.cs_sets.specs.Counting.{Capped, IsCrowded, weigh, weight};
+ghost use Rattle.cs_sets.specs.Crowding.{AreReached, IsReached, IsRising, RisesTo, left_of, lefts};
+ghost use Rattle.cs_sets.specs.Drawing.{row_cmp};
 ghost use Rattle.cs_sets.specs.Every.{every};
 ghost use Rattle.cs_sets.specs.Rows.{needed_in};
 
@@ -31,15 +38,19 @@ fn push_halves(
 ) -> Result<(), AllocError>
     requires few { length needed.now ≤ MICRO_OPERATIONS }
     requires inside { place < length needed.now }
-    ensures { OnOk result (let n = length needed.now in let needs = needed_in needed.now in
+    ensures weight { OnOk result (let n = length needed.now in let needs = needed_in needed.now in
         weigh needs (n - (place + 1)) (place + 1) next.new.items
         ≡ weigh needs (n - (place + 1)) (place + 1) next.old.items
         + weight needs (n - place) place future.now) }
+    ensures reached { OnOk result (let n = length needed.now in let needs = needed_in needed.now in
+        AreReached needs n (place + 1) next.old.items → IsReached needs n place future.now.left
+        → AreReached needs n (place + 1) next.new.items) }
 {
     let sets = future.sets;
     let mut without = future.left;
     without.remove(&needed[place]);
     without.clear(place);
+    without.know_words();
     next.push(Future {
         left: without,
         sets,
@@ -49,6 +60,7 @@ fn push_halves(
     }
     let mut kept = future.left;
     kept.clear(place);
+    kept.know_words();
     next.push(Future { left: kept, sets })?;
     Ok(())
 }
@@ -62,9 +74,13 @@ fn split(
 ) -> Result<Vec<Future>, AllocError>
     requires few { length needed.now ≤ MICRO_OPERATIONS }
     requires inside { place < length needed.now }
-    ensures { IfOk result (λ next. let n = length needed.now in let needs = needed_in needed.now in
+    ensures weight { IfOk result
+        (λ next. let n = length needed.now in let needs = needed_in needed.now in
         weigh needs (n - (place + 1)) (place + 1) next.items
         ≡ weigh needs (n - place) place level.now) }
+    ensures reached { IfOk result
+        (λ next. let n = length needed.now in let needs = needed_in needed.now in
+        AreReached needs n place level.now → AreReached needs n (place + 1) next.items) }
 {
     let mut next = Vec::new(alloc);
     for future in level {
@@ -75,9 +91,17 @@ fn split(
 
 /// Adds a future to the last one, if that is equal, and else after it.
 fn add(futures: &mut Vec<Future>, future: &Future, most: u128) -> Result<(), AllocError>
-    ensures { OnOk result ((needs : ℕ → ℕ → Bool) (m k : ℕ)
+    ensures weight { OnOk result ((needs : ℕ → ℕ → Bool) (m k : ℕ)
         → Capped most (weigh needs m k futures.new.items)
         (weigh needs m k futures.old.items + weight needs m k future.now)) }
+    ensures reached { OnOk result ((needs : ℕ → ℕ → Bool) (n k : ℕ)
+        → AreReached needs n k futures.old.items → IsReached needs n k future.now.left
+        → AreReached needs n k futures.new.items) }
+    ensures first { OnOk result (futures.old.items ≡ []
+        → RisesTo (lefts futures.new.items) future.now.left) }
+    ensures rises { OnOk result ((last : Row) → RisesTo (lefts futures.old.items) last
+        → is_lt (row_cmp future.now.left last) ≡ false
+        → RisesTo (lefts futures.new.items) future.now.left) }
 {
     let len = futures.len();
     if len > 0 && futures[len - 1].left == future.left {
@@ -95,8 +119,12 @@ fn add(futures: &mut Vec<Future>, future: &Future, most: u128) -> Result<(), All
 
 /// The futures with equal neighbours made one. Counts above `most` become `most`.
 fn merge(alloc: Global, futures: &[Future], most: u128) -> Result<Vec<Future>, AllocError>
-    ensures { IfOk result (λ merged. (needs : ℕ → ℕ → Bool) (m k : ℕ)
+    ensures weight { IfOk result (λ merged. (needs : ℕ → ℕ → Bool) (m k : ℕ)
         → Capped most (weigh needs m k merged.items) (weigh needs m k futures.now)) }
+    ensures reached { IfOk result (λ merged. (needs : ℕ → ℕ → Bool) (n k : ℕ)
+        → AreReached needs n k futures.now → AreReached needs n k merged.items) }
+    ensures rises { IfOk result (λ merged. IsSortedByKey left_of row_cmp futures.now
+        → IsRising (lefts merged.items)) }
 {
     let mut merged = Vec::new(alloc);
     for future in futures {
@@ -119,11 +147,15 @@ fn total(futures: &[Future], most: u128) -> u128
 /// The only future of the empty set of no places: all places.
 fn first_level(alloc: Global, needed: &[Row], most: u128) -> Result<Vec<Future>, AllocError>
     requires { length needed.now ≤ MICRO_OPERATIONS }
-    ensures { IfOk result (λ level. let n = length needed.now in let needs = needed_in needed.now in
+    ensures weight { IfOk result
+        (λ level. let n = length needed.now in let needs = needed_in needed.now in
         Capped most (weigh needs (n - 0) 0 level.items) (length (every needs n))) }
+    ensures reached { IfOk result
+        (λ level. AreReached (needed_in needed.now) (length needed.now) 0 level.items) }
 {
     let mut level = Vec::new(alloc);
     let left = Row::below(needed.len());
+    left.know_words();
     level.push(Future { left, sets: 1 })?;
     Ok(level)
 }
@@ -139,9 +171,14 @@ fn next_level(
 ) -> Result<Vec<Future>, AllocError>
     requires few { length needed.now ≤ MICRO_OPERATIONS }
     requires inside { place < length needed.now }
-    ensures { IfOk result (λ next. let n = length needed.now in let needs = needed_in needed.now in
+    ensures weight { IfOk result
+        (λ next. let n = length needed.now in let needs = needed_in needed.now in
         Capped most (weigh needs (n - (place + 1)) (place + 1) next.items)
         (weigh needs (n - place) place level.now)) }
+    ensures reached { IfOk result
+        (λ next. let n = length needed.now in let needs = needed_in needed.now in
+        AreReached needs n place level.now → AreReached needs n (place + 1) next.items) }
+    ensures rises { IfOk result (λ next. IsRising (lefts next.items)) }
 {
     let mut next = split(alloc, needed, place, level)?;
     next.sort_by_key(|future| future.left)?;
@@ -153,8 +190,10 @@ fn next_level(
 /// than FUTURES different futures.
 pub fn count_sets(alloc: Global, needed: &[Row], most: u128) -> Result<u128, CountFault>
     requires { length needed.now ≤ MICRO_OPERATIONS }
-    ensures { IfOk result
+    ensures count { IfOk result
         (λ count. count ≡ min (length (every (needed_in needed.now) (length needed.now))) most) }
+    ensures fault { IfErr result (λ fault. fault ≡ TooMany
+        → IsCrowded (needed_in needed.now) (length needed.now) FUTURES) }
 {
     let mut level = first_level(alloc, needed, most)?;
     for place in 0..needed.len() {

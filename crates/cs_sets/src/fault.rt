@@ -1,4 +1,7 @@
 //! Why allowed sets can't be counted.
+ghost use Rattle.std.specs.Prelude.{◌≡◌};
+ghost use Rattle.cs_sets.specs.declared.fault.CountFault.TheVariants.{Memory};
+
 use std::alloc::AllocError;
 
 /// Why allowed sets can't be counted or drawn.
@@ -11,6 +14,8 @@ pub enum CountFault {
 }
 
 impl From<AllocError> for CountFault {
+    ghost from_gives = { λ _ fault. fault ≡ Memory };
+
     /// An allocation that fails is Memory.
     fn from(_refused: AllocError) -> CountFault {
         CountFault::Memory

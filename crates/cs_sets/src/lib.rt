@@ -1,10 +1,9 @@
-//! Sets of places that an order allows: all of them in order, how many there are, one drawn at
-//! random, and those that leave something different. The places are numbers, the order says which
+//! Sets of places that an order allows: all of them in order, how many there are, and the one with
+//! a number. The places are numbers, the order says which
 //! places each place needs, and a set is allowed if it has all that its members need. Nothing here
 //! knows what is at the places.
 #![tactic(auto)]
 
-pub mod classes;
 mod count;
 mod draw;
 mod fault;
@@ -17,6 +16,7 @@ mod reach;
 pub mod row;
 pub mod sets;
 
+pub use count::FUTURES;
 pub use fault::CountFault;
 pub use numbers::Numbers;
 pub use order::Order;

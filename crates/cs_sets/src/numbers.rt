@@ -1,9 +1,13 @@
 //! All allowed sets of an order by their numbers.
-ghost use Rattle.std.specs.Prelude.{◌≡◌, ◌<◌, ◌≤◌, ◌^◌, [], length, slice_index_or, IfOk};
+ghost use Rattle.std.specs.Prelude.{◌≡◌, ◌<◌, ◌≤◌, ◌^◌, ◌⊎◌, [], length};
+ghost use Rattle.std.specs.Prelude.{slice_index_or, IfErr, IfOk};
+ghost use Rattle.cs_sets.specs.declared.fault.CountFault.TheVariants.{TooMany};
+ghost use Rattle.cs_sets.specs.Counting.{HasManyFutures};
 ghost use Rattle.cs_sets.specs.Every.{every};
 ghost use Rattle.cs_sets.specs.Orders.{needs_in};
 ghost use Rattle.cs_sets.specs.Places.{places_of};
 
+use crate::count::FUTURES;
 use crate::draw::set_numbered;
 use crate::fault::CountFault;
 use crate::order::Order;
@@ -46,7 +50,11 @@ impl<'a> Numbers<'a> {
     /// The allowed sets of the order. TooMany if they can't be counted, as `Order::count` has it,
     /// or if there are more than 2^64 - 1.
     pub fn of(alloc: Global, order: &'a Order) -> Result<Numbers<'a>, CountFault>
-        ensures { IfOk result (λ sets. sets ≡ every (needs_in order.now) (length order.now)) }
+        ensures sets { IfOk result
+            (λ sets. sets ≡ every (needs_in order.now) (length order.now)) }
+        ensures fault { IfErr result (λ fault. fault ≡ TooMany
+            → HasManyFutures (needs_in order.now) (length order.now) FUTURES
+            ⊎ (2 ^ 64 ≤ length (every (needs_in order.now) (length order.now)))) }
     {
         let count = order.count(alloc, MOST)?;
         if count >= MOST {

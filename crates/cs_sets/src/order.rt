@@ -1,8 +1,10 @@
 //! An order of places, and the sets of them that it allows.
 ghost use Rattle.std.specs.Prelude.{◌≡◌, ◌↔◌, ◌∷◌, [], ℕ, ◌<◌, ◌≤◌, length, IfOk, IsTrue, true, false};
-ghost use Rattle.std.specs.Prelude.{if◌then◌else◌, min};
+ghost use Rattle.std.specs.Prelude.{if◌then◌else◌, min, IfErr};
+ghost use Rattle.cs_sets.specs.declared.fault.CountFault.TheVariants.{TooMany};
 ghost use Rattle.cs_sets.specs.Bits.{has_place};
 ghost use Rattle.cs_sets.specs.Chains.{IsBackward, by_chain};
+ghost use Rattle.cs_sets.specs.Counting.{HasManyFutures};
 ghost use Rattle.cs_sets.specs.Every.{every};
 ghost use Rattle.cs_sets.specs.Following.{every_from};
 ghost use Rattle.cs_sets.specs.Orders.{needs_in, table};
@@ -11,7 +13,7 @@ ghost use Rattle.cs_sets.specs.Reach.{IsTransitive};
 ghost use Rattle.cs_sets.specs.Rows.{bit_in, needed_in};
 ghost use Rattle.cs_sets.specs.Sets.{IsAllowed};
 
-use crate::count::count_sets;
+use crate::count::{FUTURES, count_sets};
 use crate::fault::CountFault;
 use crate::needed::needed_of;
 use crate::next::next_set;
@@ -144,16 +146,19 @@ impl Order {
     /// sets of the places below it have more than 1048576 different futures: the sets of places
     /// from there on that may still be added.
     pub fn count(&self, alloc: Global, most: u128) -> Result<u128, CountFault>
-        ensures { IfOk result
+        ensures count { IfOk result
             (λ count. count ≡ min (length (every (needs_in self.now) (length self.now))) most) }
+        ensures fault { IfErr result (λ fault. fault ≡ TooMany
+            → HasManyFutures (needs_in self.now) (length self.now) FUTURES) }
     {
-        count_sets(alloc, &self.needed, most)
+        count_sets(alloc, self.needed(), most)
     }
 
     /// For each place, a row of the places that need it by any chain.
     pub(crate) fn needed(&self) -> &[Row]
         ensures long { length result.now ≡ length self.now }
         ensures few { length result.now ≤ MICRO_OPERATIONS }
+        ensures backward { IsBackward (needs_in self.now) }
         ensures chains { needed_in result.now ≡ by_chain (needs_in self.now) }
         ensures passed_on { IsTransitive (by_chain (needs_in self.now)) }
         ensures sets { every (by_chain (needs_in self.now)) (length self.now)

@@ -2,6 +2,7 @@
 ghost use Rattle.std.specs.Prelude.{◌≡◌, ◌==◌, ◌||◌, ◌&&◌, ◌↔◌, not, ℕ, ◌<◌, ◌≤◌, false, true, nat_lt};
 ghost use Rattle.std.specs.Prelude.{IsTrue, MatchOption};
 ghost use Rattle.cs_sets.specs.Bits.{has_place};
+ghost use Rattle.cs_sets.specs.Sound.{IsSound};
 ghost use Rattle.cs_sets.specs.Finding.{HasNone, IsNext};
 
 use cs_names::limits::MICRO_OPERATIONS;
@@ -35,6 +36,15 @@ impl Row {
             row.set(place);
         }
         row
+    }
+
+    /// Only says what is known of the words: there are 16 of 64 bits.
+    pub(crate) fn know_words(&self)
+        ensures { IsSound self.now }
+    {
+        for w in 0..WORDS {
+            let _word = self.words[w];
+        }
     }
 
     /// Whether the row has the place.

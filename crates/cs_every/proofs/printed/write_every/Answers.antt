@@ -10,10 +10,10 @@ pub loop-set-preserved : goal.loop-set-preserved
 loop-set-preserved g c =
     part_more (g.W.Write.contents c.args.out.now) (g.W.Write.contents c.loop-set.out) (g.W.Write.contents c.write_set.new.out)
     (picks_text c.loop-set.sets) (pick_line (places_of c.in-Some.set)) (picks_text c.next.new.self)
-    (picks_text (every (needs_in c.args.order.now) (length c.args.order.now))) c.loop-set.invariant c.in_ok-write_set.ensures
+    (picks_text (every (needs_in c.args.order.now) (length c.args.order.now))) c.loop-set.invariant c.in_ok-write_set.ensures.text
     (ap picks_text c.in-Some.ensures.steps)
 
-pub returns : goal.returns
-returns g c =
+pub returns-clause-text : goal.returns-clause-text
+returns-clause-text g c =
     part_whole (g.W.Write.contents c.args.out.now) (g.W.Write.contents c.loop-set.out) (picks_text c.loop-set.sets)
     (picks_text (every (needs_in c.args.order.now) (length c.args.order.now))) c.loop-set.invariant (ap picks_text c.in_default.ensures.steps.0)

@@ -15,12 +15,12 @@ loop-place-preserved g c =
       low = omega (arith, to);
       part = part_more (g.W.Write.contents c.args.out.now) (g.W.Write.contents c.loop-place.out) (g.W.Write.contents c.write_other.new.out)
           (others_text (places_from has c.loop-place.at)) (codes "," ++ decimal place) (others_text (places_from has (place + 1)))
-          (others_text (places_from has c.args.first)) c.loop-place.invariant.part c.in_ok-write_other.ensures
+          (others_text (places_from has c.args.first)) c.loop-place.invariant.part c.in_ok-write_other.ensures.text
           (ap others_text (from_next has c.loop-place.at place next));
     }
 
-pub returns : goal.returns
-returns g c =
+pub returns-clause-text : goal.returns-clause-text
+returns-clause-text g c =
     let has = has_place c.args.set.now in
     part_whole (g.W.Write.contents c.args.out.now) (g.W.Write.contents c.loop-place.out) (others_text (places_from has c.loop-place.at))
     (others_text (places_from has c.args.first)) c.loop-place.invariant.part

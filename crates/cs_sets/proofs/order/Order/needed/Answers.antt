@@ -21,6 +21,7 @@ returns c =
     record {
       long = same ∙ long;
       few = omega (arith, same, few, one, two);
+      backward = back;
       chains = ap needed_in c.deref.ensures.value
           ∙ chains_are inside.rows.items inside.reach.items inside.needed.items c.self.invariant c.args.self.now c.self.view_is;
       passed_on = reach_transitive needs (by_chain needs) is;
