@@ -1,19 +1,14 @@
 //! The families of sets that options of `list` add to its plan, each set that the plan lacks once.
 ghost use Rattle.std.specs.Prelude.{◌≡◌, ◌<◌, ◌≤◌, IfErr, IfOk, length};
 ghost use Rattle.std.specs.List.{All};
-<<<<<<< HEAD
-=======
-ghost use Rattle.cs_inputs.specs.Picks.{picks_in};
-ghost use Rattle.cs_inputs.specs.Scenes.{IsSceneWith};
->>>>>>> ddbaf3e097216def54323bd32f8dcee6b5f69826
 ghost use Rattle.cs_inputs.specs.Written.{IsOfNoStream};
 ghost use Rattle.cs_plan.specs.Plans.{IsWithin};
 ghost use Rattle.cs_list.specs.Listings.{IsListed};
 
 use cs_apm::Order;
-use cs_picks::{Family, write_family};
 use cs_inputs::{Inputs, ProgramFault, read_picks, scene_of, scene_with};
 use cs_options::ListOptions;
+use cs_picks::{Family, write_family};
 use cs_plan::members::is_kept;
 use cs_plan::{Places, Recipe, Scene};
 use std::alloc::Global;

@@ -12,9 +12,9 @@ ghost use Rattle.cs_list.specs.Json as spec;
 use crate::json::{op_line, state_line};
 use crate::lines::number_at;
 use crate::paths::FilePaths;
-use cs_picks::least_with;
 use cs_inputs::ProgramFault;
 use cs_names::Path;
+use cs_picks::least_with;
 use cs_plan::{Places, Scene};
 use std::alloc::{AllocError, Global};
 
