@@ -14,7 +14,8 @@ _crashfs() {
                 case ${COMP_WORDS[1]} in
                     list)
                         words='
-                            -h --help --lines --same --json --holes --picks --trace' ;;
+                            -h --help --lines --same --json --lost --files --holes --picks
+                            --trace' ;;
                     tar)
                         words='
                             -h --help --changes --state --states --holes --picks --trace' ;;

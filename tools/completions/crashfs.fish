@@ -5,6 +5,8 @@ complete -c crashfs -n __fish_use_subcommand -a list -d 'Prints the micro-operat
 complete -c crashfs -n '__fish_seen_subcommand_from list' -l lines -d 'Adds each operation’s line of the trace, and the path of a file that changes'
 complete -c crashfs -n '__fish_seen_subcommand_from list' -l same -d 'Adds to each state the first one that has an equal tree'
 complete -c crashfs -n '__fish_seen_subcommand_from list' -l json -d 'Prints one JSON object a line, with lines, files, needs and equal states'
+complete -c crashfs -n '__fish_seen_subcommand_from list' -l lost -d 'Adds the states of the sets that picks --lost prints, each once'
+complete -c crashfs -n '__fish_seen_subcommand_from list' -l files -d 'Adds the states of the sets that picks --files prints, each once'
 complete -c crashfs -n '__fish_seen_subcommand_from list' -l holes -d 'Adds the states of prefixes with a hole'
 complete -c crashfs -n '__fish_seen_subcommand_from list' -l picks -r -d 'Adds the states of these sets, one JSON array of places a line'
 complete -c crashfs -n '__fish_seen_subcommand_from list' -l trace -r -d 'The same as TRACE'

@@ -21,6 +21,8 @@ else
                 '--lines[Adds each operation’s line of the trace, and the path of a file that changes]' \
                 '--same[Adds to each state the first one that has an equal tree]' \
                 '--json[Prints one JSON object a line, with lines, files, needs and equal states]' \
+                '--lost[Adds the states of the sets that picks --lost prints, each once]' \
+                '--files[Adds the states of the sets that picks --files prints, each once]' \
                 '--holes[Adds the states of prefixes with a hole]' \
                 '--picks[Adds the states of these sets, one JSON array of places a line]:FILE:_files' \
                 '--trace[The same as TRACE]:FILE:_files' \

@@ -3,7 +3,6 @@ use Rattle.std.proofs.Common.{◌≡◌, ℕ, zero, suc, List, [], ◌++◌, Opt
 use Rattle.std.proofs.KnownBytes.{Appends-kept}
 use Rattle.std.proofs.lemmas.List.{append-nil}
 use Rattle.std.specs.Prelude.{Result, Ok, Err}
-
 use Rattle.std.specs.Io.KnownBytes.{Appends, Keeps}
 use Rattle.cs_stream.specs.Streams.{AppendsFront, Writes}
 use Rattle.cs_inputs.specs.Ended.{WritesSuch, reported}

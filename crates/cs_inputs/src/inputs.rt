@@ -94,18 +94,20 @@ pub fn scene_of(alloc: Global, inputs: &Inputs) -> Result<Scene, ProgramFault>
 
 /// The scene of the inputs with these picks after those of the picks file. An error is as that of
 /// `scene_of`.
-pub fn scene_with(alloc: Global, inputs: &Inputs, more: Vec<Places>) -> Result<Scene, ProgramFault>
+pub fn scene_with(
+    alloc: Global,
+    inputs: &Inputs,
+    mut more: Vec<Places>,
+) -> Result<Scene, ProgramFault>
     ensures scene { IfOk result (IsSceneWith inputs.now more.items) }
     ensures fault { IfErr result IsOfNoStream }
 {
     let trace = trace_of(alloc, inputs.trace)?;
     let mut picks = picks_of(alloc, inputs.picks)?;
-    for pick in more {
-        if picks.push(pick).is_err() {
-            return Err(ProgramFault::Memory);
-        }
+    match picks.append(&mut more) {
+        Ok(()) => scene_of_parts(alloc, trace, inputs.holes, picks),
+        Err(_) => Err(ProgramFault::Memory),
     }
-    scene_of_parts(alloc, trace, inputs.holes, picks)
 }
 
 /// The users of a users file. An error is the file's first fault, or Memory.

@@ -1,5 +1,5 @@
 -- What the list of inputs is, by its options.
-use Rattle.std.specs.Prelude.{◌≡◌, ◌||◌, ℕ, Bool, false, List}
+use Rattle.std.specs.Prelude.{◌≡◌, ◌||◌, ℕ, Bool, true, false, List}
 use Rattle.cs_inputs.specs.Scenes.{IsScene, IsSceneWith}
 use Rattle.cs_inputs.specs.declared.inputs.Inputs.{Inputs}
 use Rattle.cs_options.specs.declared.list.ListOptions.{ListOptions}
@@ -11,15 +11,18 @@ use Rattle.cs_plan.specs.Scenes.{Scene}
 abbrev pub asks_family : ListOptions → Bool
 asks_family options = options.lost || options.files
 
--- the inputs' scene; if a family is asked for, with more picks
-pub record IsListed (inputs : Inputs) (options : ListOptions) (scene : Scene) : Type 0 where
-  pub plain : asks_family options ≡ false → IsScene inputs scene
-  pub more : List (List ℕ)
-  pub with_more : IsSceneWith inputs more scene
+-- with more picks, if a family is asked for
+abbrev pub IsSceneIf : Bool → Inputs → Scene → Type 0
+IsSceneIf false inputs scene = IsScene inputs scene
+IsSceneIf true inputs scene = (more : List (List ℕ)) × IsSceneWith inputs more scene
+
+-- the scene that is listed
+abbrev pub IsListed : Inputs → ListOptions → Scene → Type 0
+IsListed inputs options scene = IsSceneIf (asks_family options) inputs scene
 
 -- ---- the text
 
--- what is printed of each line is as without options
+-- an option asks for more in a line, or for JSON
 abbrev pub is_marked : ListOptions → Bool
 is_marked options = options.lines || (options.same || options.json)
 

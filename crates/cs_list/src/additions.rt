@@ -1,17 +1,14 @@
 //! The families of sets that options of `list` add to its plan, each set that the plan lacks once.
-ghost use Rattle.std.specs.Prelude.{◌≡◌, ◌<◌, ◌≤◌, ◌++◌, IfErr, IfOk, Ok, length};
+ghost use Rattle.std.specs.Prelude.{◌≡◌, ◌<◌, ◌≤◌, IfErr, IfOk, length};
 ghost use Rattle.std.specs.List.{All};
-ghost use Rattle.cs_every.specs.Texts.{picks_text};
-ghost use Rattle.cs_inputs.specs.Picks.{picks_in};
-ghost use Rattle.cs_inputs.specs.Scenes.{IsSceneWith};
 ghost use Rattle.cs_inputs.specs.Written.{IsOfNoStream};
 ghost use Rattle.cs_plan.specs.Plans.{IsWithin};
-ghost use Rattle.cs_list.specs.Listings.{IsListed, sets_asked};
+ghost use Rattle.cs_list.specs.Listings.{IsListed};
 
 use cs_apm::Order;
-use cs_picks::{Family, write_family};
 use cs_inputs::{Inputs, ProgramFault, read_picks, scene_of, scene_with};
 use cs_options::ListOptions;
+use cs_picks::{Family, write_family};
 use cs_plan::members::is_kept;
 use cs_plan::{Places, Recipe, Scene};
 use std::alloc::Global;
@@ -22,7 +19,9 @@ fn push_family(
     scene: &Scene,
     family: Family,
     text: &mut Vec<u8>,
-) -> Result<(), ProgramFault> {
+) -> Result<(), ProgramFault>
+    ensures { IfErr result IsOfNoStream }
+{
     match write_family(alloc, scene, family, text) {
         Ok(()) => Ok(()),
         // the text grows in memory only
@@ -36,7 +35,9 @@ fn text_of_families(
     alloc: Global,
     scene: &Scene,
     options: ListOptions,
-) -> Result<Vec<u8>, ProgramFault> {
+) -> Result<Vec<u8>, ProgramFault>
+    ensures { IfErr result IsOfNoStream }
+{
     let mut text = Vec::new(alloc);
     if options.lost {
         push_family(alloc, scene, Family::Lost, &mut text)?;
@@ -52,7 +53,9 @@ fn sets_of_families(
     alloc: Global,
     scene: &Scene,
     options: ListOptions,
-) -> Result<Vec<Places>, ProgramFault> {
+) -> Result<Vec<Places>, ProgramFault>
+    ensures { IfErr result IsOfNoStream }
+{
     let text = text_of_families(alloc, scene, options)?;
     match read_picks(alloc, &text) {
         Ok(sets) => Ok(sets),
@@ -119,7 +122,9 @@ fn missing_sets(
     alloc: Global,
     scene: &Scene,
     sets: Vec<Places>,
-) -> Result<Vec<Places>, ProgramFault> {
+) -> Result<Vec<Places>, ProgramFault>
+    ensures { IfErr result IsOfNoStream }
+{
     let recipes = scene.plan().recipes();
     let mut missing: Vec<Places> = Vec::new(alloc);
     for set in sets {
@@ -141,7 +146,10 @@ pub fn scene_with_families(
     alloc: Global,
     inputs: &Inputs,
     options: ListOptions,
-) -> Result<Scene, ProgramFault> {
+) -> Result<Scene, ProgramFault>
+    ensures listed { IfOk result (IsListed inputs.now options) }
+    ensures fault { IfErr result IsOfNoStream }
+{
     let scene = scene_of(alloc, inputs)?;
     if !options.lost && !options.files {
         return Ok(scene);

@@ -1,9 +1,10 @@
 //! The list as JSON: a line for each micro-operation, and then one for each state. How one line is
 //! spelled is in `json`; `listing` chooses between this form and the plain one.
-ghost use Rattle.std.specs.Prelude.{◌≡◌, ◌<◌, IfOk, length, string_bytes};
+ghost use Rattle.std.specs.Prelude.{◌≡◌, ◌<◌, IfErr, IfOk, length, string_bytes};
 ghost use Rattle.std.specs.Option.{option_copied};
 ghost use Rattle.cs_apm.specs.Orders.{needs_in};
 ghost use Rattle.cs_apm.specs.Rules.{op_at};
+ghost use Rattle.cs_inputs.specs.Written.{IsOfNoStream};
 ghost use Rattle.cs_picks.specs.Families.{least_with};
 ghost use Rattle.cs_plan.specs.Scenes.{micros_of, order_in};
 ghost use Rattle.cs_list.specs.Json as spec;
@@ -11,9 +12,9 @@ ghost use Rattle.cs_list.specs.Json as spec;
 use crate::json::{op_line, state_line};
 use crate::lines::number_at;
 use crate::paths::FilePaths;
-use cs_picks::least_with;
 use cs_inputs::ProgramFault;
 use cs_names::Path;
+use cs_picks::least_with;
 use cs_plan::{Places, Scene};
 use std::alloc::{AllocError, Global};
 
@@ -49,7 +50,9 @@ pub fn push_op_objects(
     scene: &Scene,
     lines: &[usize],
     text: &mut Vec<u8>,
-) -> Result<(), ProgramFault> {
+) -> Result<(), ProgramFault>
+    ensures { IfErr result IsOfNoStream }
+{
     let Ok(mut paths) = FilePaths::of(alloc, scene.micros()) else {
         return Err(ProgramFault::Memory);
     };
@@ -74,7 +77,9 @@ pub fn push_state_objects(
     scene: &Scene,
     firsts: &[u32],
     text: &mut Vec<u8>,
-) -> Result<(), ProgramFault> {
+) -> Result<(), ProgramFault>
+    ensures { IfErr result IsOfNoStream }
+{
     for (number, recipe) in scene.plan().recipes().iter().enumerate() {
         // neither default is used: the plan has the number, and `firsts` is as long as the plan
         let says = scene.says(number as u32).unwrap_or(0);

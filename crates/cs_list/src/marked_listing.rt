@@ -1,5 +1,7 @@
 //! The plain list with options: a line for each micro-operation, and then one for each state. How
 //! one line is spelled is in `printed`.
+ghost use Rattle.std.specs.Prelude.{IfErr};
+ghost use Rattle.cs_inputs.specs.Written.{IsOfNoStream};
 
 use crate::lines::number_at;
 use crate::paths::FilePaths;
@@ -27,7 +29,9 @@ pub fn push_op_lines(
     lines: &[usize],
     has_lines: bool,
     text: &mut Vec<u8>,
-) -> Result<(), ProgramFault> {
+) -> Result<(), ProgramFault>
+    ensures { IfErr result IsOfNoStream }
+{
     let Ok(mut paths) = FilePaths::of(alloc, scene.micros()) else {
         return Err(ProgramFault::Memory);
     };
@@ -60,7 +64,9 @@ pub fn push_state_lines(
     firsts: &[u32],
     has_firsts: bool,
     text: &mut Vec<u8>,
-) -> Result<(), ProgramFault> {
+) -> Result<(), ProgramFault>
+    ensures { IfErr result IsOfNoStream }
+{
     for (number, recipe) in scene.plan().recipes().iter().enumerate() {
         let line = StateLine {
             number,

@@ -30,7 +30,9 @@ pub fn plain_text(alloc: Global, scene: &Scene) -> Result<Vec<u8>, ProgramFault>
 
 /// For each micro-operation, the number of the trace's line that it came from. The error is
 /// TraceNotText if the trace isn't UTF-8 (that of a scene always is), or out of memory.
-fn lines_in(alloc: Global, trace: &[u8], scene: &Scene) -> Result<Vec<usize>, ProgramFault> {
+fn lines_in(alloc: Global, trace: &[u8], scene: &Scene) -> Result<Vec<usize>, ProgramFault>
+    ensures { IfErr result IsOfNoStream }
+{
     let Ok(text) = std::str::from_utf8(trace) else {
         return Err(ProgramFault::TraceNotText);
     };
@@ -56,7 +58,9 @@ fn marked_text(
     trace: &[u8],
     scene: &Arc<Scene>,
     options: ListOptions,
-) -> Result<Vec<u8>, ProgramFault> {
+) -> Result<Vec<u8>, ProgramFault>
+    ensures { IfErr result IsOfNoStream }
+{
     let lines = lines_in(alloc, trace, scene)?;
     let Ok(firsts) = firsts_in(alloc, scene, options) else {
         return Err(ProgramFault::Memory);
@@ -78,7 +82,10 @@ pub fn text_of(
     trace: &[u8],
     scene: &Arc<Scene>,
     options: ListOptions,
-) -> Result<Vec<u8>, ProgramFault> {
+) -> Result<Vec<u8>, ProgramFault>
+    ensures text { IfOk result (λ text. IsText options (arc_value scene.now) text.items) }
+    ensures fault { IfErr result IsOfNoStream }
+{
     if options.lines || options.same || options.json {
         return marked_text(alloc, trace, scene, options);
     }
