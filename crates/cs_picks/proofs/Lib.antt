@@ -1,4 +1,5 @@
 mod Allowed
-mod Holes
 mod Filled
+mod Holes
+mod Printed
 mod Written
