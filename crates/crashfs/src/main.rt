@@ -4,12 +4,12 @@
 use clap::Error;
 use clap::error::ErrorKind;
 use cs_command_line::ask_of;
-use cs_picks::{Family, PickSets, picks_of};
 use cs_files::{FAULT, InputFiles, Output, out_of_memory};
 use cs_inputs::Inputs;
 use cs_list::list_with;
 use cs_names::limits::WORKERS;
 use cs_options::{Ask, Job, PicksOptions, Serving};
+use cs_picks::{Family, PickSets, picks_of};
 use cs_reasons::explain;
 use cs_script::script_with;
 use cs_serve::{ReadsFiles, serve_of};
@@ -39,11 +39,17 @@ fn workers_of(rt: &impl Threads, workers: u32) -> u32 {
     }
 }
 
-/// The family that the options of `picks` ask for.
+/// The sets that the options of `picks` ask for.
 fn sets_of(options: PicksOptions) -> PickSets {
     match options {
-        PicksOptions::Lost => PickSets::Of(Family::Lost),
-        PicksOptions::Files => PickSets::Of(Family::Files),
+        PicksOptions::Families { lost, files } => PickSets::Of(match (lost, files) {
+            (true, true) => Family::Both,
+            (true, false) => Family::Lost,
+            (false, _) => Family::Files,
+        }),
+        PicksOptions::Every { most } => PickSets::Every(most),
+        PicksOptions::Count => PickSets::Count,
+        PicksOptions::Sample { seed, count } => PickSets::Sample(seed, count),
     }
 }
 

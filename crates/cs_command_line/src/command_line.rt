@@ -10,6 +10,9 @@ use std::alloc::{AllocError, Global};
 /// How many connections are served if the command line doesn't say.
 const CONNECTIONS: u32 = 64;
 
+/// How many sets `picks --every` prints at most if the command line doesn't say.
+const SETS: u32 = 1_000_000;
+
 /// The path of the trace: the argument, else the value of `--trace`. Exactly one of them is given:
 /// the command line is refused otherwise.
 fn path_of_trace<'a>(matches: &ArgMatches<'a>) -> &'a str {
@@ -90,12 +93,26 @@ fn states_of(alloc: Global, matches: &ArgMatches) -> Result<Option<States>, Allo
     Ok(Some(States::Changes(ranges)))
 }
 
-/// The family of `picks`: `--lost`, else `--files`.
+/// What `picks` prints. One of its groups of options is given: the command line is refused
+/// otherwise.
 fn picks_of(matches: &ArgMatches) -> PicksOptions {
-    if matches.get_flag("lost") {
-        PicksOptions::Lost
-    } else {
-        PicksOptions::Files
+    if matches.get_flag("count") {
+        return PicksOptions::Count;
+    }
+    if matches.get_flag("every") {
+        return PicksOptions::Every {
+            most: matches.get_one("most").unwrap_or(SETS),
+        };
+    }
+    match matches.get_one("sample") {
+        Some(count) => PicksOptions::Sample {
+            seed: matches.get_one("seed").unwrap_or(0),
+            count,
+        },
+        None => PicksOptions::Families {
+            lost: matches.get_flag("lost"),
+            files: matches.get_flag("files"),
+        },
     }
 }
 
