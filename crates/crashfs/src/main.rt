@@ -4,12 +4,12 @@
 use clap::Error;
 use clap::error::ErrorKind;
 use cs_command_line::ask_of;
-use cs_picks::{Family, PickSets, picks_of};
 use cs_files::{FAULT, InputFiles, Output, out_of_memory};
 use cs_inputs::Inputs;
 use cs_list::list_with;
 use cs_names::limits::WORKERS;
 use cs_options::{Ask, Job, PicksOptions, Serving};
+use cs_picks::{Family, PickSets, picks_of};
 use cs_reasons::explain;
 use cs_script::script_with;
 use cs_serve::{ReadsFiles, serve_of};
@@ -39,11 +39,22 @@ fn workers_of(rt: &impl Threads, workers: u32) -> u32 {
     }
 }
 
-/// The family that the options of `picks` ask for.
+/// The sets that the options of `picks` ask for. One of them is given: the command line is refused
+/// otherwise.
 fn sets_of(options: PicksOptions) -> PickSets {
-    match options {
-        PicksOptions::Lost => PickSets::Of(Family::Lost),
-        PicksOptions::Files => PickSets::Of(Family::Files),
+    if let Some(sample) = options.sample {
+        return PickSets::Sample(sample.seed, sample.count);
+    }
+    if options.count {
+        return PickSets::Count;
+    }
+    if options.every {
+        return PickSets::Every(options.most);
+    }
+    match (options.lost, options.files) {
+        (true, true) => PickSets::Of(Family::Both),
+        (true, false) => PickSets::Of(Family::Lost),
+        _ => PickSets::Of(Family::Files),
     }
 }
 

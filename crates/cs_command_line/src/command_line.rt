@@ -10,6 +10,9 @@ use std::alloc::{AllocError, Global};
 /// How many connections are served if the command line doesn't say.
 const CONNECTIONS: u32 = 64;
 
+/// How many sets are printed at most if the command line doesn't say.
+const MOST_SETS: u32 = 1_000_000;
+
 /// The path of the trace: the argument, else the value of `--trace`. Exactly one of them is given:
 /// the command line is refused otherwise.
 fn path_of_trace<'a>(matches: &ArgMatches<'a>) -> &'a str {
@@ -90,12 +93,23 @@ fn states_of(alloc: Global, matches: &ArgMatches) -> Result<Option<States>, Allo
     Ok(Some(States::Changes(ranges)))
 }
 
-/// The family of `picks`: `--lost`, else `--files`.
+/// What `picks` prints. One of the options that say so is given, and `--sample` and `--seed` go
+/// together: the command line is refused otherwise.
 fn picks_of(matches: &ArgMatches) -> PicksOptions {
-    if matches.get_flag("lost") {
-        PicksOptions::Lost
-    } else {
-        PicksOptions::Files
+    let count: Option<u32> = matches.get_one("sample");
+    PicksOptions {
+        lost: matches.get_flag("lost"),
+        files: matches.get_flag("files"),
+        every: matches.get_flag("every"),
+        count: matches.get_flag("count"),
+        most: matches.get_one("most").unwrap_or(MOST_SETS),
+        sample: match count {
+            Some(count) => Some(Sample {
+                count,
+                seed: matches.get_one("seed").unwrap_or(0),
+            }),
+            None => None,
+        },
     }
 }
 

@@ -111,18 +111,46 @@ pub fn tar_command<'a>(alloc: Global) -> Result<Command<'a>, AllocError> {
     with_states(alloc, tar)
 }
 
+/// The command, to which the options of `picks` that say which sets of all are printed are added.
+fn with_every<'a>(alloc: Global, command: Command<'a>) -> Result<Command<'a>, AllocError> {
+    let every = "All sets that a crash may leave";
+    let count = "Only how many sets there are";
+    let most = "The most sets that are printed, 1 to 16777216; default 1000000";
+    let sample = "Sets that are drawn one after the other, 1 to 16384";
+    let seed = "The number by which they are drawn";
+    let every = flag(alloc, "every", every).conflicts_with_all(&["lost", "files"])?;
+    let count = flag(alloc, "count", count).requires_arg("every")?;
+    let most = value_argument(alloc, "most", "N", most)
+        .value_parser(value_parser!(u32).range(1..=16_777_216))
+        .requires_arg("every")?
+        .conflicts_with("count")?;
+    let sample = value_argument(alloc, "sample", "M", sample)
+        .value_parser(value_parser!(u32).range(1..=16_384))
+        .requires_arg("seed")?
+        .conflicts_with_all(&["lost", "files", "every"])?;
+    let seed = value_argument(alloc, "seed", "S", seed)
+        .value_parser(value_parser!(u64))
+        .requires_arg("sample")?;
+    command
+        .arg(every)?
+        .arg(count)?
+        .arg(most)?
+        .arg(sample)?
+        .arg(seed)
+}
+
 /// The command `picks` and its options.
 fn picks_command<'a>(alloc: Global) -> Result<Command<'a>, AllocError> {
     let lost = "For each operation the smallest disk that still has it";
     let files = "For each prefix and each file, the disk without its changes that no sync covers";
-    let one_of = one_of(alloc, "family", "lost", "files")?;
+    let sets = ArgGroup::new(alloc, "sets").required(true).multiple(true);
+    let sets = sets.arg("lost")?.arg("files")?.arg("every")?.arg("sample")?;
     let picks = Command::new(alloc, "picks")
-        .about("Prints a family of sets as a file for --picks")
+        .about("Prints sets of micro-operations as a file for --picks")
         .after_help("Example: crashfs picks store.trace --lost > lost.picks")
         .arg(flag(alloc, "lost", lost))?
-        .arg(flag(alloc, "files", files))?
-        .group(one_of)?;
-    with_trace(alloc, picks)
+        .arg(flag(alloc, "files", files))?;
+    with_trace(alloc, with_every(alloc, picks)?.group(sets)?)
 }
 
 /// The command `script` and its options.
