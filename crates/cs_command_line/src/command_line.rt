@@ -3,7 +3,7 @@ use crate::commands::{command, tar_command};
 use clap::error::ErrorKind;
 use clap::{ArgMatches, Error};
 use cs_options::{
-    Ask, Client, Job, ListOptions, PicksOptions, Serving, StateRange, States, Wanted,
+    Ask, Client, Job, ListOptions, PicksOptions, Sample, Serving, StateRange, States, Wanted,
 };
 use std::alloc::{AllocError, Global};
 
