@@ -21,8 +21,8 @@ Proves all that crashfs uses, several crates side by side, and builds the progra
 repository as there are processors (4 at most) take a crate each, lowest first, and those with the
 longest chain of crates above them before others. The crate with the longest chain has two
 processors, and those that no other crate could use, unless it is above many crates. The copies
-are in a temporary folder that is removed at the end; `rt` takes over what they proved, since it
-knows a library that was proved from the same text.
+are in a temporary folder that is removed at the end. A copy gets the libraries that it lacks from
+the copies that proved them.
 
 Status 0: the program is crates/crashfs/out/crashfs. Else a crate was not proved: what its check
 printed is printed, and the status is 1. If memory ran out, the last line says so."""
@@ -62,5 +62,5 @@ def build(processors: int) -> int:
             thread.start()
         for thread in threads:
             thread.join()
-        # The program takes the libraries over from the copies, which still exist.
-        return 1 if work.failed else build_program(processors, begun)
+        # The copies, from which the program gets the libraries, still exist.
+        return 1 if work.failed else build_program(work, begun)

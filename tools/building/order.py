@@ -58,13 +58,13 @@ def chains(below: Dict[str, List[str]]) -> Dict[str, int]:
 
 @dataclass
 class Work:
-    """What is left to prove, shared by the copies of the repository. failed is the first crate that
-    was not proved."""
+    """What is left to prove, shared by the copies of the repository. places has the copy in which
+    each crate was proved, and failed is the first crate that was not proved."""
 
     below: Dict[str, List[str]]
     chains: Dict[str, int]
     processors: int
-    proved: Set[str] = field(default_factory=set)
+    places: Dict[str, Path] = field(default_factory=dict)
     begun: Set[str] = field(default_factory=set)
     jobs: Dict[str, int] = field(default_factory=dict)
     failed: Optional[str] = None
@@ -75,7 +75,7 @@ class Work:
         ready = [
             it
             for it in self.below
-            if it not in self.begun and self.proved.issuperset(self.below[it])
+            if it not in self.begun and all(lower in self.places for lower in self.below[it])
         ]
         idle = self.processors - sum(self.jobs.values())
         if not ready or idle < 1:
@@ -99,12 +99,12 @@ class Work:
                 self.change.wait()
             return None
 
-    def end(self, name: str, is_proved: bool) -> None:
-        """Says that the check of a crate has ended."""
+    def end(self, name: str, place: Optional[Path]) -> None:
+        """Says that the check of a crate has ended: it is proved in a copy, or it isn't."""
         with self.change:
             del self.jobs[name]
-            if is_proved:
-                self.proved.add(name)
+            if place:
+                self.places[name] = place
             else:
                 self.failed = self.failed or name
             self.change.notify_all()

@@ -8,7 +8,8 @@ import time
 from pathlib import Path
 
 from .checks import Check, memory_text, run_check
-from .order import PROGRAM, TOP, Work
+from .order import PROGRAM, TOP, Work, all_below
+from .sharing import give
 
 
 def has_library(top: Path, name: str) -> bool:
@@ -45,22 +46,26 @@ def prove_in(copy: Path, work: Work, begun: float) -> None:
             return
         name, jobs = chosen
         top = TOP if has_library(TOP, name) else copy
+        for library in all_below(work.below, name):
+            give(work.places[library], top, library)
         check = run_check(['rt', 'lib', '--jobs', str(jobs)], top / 'crates' / name)
-        work.end(name, check.status == 0)
+        work.end(name, top if check.status == 0 else None)
         said = 'proved' if check.status == 0 else 'NOT PROVED'
         minutes = (time.monotonic() - begun) / 60
-        count = f'{len(work.proved)} of {len(work.below)}'
+        count = f'{len(work.places)} of {len(work.below)}'
         print(f'{minutes:5.1f} min: {name} {said} ({count})', flush=True)
         if check.status:
             report(name, check, jobs, work.processors)
 
 
-def build_program(processors: int, begun: float) -> int:
+def build_program(work: Work, begun: float) -> int:
     """Builds the program over libraries that are proved, and returns the status."""
+    for name, place in work.places.items():
+        give(place, TOP, name)
     words = ['rt', 'run', '--jobs', '1', '--', '--help']
     check = run_check(words, TOP / 'crates' / PROGRAM)
     if check.status:
-        report(PROGRAM, check, 1, processors)
+        report(PROGRAM, check, 1, work.processors)
         return 1
     minutes = (time.monotonic() - begun) / 60
     print(f'{minutes:5.1f} min: crates/{PROGRAM}/out/{PROGRAM} is built', flush=True)

@@ -7,13 +7,14 @@ _crashfs_check() {
         [[ $word == -- ]] && return
     done
     case $previous in
-        --jobs | --shard | --nested | --state | --time-limit | --resume | --json | --junit | \
-        --html | --timeout | --crashfs | --serve | --uname | --disks | --merge) return ;;
+        --jobs | --shard | --every | --in | --nested | --state | --time-limit | --resume | \
+        --json | --junit | --html | --timeout | --crashfs | --serve | --uname | --disks | \
+        --merge) return ;;
         *)
             [[ $current == -* ]] && words='
-                -h --help --version --jobs --shard --prefixes --quick --lost --files --nested
-                --state --fail-fast --time-limit --resume --json --junit --html --timeout
-                --crashfs --unproved --serve --uname --disks --merge'
+                -h --help --version --jobs --shard --every --families --prefixes --quick --in
+                --lost --files --nested --state --fail-fast --time-limit --resume --json --junit
+                --html --timeout --crashfs --unproved --serve --uname --disks --merge'
             ;;
     esac
     mapfile -t COMPREPLY < <(compgen -W "$words" -- "$current")

@@ -5,8 +5,11 @@ _arguments -S \
     '--version[show program’s version number and exit]' \
     '--jobs[run N commands at once]:N:_files' \
     '--shard[try only part I of N]:I/N:_files' \
+    '--every[all crash states if at most N of them differ, however long that takes]:N:_files' \
+    '--families[not all crash states, but the prefixes, those with one hole, --lost and --files]' \
     '--prefixes[the prefixes only]' \
     '--quick[the prefixes and those with one hole]' \
+    '--in[only states that this profile allows, such as ordered]:PROFILE:_files' \
     '--lost[for each change, the state with it and as few others as possible]' \
     '--files[for each file, the states without its unsynced changes]' \
     '--nested[crash the recovery too]:N:_files' \

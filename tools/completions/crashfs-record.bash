@@ -8,13 +8,15 @@ _crashfs_record() {
     done
     case $previous in
         --say-each) words='line write' ;;
-        --profile) words='blocks ordered' ;;
+        --profile) words='blocks ordered journal' ;;
         --block) words='512 1024 2048 4096' ;;
+        --trace-version) words='auto 3 4' ;;
         --ignore | --say-fd | --begin-after | --crashfs | --keep-log | --from-log | --log-dir) return ;;
         *)
             [[ $current == -* ]] && words='
                 -h --help --version --mapped --ignore --say-fd --say-each --no-say --stacks
-                --begin-after --profile --block --crashfs --keep-log --from-log --log-dir'
+                --begin-after --profile --block --trace-version --crashfs --keep-log --from-log
+                --log-dir'
             ;;
     esac
     mapfile -t COMPREPLY < <(compgen -W "$words" -- "$current")

@@ -10,8 +10,9 @@ _arguments -S \
     '--no-say[do not warn if no line is acknowledged, if all are in one write, or if one is held for long]' \
     '--stacks[note at each operation which of COMMAND’s functions made it]' \
     '--begin-after[begin the trace after the acknowledged line with this number, or after the first that matches]:LINE:_files' \
-    '--profile[which directory operations the file system keeps in order]:PROFILE:(blocks ordered)' \
+    '--profile[which directory operations the file system keeps in order]:PROFILE:(blocks ordered journal)' \
     '--block[how many bytes the disk writes whole]:BLOCK:(512 1024 2048 4096)' \
+    '--trace-version[the version of the trace]:VERSION:(auto 3 4)' \
     '--crashfs[the program crashfs, for the comparison at the end]:PATH:_files' \
     '--keep-log[keep strace’s log]:FILE:_files' \
     '--from-log[run nothing, but convert the log of an earlier run]:FILE:_files' \

@@ -4,7 +4,8 @@ _crashfs() {
     COMPREPLY=()
     case $previous in
         --client) words='plan9 linux' ;;
-        --picks | --trace | --state | --states | --users | --listen | --workers | --connections) return ;;
+        --picks | --trace | --state | --states | --most | --sample | --seed | --users | --listen \
+        | --workers | --connections) return ;;
         *)
             if ((COMP_CWORD == 1)); then
                 words='list tar picks script serve help -h --help -V --version'
@@ -21,7 +22,8 @@ _crashfs() {
                             -h --help --changes --state --states --holes --picks --trace' ;;
                     picks)
                         words='
-                            -h --help --lost --files --trace' ;;
+                            -h --help --lost --files --trace --every --count --most --sample
+                            --seed' ;;
                     script)
                         words='
                             -h --help --verbose --users --holes --picks --trace' ;;

@@ -5,7 +5,7 @@ if ((CURRENT == 2)); then
     commands=(
         'list:Prints the micro-operations and the crash states'
         'tar:Writes the files of crash states as a tar archive'
-        'picks:Prints a family of sets as a file for --picks'
+        'picks:Prints sets of micro-operations as a file for --picks'
         'script:Runs the 9P2000 messages of standard input, one a line, and prints the replies'
         'serve:Serves the states over TCP, each connection in a thread of its own'
         'help:Prints the help of a command'
@@ -43,6 +43,11 @@ else
                 '--lost[For each operation the smallest disk that still has it]' \
                 '--files[For each prefix and each file, the disk without its changes that no sync covers]' \
                 '--trace[The same as TRACE]:FILE:_files' \
+                '--every[All sets that a crash may leave]' \
+                '--count[Only how many sets there are]' \
+                '--most[The most sets that are printed, 1 to 16777216; default 1000000]:N:_files' \
+                '--sample[Sets that are drawn one after the other, 1 to 16384]:M:_files' \
+                '--seed[The number by which they are drawn]:S:_files' \
                 '1:TRACE:_files' ;;
         script)
             _arguments \

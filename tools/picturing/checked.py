@@ -37,5 +37,5 @@ def checked(trace: str, command: Sequence[str]) -> Checked:
         planned = next(iter(checking.all_planned()))
         assert run.window is not None
         state = report.groups()[0].example.number
-        files = program.tree_of([*planned.words, '--state', str(state)], guard.environment)
+        files = checking.trying(planned).tree(state)
     return Checked(run.window.findings, report, files)

@@ -48,7 +48,7 @@ def draw_line(picture: Picture, line: TraceLine, result: str) -> None:
 def content_of(checked: Checked) -> Dict[str, List[str]]:
     """The lines of each file of the state."""
     return {
-        path: entry.data.decode('ascii').splitlines()
+        path: bytes(entry.data).decode('ascii').splitlines()
         for path, entry in sorted(checked.files.items())
         if entry.data is not None
     }

@@ -1,17 +1,16 @@
 """The trees of crash states as lines: by an archive, and by what a run of the state replies.
 
 A line has the number, the path, how often it was changed, owner, group, mode, atime, mtime and who
-changed it last; and `d` for a directory, or the length and the bytes as runs: `5: 1h 1e 2l 1o`,
-with a dot for a zero.
+changed it last; and `d` for a directory, `l` and the target for a symbolic link, or the length and
+the bytes as runs: `5: 1h 1e 2l 1o`, with a dot for a zero.
 """
 
 from __future__ import annotations
 
 import io
 import re
+import tarfile
 from typing import Dict, Iterator, List, NamedTuple, Optional
-
-from crashfs_tools.common.archive import members
 
 from .case_runs import Runner
 from .wire_replies import Bytes, frame
@@ -24,12 +23,13 @@ RUN = re.compile(rb'(.)\1*', re.DOTALL)
 
 
 class File(NamedTuple):
-    """A file, or a directory if it has no bytes."""
+    """A file, a directory if it has no bytes, or a symbolic link, whose bytes are its target."""
 
     owner: str
     group: str
     mode: int
     data: Optional[bytes]
+    is_link: bool = False
 
 
 def runs_of(data: bytes) -> str:
@@ -38,8 +38,12 @@ def runs_of(data: bytes) -> str:
     return ''.join(f' {count}{"." if ord(letter) == 0 else letter}' for count, letter in letters)
 
 
-def content_of(data: Optional[bytes]) -> str:
-    return 'd' if data is None else f'{len(data)}:{runs_of(data)}'
+def content_of(file: File) -> str:
+    if file.data is None:
+        return 'd'
+    if file.is_link:
+        return f'l {file.data.decode()}'
+    return f'{len(file.data)}:{runs_of(file.data)}'
 
 
 def names_in(path: str) -> List[bytes]:
@@ -51,17 +55,25 @@ def archived(runner: Runner, words: List[str], given: Dict[str, bytes]) -> Dict[
     """The files of a state by their paths, as `tar` writes them."""
     ran = runner.run(['tar', *words], given)
     assert ran.status == 0, ran.err
-    return {
-        '/' + path: File(it.owner, it.group, it.mode, it.data)
-        for path, it in members(io.BytesIO(ran.out))
-    }
+    with tarfile.open(fileobj=io.BytesIO(ran.out)) as archive:
+        return {
+            '/' + info.name.strip('./'): file_of(archive, info) for info in archive.getmembers()
+        }
+
+
+def file_of(archive: tarfile.TarFile, info: tarfile.TarInfo) -> File:
+    data: Optional[bytes] = info.linkname.encode()
+    if not info.issym():
+        content = archive.extractfile(info)
+        data = None if content is None else content.read()
+    return File(info.uname, info.gname, info.mode, data, info.issym())
 
 
 def lines_of(tree: Dict[str, File]) -> List[str]:
     """A line for each path, with its number as in a fresh run."""
     return [
         f'{number} {path} 0 {tree[path].owner} {tree[path].group} {tree[path].mode:03o} 0 0 '
-        f'{tree[path].owner} {content_of(tree[path].data)}'
+        f'{tree[path].owner} {content_of(tree[path])}'
         for number, path in enumerate(sorted(tree, key=names_in))
     ]
 
@@ -113,7 +125,7 @@ class Visit:
             assert kind != ERROR, body.left
         if data is not None and self.tree[path].owner not in self.roots:
             data = self.tree[path].data
-        return f'{stat} {content_of(data)}'
+        return f'{stat} {content_of(self.tree[path]._replace(data=data))}'
 
 
 def shown_stat(body: Bytes, path: str) -> str:

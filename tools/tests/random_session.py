@@ -1,6 +1,8 @@
 """A program that does random things to its directory, for the recorder to follow.
 
-    python3 random_session.py SEED
+    python3 random_session.py SEED [VERSION]
+
+With version 4 it also does what only traces of this version have.
 """
 
 import os
@@ -8,12 +10,14 @@ import random
 import sys
 
 NAMES = ['a', 'b', 'c', 's/a', 's/b', 't/a', 'u v', 'ä"\\', 's/n\tx']
+FOLDERS = ['s', 't', 'd', 's/d', 't/d']
+TARGETS = ['s', 't', '../t', 'a', 's/a', './d/', '.', 'l', '/nowhere/x', 'b/..', 'ä']
 CREATES = [os.O_CREAT, os.O_CREAT | os.O_EXCL, 0, os.O_CREAT | os.O_TRUNC]
 
 
-def attempt(call, *arguments):
+def attempt(call, *arguments, **named):
     try:
-        return call(*arguments)
+        return call(*arguments, **named)
     except OSError:
         return None
 
@@ -24,6 +28,7 @@ class Session:
     def __init__(self, seed):
         self.random = random.Random(seed)
         self.files = [os.open('a', os.O_RDWR)]
+        self.top = os.open('.', os.O_RDONLY)
 
     def name(self):
         return self.random.choice(NAMES)
@@ -92,6 +97,49 @@ class Session:
             os._exit(0)
         os.wait()
 
+    def symlink(self):
+        name = self.random.choice([*FOLDERS, *NAMES, 'l', 'm'])
+        attempt(os.symlink, self.random.choice(TARGETS), name)
+
+    def unlink_any(self):
+        attempt(os.unlink, self.random.choice([*FOLDERS, 'l', 'm']))
+
+    def rename_any(self):
+        names = [*FOLDERS, 'l', 'm', 'a']
+        attempt(os.rename, self.random.choice(names), self.random.choice(names))
+
+    def mkdir_any(self):
+        attempt(os.mkdir, self.random.choice([*FOLDERS, 'l/e', 'm/../e']))
+
+    def by_path(self):
+        name = self.random.choice([*NAMES, 'l', 'l/a', 'm/b'])
+        attempt(os.truncate, name, self.random.randrange(9000))
+        attempt(os.chmod, name, self.random.choice([0o600, 0o640]))
+        # So it is linkat with AT_SYMLINK_FOLLOW.
+        attempt(os.link, name, self.random.choice(NAMES), src_dir_fd=self.top)
+
+    def change_directory(self):
+        attempt(os.chdir, self.random.choice([*FOLDERS, 'l']))
+        self.random.choice([self.open, self.rename, self.mkdir_any, self.rename_any])()
+        self.rename_any()
+        os.fchdir(self.top)
+
+    def write_far(self):
+        attempt(os.pwrite, self.file(), self.data(), self.random.randrange(30_000_000))
+
+    def cut_far(self):
+        attempt(os.ftruncate, self.file(), self.random.randrange(30_000_000))
+
+    def sync_data(self):
+        attempt(os.fdatasync, self.file())
+
+    def run_new(self, steps):
+        """What traces of version 4 have, besides."""
+        new = [self.symlink, self.rename_any, self.mkdir_any, self.by_path, self.change_directory]
+        new += [self.unlink_any, self.write_far, self.cut_far, self.sync_data]
+        for _ in range(steps):
+            self.random.choice([*new, self.open, self.write, self.unlink, self.rename])()
+
     def run(self, steps):
         todo = [
             self.mkdir,
@@ -119,4 +167,7 @@ class Session:
 
 
 if __name__ == '__main__':
-    Session(int(sys.argv[1])).run(150)
+    session = Session(int(sys.argv[1]))
+    session.run(150)
+    if sys.argv[2:] == ['4']:
+        session.run_new(150)

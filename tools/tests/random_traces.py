@@ -13,6 +13,8 @@ from typing import Any, Dict, List
 from crashfs_tools.reading import ReadingFault, read
 
 PATHS = ['/a', '/b', '/c', '/d', '/d/a', '/d/b', '/e', '/e/x', '/é "\\']
+# Version 4 has more directories, and paths below them.
+MORE_PATHS = ['/d/e', '/d/e/a', '/e/d', '/e/d/a', '/a', '/b', '/e/a', '/d', '/e']
 RIGHTS = [('ann', 'staff', '644'), ('bob', 'staff', '600'), ('cat', 'ann', '755')]
 WORDS = {
     1: [
@@ -35,6 +37,7 @@ WORDS = {
     ],
     2: ['chmod', 'chown'],
     3: ['link', 'link', 'link', 'fsync_range', 'fsync_range', 'fsync_range'],
+    4: ['rename'] * 5 + ['mkdir', 'mkdir', 'symlink', 'symlink', 'fdatasync', 'fdatasync'],
 }
 # How often the last line may be one that doesn't fit.
 FAULTY = 0.1
@@ -48,11 +51,13 @@ class RandomTrace:
         self.random = random.Random(f'{version} {seed}')
         self.lines: List[str] = [self.header()]
         self.words = sum((words for since, words in WORDS.items() if since <= version), [])
+        self.paths = PATHS + (MORE_PATHS if version > 3 else [])
 
     def text(self) -> str:
-        for _ in range(self.random.randrange(5)):
+        starts, operations = (5, (6, 30)) if self.version < 4 else (20, (20, 70))
+        for _ in range(self.random.randrange(starts)):
             self.add(self.start())
-        for _ in range(self.random.randrange(6, 30)):
+        for _ in range(self.random.randrange(*operations)):
             self.add(self.operation())
         if self.random.random() < FAULTY:
             self.lines.append(as_line(self.operation()))
@@ -75,17 +80,42 @@ class RandomTrace:
     def header(self) -> str:
         fields: Dict[str, Any] = {'trace': self.version, **self.rights()}
         if self.version > 1:
-            fields['profile'] = self.pick('blocks', 'blocks', 'ordered')
+            more = ['journal', 'blocks'] if self.version > 3 else []
+            fields['profile'] = self.pick('blocks', 'blocks', 'ordered', *more)
         if self.version > 2:
             fields['block'] = self.pick(512, 1024, 2048, 4096)
         return as_line(fields)
 
     def start(self) -> Dict[str, Any]:
-        kind = self.pick('dir', 'file', 'file', *(['link'] if self.version > 2 else []))
-        fields = {'start': kind, 'path': self.pick(*PATHS)}
+        kinds = ['dir', 'file', 'file', *(['link'] if self.version > 2 else [])]
+        kind = self.pick(*kinds, *(['symlink', 'dir', 'dir'] if self.version > 3 else []))
+        fields = {'start': kind, 'path': self.pick(*self.paths)}
         if kind == 'link':
-            return {**fields, 'from': self.pick(*PATHS)}
+            return {**fields, 'from': self.pick(*self.paths)}
+        if kind == 'symlink':
+            return {**fields, **self.target()}
+        if kind == 'file' and self.version > 3 and self.pick(True, False):
+            return {**fields, **self.rights(), **self.parts()}
         return {**fields, **self.rights(), **(self.data() if kind == 'file' else {})}
+
+    def target(self) -> Dict[str, str]:
+        """What a symbolic link is made with."""
+        rights = self.rights()
+        del rights['mode']
+        return {**rights, 'target': self.pick('a', 'd/b', '../é', '/nowhere')}
+
+    def parts(self) -> Dict[str, Any]:
+        """A start file by its length and its parts."""
+        length = self.pick(0, 1, 5000, 70_000, 300_000)
+        parts: List[Dict[str, Any]] = []
+        end = 0
+        for _ in range(self.random.randrange(3)):
+            at = end + self.pick(0, 1, 4096, self.random.randrange(40_000))
+            data = self.random.randbytes(self.pick(1, 3, 700)) + b'\0' * self.pick(0, 9)
+            end = at + len(data)
+            if end <= length:
+                parts.append({'at': at, 'bytes': data.hex()})
+        return {'length': length, 'parts': parts}
 
     def data(self) -> Dict[str, str]:
         size = self.pick(0, 1, 3, 600, 5000)
@@ -100,11 +130,13 @@ class RandomTrace:
         word = self.random.choice(self.words)
         fields: Dict[str, Any] = {'op': word}
         if word in ('rename', 'link'):
-            fields.update({'from': self.pick(*PATHS), 'to': self.pick(*PATHS)})
+            fields.update({'from': self.pick(*self.paths), 'to': self.pick(*self.paths)})
         elif word not in ('sync', 'say'):
-            fields['path'] = self.pick(*PATHS, *(['/', '/'] if word == 'fsync' else []))
+            fields['path'] = self.pick(*self.paths, *(['/', '/'] if word == 'fsync' else []))
         if word in ('creat', 'mkdir'):
             fields.update(self.rights())
+        elif word == 'symlink':
+            fields.update(self.target())
         elif word in ('chmod', 'chown'):
             keys = ('mode',) if word == 'chmod' else ('owner', 'group')
             fields.update({key: value for key, value in self.rights().items() if key in keys})

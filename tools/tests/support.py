@@ -60,10 +60,11 @@ def recording_of(
     acknowledged: Sequence[str] = ('1',),
     copies: Optional[FileCopies] = None,
     output: Optional[str] = None,
+    version: Optional[int] = None,
 ) -> Recording:
     """What a log becomes, for the directory /d with the umask 022 and the user u."""
     scan = Scan(Header('u', 'u', 0o755), list(start or []))
-    recording = Recording(scan.header, TraceSettings(acknowledged))
+    recording = Recording(scan.header, TraceSettings(acknowledged, version=version))
     recording.streams.set_standard_output(output)
     conditions = StartConditions('/d', 0o022, 'u', 'u')
     files = LiveFiles(recording, conditions, scan, ignored or (lambda path: False))

@@ -18,6 +18,7 @@ from building import checks, main, proving
 from building.checks import Check, memory_of_machine, memory_text, run_check
 from building.order import MANY_BELOW, Work, libraries
 from building.proving import build_program, has_library, prove_in
+from building.sharing import give
 
 GIGABYTE = 2**30
 
@@ -42,11 +43,11 @@ class Order(unittest.TestCase):
     def test_the_longest_chain_has_two_processors(self) -> None:
         work = Work(BELOW, CHAINS, 4)
         self.assertEqual(all_ready(work), [('a', 3)])
-        work.end('a', True)
+        work.end('a', Path('/'))
         self.assertEqual(all_ready(work), [('b', 2), ('c', 1), ('d', 1)])
-        work.end('c', True)
+        work.end('c', Path('/'))
         self.assertEqual(all_ready(work), [])
-        work.end('b', True)
+        work.end('b', Path('/'))
         self.assertEqual(all_ready(work), [('e', 3)])
 
     def test_a_crate_over_many_has_one_processor(self) -> None:
@@ -54,7 +55,7 @@ class Order(unittest.TestCase):
         below = {'top': low[-1:], **{it: low[at - 1 : at] for at, it in enumerate(low)}}
         work = Work(below, {it: 1 for it in below}, 4)
         work.begun.update(low)
-        work.proved.update(low)
+        work.places.update((it, Path('/')) for it in low)
         self.assertEqual(all_ready(work), [('top', 1)])
 
     def test_one_processor_takes_a_crate_at_a_time(self) -> None:
@@ -64,13 +65,13 @@ class Order(unittest.TestCase):
             [(name, jobs)] = all_ready(work)
             order.append(name)
             self.assertEqual(jobs, 1)
-            work.end(name, True)
+            work.end(name, Path('/'))
         self.assertEqual(order, ['a', 'b', 'e', 'c', 'd'])
 
     def test_nothing_begins_once_a_crate_is_not_proved(self) -> None:
         work = Work(BELOW, CHAINS, 4)
         name, _ = work.next()
-        work.end(name, False)
+        work.end(name, None)
         self.assertIsNone(work.next())
         self.assertEqual(work.failed, 'a')
 
@@ -95,6 +96,69 @@ class Order(unittest.TestCase):
         self.assertIn('cs_names', below)
         self.assertNotIn('cs_bench', below)
         self.assertTrue(all(it in below for its in below.values() for it in its))
+
+
+class Sharing(unittest.TestCase):
+    """Copies of the repository in which a library is written as `rt` does, its stamp last."""
+
+    def setUp(self) -> None:
+        folder = tempfile.TemporaryDirectory()
+        self.addCleanup(folder.cleanup)
+        self.room = Path(folder.name)
+
+    def library(self, copy: str, name: str) -> Path:
+        return self.room / copy / 'crates' / name / 'out' / 'rlib'
+
+    def prove(self, copy: str, name: str, text: str) -> None:
+        self.library(copy, name).mkdir(parents=True, exist_ok=True)
+        (self.library(copy, name) / 'statements').write_text(text)
+        (self.library(copy, name) / 'stamp').write_text(f'stamp of {text}')
+
+    def given(self, copy: str, name: str) -> str:
+        return (self.library(copy, name) / 'statements').read_text()
+
+    def test_a_library_is_given_whole(self) -> None:
+        self.prove('1', 'a', 'new')
+        give(self.room / '1', self.room / '2', 'a')
+        self.assertEqual(self.given('2', 'a'), 'new')
+        self.assertEqual(os.listdir(self.library('2', 'a').parent), ['rlib'])
+
+    def test_a_library_of_another_text_is_replaced(self) -> None:
+        self.prove('1', 'a', 'new')
+        self.prove('2', 'a', 'old')
+        (self.library('2', 'a') / 'left').touch()
+        give(self.room / '1', self.room / '2', 'a')
+        self.assertEqual(self.given('2', 'a'), 'new')
+        self.assertFalse((self.library('2', 'a') / 'left').exists())
+
+    def test_a_library_of_the_same_text_stays(self) -> None:
+        self.prove('1', 'a', 'new')
+        self.prove('2', 'a', 'new')
+        (self.library('2', 'a') / 'left').touch()
+        give(self.room / '1', self.room / '2', 'a')
+        self.assertTrue((self.library('2', 'a') / 'left').exists())
+
+    def test_what_was_interrupted_is_given_again(self) -> None:
+        self.prove('1', 'a', 'new')
+        self.library('2', 'a').mkdir(parents=True)
+        give(self.room / '1', self.room / '2', 'a')
+        self.assertEqual(self.given('2', 'a'), 'new')
+
+    def test_a_check_has_all_libraries_of_the_copies_that_proved_them(self) -> None:
+        work = Work(BELOW, CHAINS, 1)
+        work.begun.update('abcd')
+        for copy, name in (('1', 'a'), ('1', 'b'), ('2', 'c'), ('2', 'd')):
+            self.prove(copy, name, name)
+            work.places[name] = self.room / copy
+        with mock.patch.object(
+            proving, 'run_check', return_value=Check(0, b'', 1)
+        ), redirect_stdout(io.StringIO()):
+            prove_in(self.room / '2', work, 0)
+            self.assertEqual((self.given('2', 'a'), self.given('2', 'b')), ('a', 'b'))
+            with mock.patch.object(proving, 'TOP', self.room / 'top'):
+                build_program(work, 0)
+        self.assertEqual([self.given('top', it) for it in 'abcd'], list('abcd'))
+        self.assertEqual(work.places['e'], self.room / '2')
 
 
 # A check that takes so much memory, and then ends as its last word says.
@@ -150,7 +214,7 @@ class Reports(unittest.TestCase):
             out
         ), redirect_stderr(err):
             if work is None:
-                self.status = build_program(4, 0)
+                self.status = build_program(Work(BELOW, CHAINS, 4), 0)
             else:
                 prove_in(Path('/'), work, 0)
         err.flush()

@@ -26,7 +26,7 @@ IN_LOGS = {
     *('lchown32', 'fchown32', 'sync_file_range2', 'ioctl', 'fchmodat2'),
 }
 # Calls that only root may make.
-OF_ROOT = {'chown_', 'chroot_'}
+OF_ROOT = {'chown_', 'chown_symlink', 'chroot_'}
 
 
 def recording_of_log(path: str, top: str) -> Recording:

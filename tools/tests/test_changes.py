@@ -6,9 +6,10 @@ import unittest
 from io import BytesIO
 from typing import List
 
+from crashfs_tools.checker.findings.read_trees import entries_of
 from crashfs_tools.checker.states.changes import Changes, read_changes
 from crashfs_tools.common.archive import ArchiveFault, members
-from crashfs_tools.common.entry import Entries, Entry
+from crashfs_tools.common.entry import Entries
 from crashfs_tools.reading import plan_of, read
 from crashfs_tools.recorder.directory import scan
 
@@ -48,10 +49,7 @@ class Trees:
 
     def tree(self, number: int) -> Entries:
         tree = self.plan.trees.tree(self.plan.states[number][1])
-        return {
-            path[1:]: Entry(owner, group, int(mode, 8), data)
-            for path, ((owner, group, mode), data) in tree.items()
-        }
+        return {path[1:]: entry for path, entry in entries_of(tree).items()}
 
 
 class OfTheSecondReading(InFolder):

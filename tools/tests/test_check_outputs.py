@@ -3,14 +3,17 @@
 import copy
 import json
 import os
+import re
 import stat
 import unittest
+from unittest import mock
 
 from crashfs_tools.checker.running.read_results import read_json
 from crashfs_tools.checker.states.layout import lay_out
 from crashfs_tools.checker.states.rewriting import rewrite
 from crashfs_tools.common.command import Refused, write_whole
 from crashfs_tools.common.entry import Entry
+from crashfs_tools.recorder.log_stream import open_log
 
 from .support import EXAMPLES, InFolder
 from .test_check_command import InStore
@@ -27,6 +30,25 @@ class Outputs(InStore):
                 self.assertEqual((ran.returncode, ran.stdout), (2, ''))
                 self.assertEqual(ran.stderr, f'crashfs-check: {option} {path}: that is TRACE\n')
         self.assertEqual(self.read('own.trace'), before)
+
+    def test_two_reports_are_not_written_to_one_file(self):
+        for one, other in [('r', './r'), ('-', '-')]:
+            ran = self.check('--json', one, '--html', other, self.good, command=['true'])
+            self.assertEqual((ran.returncode, ran.stdout), (2, ''))
+            self.assertEqual(ran.stderr, f'crashfs-check: --html {other}: that is --json\n')
+        ran = self.check('--json', '/dev/null', '--html', '/dev/null', self.good, command=['true'])
+        self.assertEqual(ran.returncode, 0)
+
+    def test_a_file_on_standard_output_is_alone_there(self):
+        ran = self.check('--prefixes', '--json', '-', self.good, command=['true'])
+        self.assertEqual(json.loads(ran.stdout)['stopped'], '')
+        self.assertIn(': none fails\n', ran.stderr)
+
+    def test_a_state_is_laid_out_in_an_absolute_directory(self):
+        with mock.patch.object(self, 'temporary', '.'):
+            ran = self.check('--state', '3', self.good, command=['true'])
+        found = re.search(r'It is laid out in (\S+)\. ', ran.stdout)
+        self.assertTrue(found and os.path.isabs(found[1]), ran.stdout)
 
     def test_nobody_may_read_in_a_report_what_he_may_not_read_in_the_trace(self):
         for mode, wanted in [(0o600, 0o600), (0o640, 0o640), (0o644, 0o644)]:
@@ -63,6 +85,8 @@ class Outputs(InStore):
             os.chown(path, 65534, 65534, follow_symlinks=False)
             with self.assertRaisesRegex(OSError, 'another user made it'):
                 write_whole(path, ['x'])
+            with self.assertRaisesRegex(OSError, 'another user made it'):
+                open_log(path)
         os.chown(self.path('shared', 'link'), 0, 0, follow_symlinks=False)
         write_whole(self.path('shared', 'link'), ['mine'])
         self.assertEqual(self.read('victim'), 'mine')

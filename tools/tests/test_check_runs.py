@@ -179,6 +179,17 @@ class Stops(InCounted):
         self.assert_ended()
         self.assert_nothing_left()
 
+    def test_of_several_jobs_one_failure_is_reported_by_fail_fast(self):
+        """Each process waits until the others are in a state too, and then all fail at once."""
+        command = (
+            'case $CRASHFS_STATE in 0|11) exit;; esac; '
+            f'touch {self.path("met")}.$CRASHFS_STATE; '
+            f'while [ $(ls {self.path("met")}.* | wc -l) -lt 4 ]; do sleep 0.05; done; exit 1'
+        )
+        ran = self.check('--fail-fast', '--jobs', '4', self.good, command=['sh', '-c', command])
+        self.assertEqual(ran.returncode, 1)
+        self.assertRegex(ran.stdout, r': 1 of the [1-4] tried fails: 1 status 1;')
+
     def test_the_first_failure_ends_a_check_by_fail_fast(self):
         ran = self.check(
             '--fail-fast',

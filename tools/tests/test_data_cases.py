@@ -3,6 +3,7 @@ has the command."""
 
 from __future__ import annotations
 
+import json
 import re
 import unittest
 from functools import partialmethod
@@ -20,7 +21,12 @@ from .wire_words import message_of
 PROGRAM = Crashfs.find(None)
 needs_program = needed(PROGRAM is not None, 'crashfs is not built')
 # The commands that the second reading has, by the names of checks.
-READ_TOO = ('list', 'picks', 'fault', 'no', 'states', 'firsts', 'state', 'pick', 'tar')
+READ_TOO = (
+    *('list', 'picks', 'fault', 'no', 'states', 'firsts', 'state', 'pick', 'tar'),
+    *('profiles', 'below'),
+)
+# Areas whose traces have a version that the program may not take yet.
+VERSIONS = {'version_4': 4}
 ANY_LINES = '...'
 
 
@@ -39,6 +45,8 @@ class Cases(InFolder):
         self.runner = Runner(self.folder, self.program)
 
     def run_area(self, area: str) -> None:
+        if not self.takes(VERSIONS.get(area, 1)):
+            self.skipTest(f'{self.program} takes no traces of this version')
         cases = cases_of(area)
         self.assertNotEqual(cases, [])
         for case in cases:
@@ -51,6 +59,16 @@ class Cases(InFolder):
             if self.program is not None or check.name.split()[0] in READ_TOO:
                 yield check
 
+    def takes(self, version: int) -> bool:
+        """Whether what is tested takes traces of a version."""
+        header = (
+            f'{{"trace":{version},"profile":"blocks","block":4096,'
+            '"owner":"cat","group":"staff","mode":"775"}'
+        )
+        if self.program is None or version < 4:
+            return True
+        return self.runner.run(['list'], {'trace': header.encode()}).status == 0
+
     def assert_printed(self, printed: str, wanted: List[str]) -> None:
         if not re.fullmatch(pattern_of(wanted), printed):
             self.assertEqual(printed.splitlines(), wanted)
@@ -59,6 +77,20 @@ class Cases(InFolder):
         self.assert_printed(self.runner.run(check.name.split(), check.given).text(), check.lines)
 
     check_picks = check_tar = check_list
+
+    def check_profiles(self, check: Check) -> None:
+        """In which profiles the state of a set may be left."""
+        given = {**check.given, 'picks': check.name.partition(' ')[2].encode()}
+        ran = self.runner.run(['list', '--json'], given)
+        last = json.loads(ran.text().splitlines()[-1])
+        self.assertEqual([' '.join(last['profiles'])], check.lines)
+
+    def check_below(self, check: Check) -> None:
+        """A command prints fewer bytes than a number."""
+        most, *words = check.name.split()[1:]
+        ran = self.runner.run(words, check.given)
+        self.assertEqual((ran.status, ran.err), (0, b''))
+        self.assertLess(len(ran.out), int(most))
 
     def check_states(self, check: Check) -> None:
         """How many states a trace has."""

@@ -13,8 +13,10 @@ from pathlib import Path
 from typing import Dict, List, Set
 from unittest import mock
 
+from crashfs_tools.checker.findings.read_trees import entries_of
 from crashfs_tools.common.command import Refused
 from crashfs_tools.common.entry import Entries, Entry
+from crashfs_tools.common.sparse import SparseBytes
 from crashfs_tools.common.trace import KINDS, Trace
 from crashfs_tools.common.trace_read import read_trace, replay
 from crashfs_tools.disks import disk, filesystems, images
@@ -60,6 +62,28 @@ ALL_KINDS = """\
 {"op":"sync"}
 """
 
+# What version 4 has besides.
+NEW_KINDS = """\
+{"trace":4,"profile":"blocks","block":4096,"owner":"root","group":"root","mode":"755"}
+{"start":"symlink","path":"/l","owner":"root","group":"root","target":"/etc"}
+{"start":"dir","path":"/d","owner":"root","group":"root","mode":"700"}
+{"start":"symlink","path":"/d/m","owner":"daemon","group":"root","target":"../d/f"}
+{"start":"file","path":"/d/f","owner":"root","group":"root","mode":"644","length":500000000,\
+"parts":[{"at":400000000,"text":"middle"}]}
+{"op":"symlink","path":"/n","owner":"root","group":"daemon","target":"d"}
+{"op":"creat","path":"/d/g","owner":"root","group":"root","mode":"600"}
+{"op":"write","path":"/d/g","offset":20000000,"text":"far"}
+{"op":"rename","from":"/d","to":"/e"}
+{"op":"fdatasync","path":"/e/g"}
+{"op":"write","path":"/e/f","offset":499999999,"text":"end"}
+{"op":"fdatasync","path":"/e/f"}
+{"op":"rename","from":"/n","to":"/l"}
+{"op":"chown","path":"/l","owner":"daemon","group":"daemon"}
+{"op":"mkdir","path":"/d","owner":"root","group":"root","mode":"700"}
+{"op":"rename","from":"/e","to":"/d"}
+{"op":"unlink","path":"/d/m"}
+"""
+
 
 def without_root(tree: Entries) -> Dict[str, Entry]:
     return {path: entry for path, entry in tree.items() if path != '/'}
@@ -72,13 +96,7 @@ def allowed_trees(path: Path) -> Set[str]:
     found = set()
     for places in range(1 << order.count):
         if order.is_allowed(places):
-            tree = {
-                name: Entry(
-                    *rights[:2], int(rights[2], 8), None if data is None else bytearray(data)
-                )
-                for name, (rights, data) in plan.trees.tree(places).items()
-            }
-            found.add(disk.digest_of(tree))
+            found.add(disk.digest_of(entries_of(plan.trees.tree(places))))
     return found
 
 
@@ -128,6 +146,38 @@ class Replays(InFolder):
         self.assertEqual(set(tree), {'/', '/d', '/d/f', '/g', '/e', '/e/b', '/c'})
 
     @unittest.skipIf(os.geteuid() != 0, 'it gives files to others')
+    def test_symbolic_links_holes_and_renamed_directories_are_made_again(self) -> None:
+        tree = self.replayed(read_trace(NEW_KINDS))
+        wanted = replay(NEW_KINDS.splitlines()).entries
+        self.assertEqual(without_root(tree), without_root(wanted))
+        self.assertEqual(set(tree), {'/', '/d', '/d/f', '/d/g', '/l'})
+        self.assertEqual(disk.digest_of(tree), disk.digest_of(wanted))
+        self.assertLess(os.stat(self.path('d/d/f')).st_blocks, 1_000)
+
+    @unittest.skipIf(os.geteuid() != 0, 'it gives files to others')
+    def test_nothing_is_made_through_a_symbolic_link(self) -> None:
+        """No program accepts such a trace."""
+        os.mkdir(self.path('outside'))
+        self.write('outside/f', 'precious', 0o400)
+        before = os.stat(self.path('outside/f'))
+        link = '{"start":"symlink","path":"/l","owner":"root","group":"root","target":"%s"}'
+        for line, target in (
+            ('{"op":"write","path":"/l","offset":0,"text":"x"}', 'outside/f'),
+            ('{"op":"truncate","path":"/l","length":0}', 'outside/f'),
+            ('{"op":"creat","path":"/l","owner":"root","group":"root","mode":"600"}', 'outside/n'),
+            ('{"op":"chown","path":"/l","owner":"daemon","group":"daemon"}', 'outside/f'),
+        ):
+            lines = [NEW_KINDS.partition('\n')[0], link % self.path(target), line]
+            with self.subTest(line):
+                try:
+                    self.replayed(read_trace('\n'.join(lines)))
+                except OSError:
+                    pass
+                self.assertEqual(os.listdir(self.path('outside')), ['f'])
+                self.assertEqual(os.stat(self.path('outside/f')), before)
+                subprocess.run(['rm', '-r', self.path('d')], check=True)
+
+    @unittest.skipIf(os.geteuid() != 0, 'it gives files to others')
     def test_users_that_this_machine_lacks_have_numbers(self) -> None:
         text = ALL_KINDS.replace('"owner":"root"', '"owner":"no such user"')
         tree = self.replayed(read_trace(text))
@@ -151,15 +201,30 @@ class Digests(unittest.TestCase):
             '/a': Entry('u', 'g', 0o644, bytearray()),
         }
         digest = disk.digest_of(tree)
+        digests = [digest]
         for path, entry in [
             ('/a', Entry('u', 'g', 0o644, bytearray(b'x'))),
             ('/a', Entry('u', 'g', 0o600, bytearray())),
             ('/a', Entry('v', 'g', 0o644, bytearray())),
             ('/a', Entry('u', 'g', 0o644, None)),
+            ('/a', Entry('u', 'g', 0o644, None, 'x')),
+            ('/a', Entry('u', 'g', 0o644, None, 'y')),
+            ('/a', Entry('u', 'g', 0o644, bytes(1 << 17))),
+            ('/a', Entry('u', 'g', 0o644, SparseBytes(1 << 17, [(9, b'x')]))),
             ('/b', Entry('u', 'g', 0o644, bytearray())),
         ]:
-            self.assertNotEqual(disk.digest_of({**tree, path: entry}), digest)
+            digests.append(disk.digest_of({**tree, path: entry}))
+        self.assertEqual(len(set(digests)), len(digests))
         self.assertEqual(disk.digest_of(dict(reversed(list(tree.items())))), digest)
+
+    def test_equal_bytes_have_one_digest_however_they_are_kept(self) -> None:
+        for size in (9, 65_535, 65_536, 1 << 20):
+            whole = b'x' * 5 + bytes(size - 6) + b'y'
+            digests = {
+                disk.digest_of({'/a': Entry('u', 'g', 0o644, data)})
+                for data in (whole, bytearray(whole), SparseBytes.of(whole))
+            }
+            self.assertEqual(len(digests), 1, size)
 
 
 class Names(unittest.TestCase):
@@ -169,6 +234,13 @@ class Names(unittest.TestCase):
         )
         with self.assertRaisesRegex(Refused, '--disks zfs: no such file system'):
             filesystems.named(['ext4', 'zfs'])
+
+    def test_images_have_room_for_what_is_written(self) -> None:
+        self.assertEqual(filesystems.bytes_written(read_trace(ALL_KINDS)), 3 * 8192 + 11)
+        ext4 = filesystems.KNOWN['ext4']
+        self.assertEqual(filesystems.with_room(ext4, 8 << 20), ext4)
+        self.assertEqual(filesystems.with_room(ext4, (12 << 20) + 1).size, ext4.size + (9 << 20))
+        self.assertLess(filesystems.bytes_written(read_trace(NEW_KINDS)), 100_000)
 
     def test_what_is_lacking_is_named(self) -> None:
         none = filesystems.FileSystem('none', 'mkfs.nothing', (), 0)
@@ -257,6 +329,32 @@ class Disks(InFolder):
                     if crash.moment.most == 1
                 ]
                 self.assertEqual(last[0] == b'hello'.ljust(4096, b'\0') + b'x' * 4096, bool(sync))
+
+    def test_links_and_renamed_directories_are_durable_by_a_sync_of_their_directory(self) -> None:
+        """An fdatasync makes the bytes of its file durable, and none of them."""
+        lines = [
+            *NEW_KINDS.splitlines()[:2],
+            ALL_KINDS.splitlines()[2].replace('/d/f', '/f'),
+            '{"start":"dir","path":"/d","owner":"root","group":"root","mode":"700"}',
+            '{"op":"write","path":"/f","offset":0,"text":"HELLO"}',
+            '{"op":"fdatasync","path":"/f"}',
+            '{"op":"symlink","path":"/m","owner":"root","group":"root","target":"f"}',
+            '{"op":"rename","from":"/d","to":"/e"}',
+            '{"op":"rename","from":"/m","to":"/l"}',
+        ]
+        for synced in (False, True):
+            text = lines + ['{"op":"fsync","path":"/"}'] * synced + ['{"op":"say","text":"1"}']
+            folder = tempfile.mkdtemp(dir=self.path(''))
+            kind = [filesystems.KNOWN['ext4']]
+            pool = DiskPool(kind, read_trace('\n'.join(text)), folder, [Lever.NOTHING])
+            (tree,) = [
+                one.tree
+                for one in pool.disks(1, lambda *_: None)['ext4']
+                if any(crash.moment.most == 1 for crash in one.crashes)
+            ]
+            self.assertEqual(tree['/f'].data, b'HELLO')
+            self.assertEqual(tree['/l'].link, 'f' if synced else '/etc')
+            self.assertEqual(set(tree), {'/', '/f', '/l', '/e' if synced else '/d'})
 
     def test_a_kill_leaves_nothing_mounted_and_no_process(self) -> None:
         program = (

@@ -141,7 +141,7 @@ class Rows(unittest.TestCase):
         self.assertEqual(
             list(map(text_of, every_set(Order(reading)))), ['[]', '[1]', '[0]', '[0,1]']
         )
-        both = Order(reading).both(Order(reading, 'ordered'))
+        both = Order(reading).within(reading, 'ordered')
         self.assertEqual(list(map(text_of, every_set(both))), ['[]', '[0]', '[0,1]'])
 
 

@@ -58,9 +58,9 @@ def findings_of(text, cause):
     trees = plan_of(read(text.encode())).trees
     for state in results.plan.states:
         files = {
-            path: data
-            for path, (_, data) in trees.tree(results.plan.kept[state.number]).items()
-            if data is not None
+            path: item.content
+            for path, item in trees.tree(results.plan.kept[state.number]).items()
+            if item.data is not None
         }
         found = cause(files, state.says)
         results.outcomes[state.number] = Outcome(BAD, found) if found else Outcome(GOOD)

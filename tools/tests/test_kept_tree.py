@@ -11,6 +11,8 @@ from crashfs_tools.checker.running.trying import has_large_trees
 from crashfs_tools.checker.states import kept_tree
 from crashfs_tools.checker.states.kept_tree import KeptTree
 from crashfs_tools.common.entry import Entry
+from crashfs_tools.common.file_bytes import file_bytes
+from crashfs_tools.common.sparse import SparseBytes
 
 from .support import FAKE, InFolder
 from .test_check_command import InStore
@@ -218,6 +220,30 @@ class Kept(InFolder):
             kept.bring({**tree, 'a': replace(tree['a'], data=whole[::-1])})
         self.assertEqual(sum(len(call.args[1]) for call in written.mock_calls), len(whole))
         kept.remove()
+
+    def test_a_file_with_holes_takes_no_room_for_them(self):
+        sparse = SparseBytes(1 << 30, [(5, b'one'), (1 << 29, b'two')])
+        other = SparseBytes(1 << 30, [(5, b'one'), (3 << 28, b'new')])
+        tree = {'': folder(), 'a': replace(file(''), data=sparse)}
+        for has_times in (True, False):
+            kept = KeptTree(self.place)
+            kept.bring(tree)
+            kept.has_times = has_times
+            for deed, data in (
+                ('true', other),
+                ('printf xxx | dd of=a conv=notrunc bs=1 seek=700M 2> ../told', sparse),
+                ('truncate -s 600M a', other),
+                (': > a', sparse),
+                ('cp --sparse=always a b; mv b a', other),
+            ):
+                with self.subTest(deed, has_times=has_times):
+                    kept.begin()
+                    subprocess.run(['sh', '-c', deed], cwd=self.place, check=True)
+                    kept.bring({**tree, 'a': replace(tree['a'], data=data)})
+                    with open(self.path('kept', 'a'), 'rb', buffering=0) as stream:
+                        self.assertEqual(file_bytes(stream.fileno()), data)
+                        self.assertLess(os.fstat(stream.fileno()).st_blocks, 1_000)
+            kept.remove()
 
     def test_a_large_file_with_a_new_attribute_is_made_again(self):
         tree = {'': folder(), 'a': file('x' * 70_000)}

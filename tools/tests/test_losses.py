@@ -129,7 +129,7 @@ class Guesses(InStore):
             def try_sets(self, sets):
                 says = findings.plan.says
                 for kept in sets:
-                    files = {path for path, (_, data) in trees.tree(kept).items()}
+                    files = set(trees.tree(kept))
                     found = cause(files, bin(kept & says).count('1'))
                     self.known[kept] = Outcome(BAD, found) if found else Outcome(GOOD)
                     runs.append(kept)

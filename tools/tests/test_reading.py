@@ -1,5 +1,4 @@
-"""The second reading: rows of version 3, the faults of lines, and random traces beside the
-program's reading of them."""
+"""The second reading: rows of version 3, the faults of lines, and its command line."""
 
 import itertools
 import os
@@ -7,16 +6,15 @@ import subprocess
 import unittest
 from pathlib import Path
 
-from crashfs_tools.common.program import Crashfs
 from crashfs_tools.reading import ReadingFault, count_states, plan_of, read
 from crashfs_tools.reading.listing import listing
-from crashfs_tools.reading.plan import different, file_sets, lost_sets, read_picks
+from crashfs_tools.reading.plan import different, file_sets, read_picks
 
 from .random_traces import RandomTrace
-from .support import EXAMPLES, FAKE, InFolder, needed
+from .support import EXAMPLES, FAKE, InFolder
+from .test_beside_program import NEEDS_LOST, read_of
 
 ROWS = Path(__file__).with_name('data') / 'version-3'
-TRACES = 300
 ROOT = '"owner":"cat","group":"staff","mode":"775"'
 HEADERS = {
     1: f'{{"trace":1,{ROOT}}}\n',
@@ -26,18 +24,6 @@ HEADERS = {
 RIGHTS = '"owner":"ann","group":"staff","mode":"644"'
 CREAT = f'{{"op":"creat","path":"%s",{RIGHTS}}}\n'
 A, B = CREAT % '/a', CREAT % '/b'
-
-NEEDS_LOST = (
-    HEADERS[3]
-    + A
-    + """\
-{"op":"write","path":"/a","offset":0,"text":"aaaa"}
-{"op":"write","path":"/a","offset":4,"text":"bb"}
-{"op":"fsync_range","path":"/a","offset":4,"length":2}
-{"op":"say","text":"1"}
-{"op":"say","text":"2"}
-"""
-)
 
 
 def row(name):
@@ -91,7 +77,7 @@ class Rows(unittest.TestCase):
         def contents(name, number):
             plan = plan_of(read(row(name).encode()), True)
             tree = plan.trees.tree(plan.states[number][1])
-            return {path: data for path, (_, data) in tree.items() if path != '/'}
+            return {path: item.content for path, item in tree.items() if path != '/'}
 
         self.assertEqual(contents('row46.trace', 4), {'/t': b'm', '/m': b'm'})
         self.assertEqual(contents('row46.trace', 15), {})
@@ -130,6 +116,10 @@ class Rows(unittest.TestCase):
         self.assertEqual(list(different(file_sets(plan_of(read(text.encode()))))), [[0], [0, 3]])
 
 
+def contents_of(tree):
+    return [(path, item.kind, item.rights, item.content) for path, item in sorted(tree.items())]
+
+
 class Digests(unittest.TestCase):
     def test_states_have_the_same_digest_just_if_their_trees_are_equal(self):
         write = '{"op":"write","path":"/a","offset":%d,"text":"aaaa"}\n'
@@ -158,7 +148,7 @@ class Digests(unittest.TestCase):
             except ReadingFault:
                 continue
             trees = [
-                (plan.trees.digest(places), sorted(plan.trees.tree(places).items()))
+                (plan.trees.digest(places), contents_of(plan.trees.tree(places)))
                 for _, places in plan.states
             ]
             first = {}
@@ -206,7 +196,10 @@ class Faults(unittest.TestCase):
             (third.replace('4096', '4096.0'), '1: Syntax'),
             (third.replace('4096', '"4096"'), '1: Syntax'),
             (third.replace('"block":4096,', ''), '1: Syntax'),
-            (third.replace('"trace":3', '"trace":4'), '1: Syntax'),
+            (third.replace('"trace":3', '"trace":4'), None),
+            (third.replace('"trace":3', '"trace":5'), '1: Syntax'),
+            (third.replace('blocks', 'journal'), '1: Syntax'),
+            (third.replace('"trace":3', '"trace":4').replace('blocks', 'journal'), None),
             (third.replace('"trace":3', '"trace":2'), '1: Syntax'),
             (third.replace('cat', ''), '1: BadName'),
             (third + third, '2: Syntax'),
@@ -270,68 +263,6 @@ class Faults(unittest.TestCase):
                 read_picks(b'[]\n' + line)
 
 
-def program_of(version):
-    """The program that is built here or on PATH, if it takes traces of the version."""
-    program = Crashfs.find(None)
-    if program is None:
-        return None
-    row_43 = str(ROWS / 'row43.trace')
-    ran = subprocess.run(
-        [program.path, 'list', '--trace', row_43],
-        check=False,
-        stdout=subprocess.DEVNULL,
-        stderr=subprocess.DEVNULL,
-    )
-    return program.path if version < 3 or ran.returncode == 0 else None
-
-
-class BesideTheProgram(InFolder):
-    """What the program prints for random traces, and what the second reading does."""
-
-    def compare(self, version, program):
-        texts = [RandomTrace(version, seed).text() for seed in range(TRACES)]
-        for seed, text in enumerate(texts + ([NEEDS_LOST] if version == 3 else [])):
-            trace = self.write('random.trace', text)
-            with self.subTest(version=version, seed=seed):
-                for words in (
-                    ['list', '--holes', '--lines', '--same'],
-                    ['picks', '--lost'],
-                    ['picks', '--files'],
-                ):
-                    self.assertEqual(self.printed(program, words, trace), wanted(words, text))
-
-    @staticmethod
-    def printed(program, words, trace):
-        ran = subprocess.run(
-            [program, *words, '--trace', trace],
-            stdout=subprocess.PIPE,
-            stderr=subprocess.PIPE,
-            text=True,
-            check=False,
-        )
-        return ran.stdout or ran.stderr.partition('\n')[0].replace('crashfs: ', '')
-
-    @needed(program_of(1) is not None, 'crashfs is not built')
-    def test_random_traces_of_versions_1_and_2(self):
-        for version in (1, 2):
-            self.compare(version, program_of(version))
-
-    @needed(program_of(3) is not None, 'a crashfs that takes traces of version 3 is not there')
-    def test_random_traces_of_version_3(self):
-        self.compare(3, program_of(3))
-
-
-def wanted(words, text):
-    try:
-        plan = plan_of(read(text.encode()), words[0] == 'list')
-    except ReadingFault as fault:
-        return str(fault)
-    if words[0] == 'list':
-        return ''.join(listing(plan, True, True))
-    sets = different(lost_sets(plan) if '--lost' in words else file_sets(plan))
-    return ''.join(f'{places}\n'.replace(' ', '') for places in sets)
-
-
 class AsAProgram(InFolder):
     def run_reading(self, *words):
         return subprocess.run(
@@ -348,7 +279,7 @@ class AsAProgram(InFolder):
             text = RandomTrace(version, seed).text()
             self.assertEqual(text, RandomTrace(version, seed).text())
             for words in (['list'], ['--lost'], ['--files']):
-                wanted(words, text)
+                read_of(words, text)
 
     def test_faults_are_printed_as_the_program_prints_them_and_then_why(self):
         mode = HEADERS[1].replace('775', '0775')

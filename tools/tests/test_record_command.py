@@ -131,7 +131,7 @@ class Records(InRecordings):
         self.assertEqual(ran.returncode, 4, ran.stderr)
         self.assertIn('/s: it gets the mode bits 2000, beyond 777', ran.stderr)
         self.assertEqual(self.record('echo 2 > s/new').returncode, 4)
-        self.assertEqual(self.record('ln -s x link').returncode, 3)
+        self.assertEqual(self.record('mkfifo pipe').returncode, 3)
 
     @needs_version_3
     def test_a_trace_begins_after_a_line(self):
@@ -172,9 +172,9 @@ class Records(InRecordings):
         self.assertEqual(len(self.read('real.trace').splitlines()), 4)
 
     def test_what_no_trace_says_is_told_and_the_rest_is_written(self):
-        ran = self.record('ln -s old link; chmod 600 old; echo 2 > new; exit 4')
+        ran = self.record('mkfifo pipe; chmod 600 old; echo 2 > new; exit 4')
         self.assertEqual(ran.returncode, 3)
-        for told in ['/link: a symbolic link was made', 'COMMAND ended with status 4']:
+        for told in ['/pipe: a device or a named pipe was made', 'COMMAND ended with status 4']:
             self.assertIn(told, ran.stderr)
         self.assertEqual(len(self.operations()), 3)
 
@@ -191,10 +191,10 @@ class Records(InRecordings):
         self.assertTrue(self.read('out.trace').startswith(start), ran.stderr)
 
     def test_a_start_tree_leaves_out_what_no_trace_says(self):
-        os.symlink('old', self.path('d', 'link'))
+        os.mkfifo(self.path('d', 'pipe'))
         ran = self.record('echo 2 >> old')
         self.assertEqual(ran.returncode, 3)
-        self.assertIn('/link: the start tree leaves out a symbolic link', ran.stderr)
+        self.assertIn('/pipe: the start tree leaves out a named pipe', ran.stderr)
         self.assertEqual(len(self.operations()), 1)
 
     def test_ignored_files_stand_nowhere(self):

@@ -200,9 +200,11 @@ ctypes.CDLL(None).chmod(b'f', 0o100640)
         os.unlink(self.path('d', 'here'))
         self.assertEqual(self.record('echo ${PWD}2 > other').returncode, 0)
         self.assertIn('/here: it has the path', self.record('echo $PWD > here').stderr)
+        os.unlink(self.path('d', 'here'))
+        self.assertIn('/link: it has the path', self.record('ln -s $PWD/other link').stderr)
 
     def test_a_file_that_is_too_large_is_one_line(self):
-        ran = self.record('truncate -s 20M f')
+        ran = self.record('truncate -s 2G f')
         self.assertEqual(ran.returncode, 3)
         self.assertEqual(ran.stderr.count('/f: '), 1, ran.stderr)
 

@@ -1,10 +1,12 @@
 """Directories of any depth and any modes are removed, and nothing else is."""
 
+import errno
 import os
 import subprocess
 import sys
 import tempfile
 import unittest
+from unittest import mock
 
 from crashfs_tools.common.removal import remove_tree
 
@@ -51,6 +53,34 @@ class Removes(InFolder):
             os.chmod(self.path('top', name), mode)
         os.chmod(self.path('top'), 0o500)
         self.assertTrue(self.remove(self.path('top')))
+        self.assertEqual(os.listdir(self.folder), ['tmp'])
+
+    def test_a_full_disk_has_no_place_for_a_directory(self):
+        """Removing needs a directory of its own; something that goes first makes its place."""
+        make, full = os.mkdir, OSError(errno.ENOSPC, 'No space left on device')
+
+        def make_if_one_is_gone(*words):
+            if len(list(os.walk(self.path('top')))) + self.files_below('top') == before:
+                raise full
+            make(*words)
+
+        for files in (['file'], ['a/b/c/file'], ['a/b', 'a/c']):
+            for name in files:
+                os.makedirs(os.path.dirname(self.path('top', name)), exist_ok=True)
+                self.write(f'top/{name}', 'x')
+            os.makedirs(self.path('top', 'empty'), exist_ok=True)
+            before = len(list(os.walk(self.path('top')))) + self.files_below('top')
+            with mock.patch.object(os, 'mkdir', make_if_one_is_gone):
+                self.assertTrue(remove_tree(self.path('top')))
+            self.assertEqual(os.listdir(self.folder), ['tmp'])
+
+    def files_below(self, name):
+        return sum(len(files) for _, _, files in os.walk(self.path(name)))
+
+    def test_an_empty_directory_needs_no_place(self):
+        os.mkdir(self.path('top'))
+        with mock.patch.object(os, 'mkdir', side_effect=OSError(errno.ENOSPC, 'full')):
+            self.assertTrue(remove_tree(self.path('top')))
         self.assertEqual(os.listdir(self.folder), ['tmp'])
 
     def test_what_a_link_names_stays(self):

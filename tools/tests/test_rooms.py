@@ -18,7 +18,7 @@ ROOMS: Dict[str, Set[str]] = {
     'common': set(),
     'recorder.calls': {'common', 'recorder'},
     'recorder': {'common', 'reading', 'recorder.calls'},
-    'checker.states': {'common', 'checker.options'},
+    'checker.states': {'common', 'reading', 'checker.options'},
     'checker.running': {'common', 'checker.options', 'checker.states'},
     'disks': {'common'},
     'checker.findings': {

@@ -69,8 +69,13 @@ class Wanted:
         """(kind, mode, owner, group, bytes) by path, the root's among them."""
         tree = self.plan.trees.tree(self.plan.states[number][1])
         return {
-            path: ('d' if data is None else '-', int(mode, 8), owner, group, data or b'')
-            for path, ((owner, group, mode), data) in tree.items()
+            path: (
+                {'dir': 'd', 'file': '-', 'symlink': 'l'}[item.kind],
+                int(item.rights[2], 8),
+                *item.rights[:2],
+                item.content or b'',
+            )
+            for path, item in tree.items()
         }
 
 

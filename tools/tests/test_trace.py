@@ -4,11 +4,13 @@ import subprocess
 import unittest
 
 from crashfs_tools.common import limits
+from crashfs_tools.common.entry import Entry
 from crashfs_tools.common.program import Crashfs
 from crashfs_tools.common.trace import (
     Chmod,
     Chown,
     Creat,
+    Fdatasync,
     FsyncRange,
     Header,
     Link,
@@ -76,6 +78,25 @@ LINKED = (
 {"op":"rename","from":"/h","to":"/d/f"}
 """
 )
+HEADER_4 = HEADER_3.replace('3', '4', 1)
+# All that version 4 has and version 3 has not.
+MOVED = (
+    (
+        HEADER_4.replace('blocks', 'journal')
+        + """\
+{"start":"dir","path":"/d","owner":"ann","group":"staff","mode":"755"}
+{"start":"file","path":"/d/f",RIGHTS,"length":64000000,"parts":PARTS}
+{"start":"file","path":"/d/g",RIGHTS,"length":1073741824,"parts":[]}
+{"start":"symlink","path":"/d/l","owner":"ann","group":"staff","target":"../é"}
+{"op":"symlink","path":"/m","owner":"ann","group":"staff","target":"d"}
+{"op":"fdatasync","path":"/d/f"}
+{"op":"rename","from":"/d","to":"/e"}
+{"op":"write","path":"/e/g","offset":1073741823,"text":"z"}
+"""
+    )
+    .replace('RIGHTS', '"owner":"ann","group":"staff","mode":"644"')
+    .replace('PARTS', '[{"at":0,"text":"x"},{"at":63999991,"bytes":"ff"}]')
+)
 TWO_FILES = """\
 {"op":"creat","path":"/a","owner":"ann","group":"staff","mode":"644"}
 {"op":"creat","path":"/b","owner":"ann","group":"staff","mode":"644"}
@@ -91,7 +112,7 @@ class Traces(unittest.TestCase):
         for name in EXAMPLE_TRACES:
             lines = [line for line in example(name).split('\n') if line]
             self.assertEqual(list(read_trace(example(name)).lines()), lines)
-        for text in (RIGHTS, LINKED):
+        for text in (RIGHTS, LINKED, MOVED):
             self.assertEqual('\n'.join(read_trace(text).lines()) + '\n', text)
 
     def test_two_paths_of_a_file_are_one_file(self):
@@ -103,6 +124,22 @@ class Traces(unittest.TestCase):
         self.assertEqual((tree.micro_operations, tree.records), (8, 5))
         small = replay(LINKED.replace('4096', '512').split('\n'))
         self.assertEqual(small.micro_operations, 8)
+
+    def test_files_with_holes_and_symbolic_links_are_below_a_renamed_directory(self):
+        tree = replay(MOVED.split('\n'))
+        self.assertEqual(sorted(tree.entries), ['/', '/e', '/e/f', '/e/g', '/e/l', '/m'])
+        data = tree.entries['/e/f'].data
+        self.assertEqual(
+            (len(data), data[:2], data[63999990:]), (64_000_000, b'x\0', b'\0\xff' + bytes(8))
+        )
+        self.assertEqual(tree.entries['/e/g'].data[-2:], b'\0z')
+        self.assertEqual(tree.entries['/e/l'], Entry('ann', 'staff', 0o777, None, '../é'))
+        self.assertEqual([entry.is_directory for entry in tree.entries.values()].count(True), 2)
+
+    def test_versions_before_4_have_a_sync_of_all_bytes_for_an_fdatasync(self):
+        trace = Trace(Header('u', 'u', 0o755), [], [Fdatasync('/a')], version=3)
+        sync = '{"op":"fsync_range","path":"/a","offset":0,"length":16777216}'
+        self.assertEqual(list(trace.lines())[1:], [sync])
 
     def test_bytes_are_a_text_where_people_can_read_them(self):
         for data, shown in [

@@ -4,7 +4,7 @@ import unittest
 from unittest import mock
 
 from .support import needs_version_3, operations_of, recording_of, short
-from .translated_calls import CASES, FILE, IN_DIRECTORY, OPEN_F
+from .translated_calls import CASES, FILE, OPEN_F
 from .translated_syncs import SYNCS
 
 
@@ -33,18 +33,6 @@ class Calls(unittest.TestCase):
         ]
         recording = recording_of(log, [], lambda path: path.endswith('.tmp'))
         self.assertEqual((recording.trace.operations, recording.troubles.values()), ([], []))
-
-    def test_what_happens_below_a_renamed_directory_is_left_out(self):
-        log = [
-            '1 rename("s", "t") = 0',
-            '1 openat(AT_FDCWD</d>, "t/f", O_WRONLY) = 3</d/t/f>',
-            '1 write(3</d/t/f>, "hi", 2) = 2',
-            '1 openat(AT_FDCWD</d>, "t/new", O_WRONLY|O_CREAT, 0666) = 4</d/t/new>',
-            '1 mkdir("s", 0777) = 0',
-        ]
-        recording = recording_of(log, IN_DIRECTORY)
-        self.assertEqual(recording.trace.operations, [])
-        self.assertEqual({trouble.where for trouble in recording.troubles.values()}, {'/s'})
 
     def test_a_trace_of_version_2_has_what_it_can_say(self):
         log = [

@@ -6,13 +6,18 @@ import unittest
 
 from crashfs_tools.common.entry import Entry
 from crashfs_tools.common.trace import (
+    Chown,
     Creat,
+    Fsync,
     Header,
     Link,
     Mkdir,
+    Operation,
     Rename,
     Start,
     StartLink,
+    StartSymlink,
+    Truncate,
     Unlink,
     Write,
 )
@@ -55,6 +60,65 @@ class Links(unittest.TestCase):
         tree.apply(Creat('/d/f', 'u', 'g', 0o600))
         self.assertEqual(set(tree.files), set(tree.entries))
         self.assertEqual(len(set(tree.files.values())), len(tree.files) - 1)
+
+
+def tree_4(profile: str) -> Tree:
+    """A tree of version 4 with two directories, a file in each and a symbolic link."""
+    tree = Tree('r', 'g', 0o755, 512, 4, profile)
+    for path in ('/d', '/e'):
+        tree.start(Start(path, 'u', 'g', 0o755, None))
+    tree.start(Start('/d/f', 'u', 'g', 0o644, b'x' * 5000))
+    tree.start(StartSymlink('/e/l', 'u', 'g', 'f'))
+    return tree
+
+
+class Version4(unittest.TestCase):
+    def steps(self, *operations: Operation, profile: str = 'blocks') -> int:
+        tree = tree_4(profile)
+        for operation in operations:
+            self.assertIsNone(tree.fault(operation))
+            tree.apply(operation)
+        return tree.micro_operations
+
+    def test_some_operations_are_several_micro_operations(self) -> None:
+        for operation, steps in [
+            (Write('/d/f', 5000, b'y' * 4000), 2 + 9),
+            (Write('/d/f', 5000, b'y' * 3192), 1 + 7),
+            (Truncate('/d/f', 1), 8 + 1),
+            (Truncate('/d/f', 4500), 2 + 1),
+            (Truncate('/d/f', 4096), 1),
+            (Truncate('/d/f', 6000), 1),
+            (Rename('/d/f', '/e/f'), 2),
+            (Rename('/e/l', '/d/f'), 2),
+            (Rename('/d/f', '/d/g'), 1),
+            (Rename('/d', '/e/d'), 1),
+            (Rename('/d', '/d'), 0),
+        ]:
+            self.assertEqual(self.steps(operation), steps, type(operation))
+        self.assertEqual(self.steps(Rename('/d/f', '/e/f'), profile='journal'), 1)
+        tree = tree_4('blocks')
+        tree.version = 3
+        tree.apply(Truncate('/d/f', 1))
+        self.assertEqual((tree.micro_operations, tree.steps_of_version_4), (1, 8))
+
+    def test_what_a_trace_cant_have(self) -> None:
+        for operation, fault in [
+            (Rename('/d', '/d/x'), '/d/x is below /d'),
+            (Rename('/d', '/e/l'), '/e/l is no directory of the trace'),
+            (Rename('/d', '/e'), '/e has entries'),
+            (Rename('/e/l', '/d'), '/d is a directory'),
+            (Write('/e/l', 0, b'x'), '/e/l is a symbolic link'),
+            (Fsync('/e/l'), '/e/l is a symbolic link'),
+            (Creat('/e/l/x', 'u', 'g', 0o600), '/e/l is no directory of the trace'),
+            (Truncate('/d/f', 1 << 30), None),
+            (Truncate('/d/f', (1 << 30) + 1), 'a file of more than 1073741824 bytes'),
+            (Unlink('/e/l'), None),
+            (Chown('/e/l', 'a', 'b'), None),
+        ]:
+            self.assertEqual(tree_4('blocks').fault(operation), fault, operation)
+        tree = tree_4('blocks')
+        tree.version = 3
+        self.assertEqual(tree.fault(Rename('/d', '/x')), '/d is a directory')
 
 
 class Lines(unittest.TestCase):

@@ -2,12 +2,13 @@
 
 import unittest
 
+from crashfs_tools.common.trace import StartSymlink
+
 from .support import recording_of
 from .translated_calls import FILE, IN_DIRECTORY, OPEN_F, TWO_FILES
 
 # (what is told, the start tree, the log)
 TROUBLES = [
-    ('/s: a directory was renamed to /t', IN_DIRECTORY, ['1 rename("s", "t") = 0']),
     (
         '/f: a file of O_TMPFILE that was synced before it had this name',
         [],
@@ -75,7 +76,6 @@ TROUBLES = [
         FILE,
         ['1 splice(3<pipe:[4]>, NULL, 1<pipe:[7]>, NULL, 4, 0) = 4'],
     ),
-    ('/l: a symbolic link was made', [], ['1 symlink("f", "l") = 0']),
     ('/f: renamed to from outside the directory', FILE, ['1 rename("/etc/a", "f") = 0']),
     (
         '/f: exchanged with /g',
@@ -126,6 +126,30 @@ TROUBLES = [
 ]
 
 
+# What traces of version 3 don't say, with what they leave out.
+OLD_TROUBLES = [
+    (
+        '/s: a directory was renamed to /t: no trace can say it; what is done below it is left out',
+        IN_DIRECTORY,
+        [
+            '1 rename("s", "t") = 0',
+            '1 openat(AT_FDCWD</d>, "t/f", O_WRONLY) = 3</d/t/f>',
+            '1 write(3</d/t/f>, "hi", 2) = 2',
+            '1 openat(AT_FDCWD</d>, "t/new", O_WRONLY|O_CREAT, 0666) = 4</d/t/new>',
+        ],
+    ),
+    ('/l: a symbolic link was made', [], ['1 symlink("a", "l") = 0']),
+    (
+        '/l: the start tree leaves out a symbolic link',
+        [StartSymlink('/l', 'u', 'u', 'a')],
+        ['1 mkdir("l", 0777) = -1 EEXIST (File exists)'],
+    ),
+    (
+        '/f: ftruncate is left out: a file of more than 16777216 bytes',
+        FILE,
+        [OPEN_F, '1 ftruncate(3</d/f>, 16777217) = 0', '1 write(3</d/f>, "x", 1) = 1'],
+    ),
+]
 # What is only noted.
 NOTES = [
     (
@@ -154,6 +178,15 @@ class Troubles(unittest.TestCase):
                     self.assertEqual(len(told), 1, told)
                     self.assertTrue(str(told[0]).startswith(wanted), str(told[0]))
                     self.assertEqual(told[0].is_note, are_notes)
+
+    def test_what_version_3_can_not_say_is_left_out_and_told(self):
+        for wanted, start, log in OLD_TROUBLES:
+            with self.subTest(wanted):
+                recording = recording_of(log, start, version=3)
+                told = recording.troubles.values()
+                self.assertEqual(len(told), 1, told)
+                self.assertTrue(str(told[0]).startswith(wanted), str(told[0]))
+                self.assertEqual((recording.trace.version, recording.trace.operations), (3, []))
 
 
 if __name__ == '__main__':

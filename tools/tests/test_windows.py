@@ -5,6 +5,7 @@ import unittest
 from types import SimpleNamespace
 from unittest import mock
 
+from crashfs_tools.checker.findings.read_trees import entries_of
 from crashfs_tools.checker.report.report import Report
 from crashfs_tools.checker.running.results import Head, Results, known_states
 from crashfs_tools.checker.states.plan import Before, Planned, places_of, read_plan
@@ -12,7 +13,6 @@ from crashfs_tools.checker.states.planning import Planner
 from crashfs_tools.checker.states.steps import Session, Steps
 from crashfs_tools.checker.states.windows import Windows
 from crashfs_tools.common import limits
-from crashfs_tools.common.entry import Entry
 from crashfs_tools.common.program import ProgramFault
 from crashfs_tools.common.trace_text import read_text
 from crashfs_tools.reading import ReadingFault, plan_of, read
@@ -62,6 +62,8 @@ def log_of(count):
 class Reader:
     """The second reading in this process, in the place of the program."""
 
+    picks_options = frozenset()
+
     @staticmethod
     def plan(options):
         with open(options['--trace'], 'rb') as file:
@@ -88,16 +90,13 @@ class Reader:
         options = read_options(['tar', *words])
         plan = self.plan(options)
         tree = plan.trees.tree(plan.states[int(options['--state'])][1])
-        return {
-            path: Entry(owner, group, int(mode, 8), None if data is None else bytearray(data))
-            for path, ((owner, group, mode), data) in tree.items()
-        }
+        return entries_of(tree)
 
 
 class InWindows(InStore):
     def made(self, text, size, quick=False):
         options = SimpleNamespace(
-            prefixes=False, has_lost=not quick, has_files=not quick, serve=None
+            prefixes=False, has_lost=not quick, has_files=not quick, serve=None, has_every=False
         )
         guard = SimpleNamespace(directory=self.temporary, environment={})
         return Windows(Planner(options, Reader(), guard), Session('w', text), size)

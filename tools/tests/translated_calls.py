@@ -20,7 +20,7 @@ CASES = [
             '1 fdatasync(3</d/a>) = 0',
             '1 close(3</d/a>) = 0',
         ],
-        ['creat /a', 'write /a 0 hi', 'write /a 2 yo', 'fsyncrange /a 0 16777216'],
+        ['creat /a', 'write /a 0 hi', 'write /a 2 yo', 'fdatasync /a'],
     ),
     (
         'a file outside is none of ours',

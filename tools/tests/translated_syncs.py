@@ -39,7 +39,7 @@ SYNCS = [
         ],
         [
             'chmod /s/f 600',
-            'fsyncrange /s/f 0 16777216',
+            'fdatasync /s/f',
             'fsync /s',
             'chmod /s 700',
             'fsync /s',

@@ -39,17 +39,22 @@ fn workers_of(rt: &impl Threads, workers: u32) -> u32 {
     }
 }
 
-/// The sets that the options of `picks` ask for.
+/// The sets that the options of `picks` ask for. One of them is given: the command line is refused
+/// otherwise.
 fn sets_of(options: PicksOptions) -> PickSets {
-    match options {
-        PicksOptions::Families { lost, files } => PickSets::Of(match (lost, files) {
-            (true, true) => Family::Both,
-            (true, false) => Family::Lost,
-            (false, _) => Family::Files,
-        }),
-        PicksOptions::Every { most } => PickSets::Every(most),
-        PicksOptions::Count => PickSets::Count,
-        PicksOptions::Sample { seed, count } => PickSets::Sample(seed, count),
+    if let Some(sample) = options.sample {
+        return PickSets::Sample(sample.seed, sample.count);
+    }
+    if options.count {
+        return PickSets::Count;
+    }
+    if options.every {
+        return PickSets::Every(options.most);
+    }
+    match (options.lost, options.files) {
+        (true, true) => PickSets::Of(Family::Both),
+        (true, false) => PickSets::Of(Family::Lost),
+        _ => PickSets::Of(Family::Files),
     }
 }
 

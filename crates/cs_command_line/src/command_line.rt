@@ -3,15 +3,15 @@ use crate::commands::{command, tar_command};
 use clap::error::ErrorKind;
 use clap::{ArgMatches, Error};
 use cs_options::{
-    Ask, Client, Job, ListOptions, PicksOptions, Serving, StateRange, States, Wanted,
+    Ask, Client, Job, ListOptions, PicksOptions, Sample, Serving, StateRange, States, Wanted,
 };
 use std::alloc::{AllocError, Global};
 
 /// How many connections are served if the command line doesn't say.
 const CONNECTIONS: u32 = 64;
 
-/// How many sets `picks --every` prints at most if the command line doesn't say.
-const SETS: u32 = 1_000_000;
+/// How many sets are printed at most if the command line doesn't say.
+const MOST_SETS: u32 = 1_000_000;
 
 /// The path of the trace: the argument, else the value of `--trace`. Exactly one of them is given:
 /// the command line is refused otherwise.
@@ -93,25 +93,22 @@ fn states_of(alloc: Global, matches: &ArgMatches) -> Result<Option<States>, Allo
     Ok(Some(States::Changes(ranges)))
 }
 
-/// What `picks` prints. One of its groups of options is given: the command line is refused
-/// otherwise.
+/// What `picks` prints. One of the options that say so is given, and `--sample` and `--seed` go
+/// together: the command line is refused otherwise.
 fn picks_of(matches: &ArgMatches) -> PicksOptions {
-    if matches.get_flag("count") {
-        return PicksOptions::Count;
-    }
-    if matches.get_flag("every") {
-        return PicksOptions::Every {
-            most: matches.get_one("most").unwrap_or(SETS),
-        };
-    }
-    match matches.get_one("sample") {
-        Some(count) => PicksOptions::Sample {
-            seed: matches.get_one("seed").unwrap_or(0),
-            count,
-        },
-        None => PicksOptions::Families {
-            lost: matches.get_flag("lost"),
-            files: matches.get_flag("files"),
+    let count: Option<u32> = matches.get_one("sample");
+    PicksOptions {
+        lost: matches.get_flag("lost"),
+        files: matches.get_flag("files"),
+        every: matches.get_flag("every"),
+        count: matches.get_flag("count"),
+        most: matches.get_one("most").unwrap_or(MOST_SETS),
+        sample: match count {
+            Some(count) => Some(Sample {
+                count,
+                seed: matches.get_one("seed").unwrap_or(0),
+            }),
+            None => None,
         },
     }
 }

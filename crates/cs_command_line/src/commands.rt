@@ -14,12 +14,6 @@ const CLIENTS: [&str; 2] = ["plan9", "linux"];
 /// The most workers, and the most connections.
 const MOST: i64 = WORKERS as i64;
 
-/// The most sets that `--every` prints.
-const MOST_SETS: i64 = 16_777_216;
-
-/// The most sets that `--sample` draws.
-const MOST_DRAWN: i64 = 16_384;
-
 /// The option `--name` with a value, which the help shows as `shown`.
 fn value_argument<'a>(alloc: Global, name: &'a str, shown: &'a str, help: &'a str) -> Arg<'a> {
     Arg::new(alloc, name)
@@ -117,58 +111,46 @@ pub fn tar_command<'a>(alloc: Global) -> Result<Command<'a>, AllocError> {
     with_states(alloc, tar)
 }
 
-/// The command, to which the options for all sets are added.
+/// The command, to which the options of `picks` that say which sets of all are printed are added.
 fn with_every<'a>(alloc: Global, command: Command<'a>) -> Result<Command<'a>, AllocError> {
-    let every = flag(alloc, "every", "All sets that a crash may leave, in order");
-    let every = every.conflicts_with_all(&["lost", "files", "sample"])?;
-    let most =
-        "With --every: prints nothing if there are more sets; 1 to 16777216, default 1000000";
+    let every = "All sets that a crash may leave";
+    let count = "Only how many sets there are";
+    let most = "The most sets that are printed, 1 to 16777216; default 1000000";
+    let sample = "Sets that are drawn one after the other, 1 to 16384";
+    let seed = "The number by which they are drawn";
+    let every = flag(alloc, "every", every).conflicts_with_all(&["lost", "files"])?;
+    let count = flag(alloc, "count", count).requires_arg("every")?;
     let most = value_argument(alloc, "most", "N", most)
-        .value_parser(value_parser!(u32).range(1..=MOST_SETS))
-        .requires_arg("every")?;
-    let count = flag(
-        alloc,
-        "count",
-        "With --every: prints only how many sets there are",
-    );
-    let count = count.requires_arg("every")?.conflicts_with("most")?;
-    command.arg(every)?.arg(most)?.arg(count)
-}
-
-/// The command, to which the options for a sample of the sets are added.
-fn with_sample<'a>(alloc: Global, command: Command<'a>) -> Result<Command<'a>, AllocError> {
-    let sample =
-        "So many sets, 1 to 16384, drawn at random from all that a crash may leave; needs --seed";
+        .value_parser(value_parser!(u32).range(1..=16_777_216))
+        .requires_arg("every")?
+        .conflicts_with("count")?;
     let sample = value_argument(alloc, "sample", "M", sample)
-        .value_parser(value_parser!(u32).range(1..=MOST_DRAWN))
+        .value_parser(value_parser!(u32).range(1..=16_384))
         .requires_arg("seed")?
-        .conflicts_with_all(&["lost", "files"])?;
-    let seed = "With --sample: the same number draws the same sets";
+        .conflicts_with_all(&["lost", "files", "every"])?;
     let seed = value_argument(alloc, "seed", "S", seed)
         .value_parser(value_parser!(u64))
         .requires_arg("sample")?;
-    command.arg(sample)?.arg(seed)
+    command
+        .arg(every)?
+        .arg(count)?
+        .arg(most)?
+        .arg(sample)?
+        .arg(seed)
 }
 
 /// The command `picks` and its options.
 fn picks_command<'a>(alloc: Global) -> Result<Command<'a>, AllocError> {
     let lost = "For each operation the smallest disk that still has it";
     let files = "For each prefix and each file, the disk without its changes that no sync covers";
-    let which = ArgGroup::new(alloc, "which").required(true).multiple(true);
-    let which = which
-        .arg("lost")?
-        .arg("files")?
-        .arg("every")?
-        .arg("sample")?;
+    let sets = ArgGroup::new(alloc, "sets").required(true).multiple(true);
+    let sets = sets.arg("lost")?.arg("files")?.arg("every")?.arg("sample")?;
     let picks = Command::new(alloc, "picks")
-        .about("Prints sets of operations as a file for --picks, or how many there are")
-        .after_help(
-            "Examples:\n  crashfs picks store.trace --lost > lost.picks\n  crashfs picks store.trace --every --count",
-        )
+        .about("Prints sets of micro-operations as a file for --picks")
+        .after_help("Example: crashfs picks store.trace --lost > lost.picks")
         .arg(flag(alloc, "lost", lost))?
         .arg(flag(alloc, "files", files))?;
-    let picks = with_sample(alloc, with_every(alloc, picks)?)?.group(which)?;
-    with_trace(alloc, picks)
+    with_trace(alloc, with_every(alloc, picks)?.group(sets)?)
 }
 
 /// The command `script` and its options.

@@ -1,16 +1,25 @@
 //! The options of `picks`.
 
-/// Which sets `picks` prints, or that it prints how many there are.
+/// How many sets are drawn, and by which seed.
 #[derive(Clone, Copy, Debug, PartialEq, Eq)]
-pub enum PicksOptions {
-    /// Families of sets, of which at least one is asked for. Those of `lost` are for each
-    /// micro-operation the least set that has it; those of `files` for each prefix and each file
-    /// the prefix without the file's changes that no sync covers.
-    Families { lost: bool, files: bool },
-    /// All sets that a crash may leave, if there are no more than `most`.
-    Every { most: u32 },
-    /// How many sets a crash may leave.
-    Count,
-    /// As many of these sets as `count`, drawn by the seed.
-    Sample { seed: u64, count: u32 },
+pub struct Sample {
+    pub count: u32,
+    pub seed: u64,
+}
+
+/// Which sets `picks` prints: those of families, or all of them, or some that are drawn.
+#[derive(Clone, Copy, Debug, PartialEq, Eq)]
+pub struct PicksOptions {
+    /// For each micro-operation the least set that has it.
+    pub lost: bool,
+    /// For each prefix and each file, the prefix without the file's changes that no sync covers.
+    pub files: bool,
+    /// All sets that a crash may leave.
+    pub every: bool,
+    /// Only how many there are.
+    pub count: bool,
+    /// No set is printed if there are more than this many.
+    pub most: u32,
+    /// Sets that are drawn.
+    pub sample: Option<Sample>,
 }

@@ -1,3 +1,3 @@
-pub mod Commands
 pub mod Printed
+pub mod Scripted
 pub mod Scripts

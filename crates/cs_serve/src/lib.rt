@@ -30,6 +30,7 @@ mod wall_clock;
 pub use cs_connection::serve_streams;
 pub use cs_inputs::{Inputs, ProgramFault};
 pub use cs_list::list_of;
+pub use cs_options::{Client, Serving};
 pub use cs_publish::{PublishAllFault, publish_all, publish_into};
 pub use cs_script::script_of;
 pub use reloading::ReadsFiles;

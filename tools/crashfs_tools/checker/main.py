@@ -9,7 +9,7 @@ import sys
 import tempfile
 from functools import reduce
 from operator import and_
-from typing import List, Optional
+from typing import Dict, List, Optional
 
 from crashfs_tools.checker.report.report import NOT_ALL_TRIED, Report
 from crashfs_tools.checker.running.runner import keep_descriptors
@@ -66,14 +66,20 @@ def check(options: Options) -> int:
 
 
 def refuse_outputs(options: Options) -> None:
-    """Refuses files that can't be written, or that would be written over TRACE."""
-    outputs = {'--json': options.json, '--junit': options.junit, '--html': options.html}
-    for name, path in outputs.items():
-        if path is None:
-            continue
+    """Refuses files that can't be written, or that would be written over TRACE or each other."""
+    taken = {} if options.trace is None else {os.path.realpath(options.trace): 'TRACE'}
+    for name, path in outputs_of(options).items():
         folder_of(path)
-        if options.trace is not None and os.path.realpath(path) == os.path.realpath(options.trace):
-            raise Refused(f'{name} {path}: that is TRACE')
+        other = taken.setdefault(os.path.realpath(path), name)
+        is_device = path != '-' and os.path.exists(path) and not os.path.isfile(path)
+        if other != name and not is_device:
+            raise Refused(f'{name} {path}: that is {other}')
+
+
+def outputs_of(options: Options) -> Dict[str, str]:
+    """The files that are written, by their options."""
+    outputs = {'--json': options.json, '--junit': options.junit, '--html': options.html}
+    return {name: path for name, path in outputs.items() if path is not None}
 
 
 def refuse_unreadable(trace: str) -> None:
@@ -95,14 +101,19 @@ def mode_of_reports(paths: List[str]) -> int:
 
 
 def finish(options: Options, report: Report, mode: int) -> int:
-    """Writes the files and then prints the report; it prints it also if a file can't be written."""
+    """Writes the files and then prints the report; it prints it also if a file can't be written. If
+    standard output has a file, the report goes to standard error."""
     fault = None
     try:
         write_files(options, report, mode)
     except OSError as error:
         fault = error
-    with standard_output():
-        print('\n'.join(report.lines()))
+    text = '\n'.join(report.lines())
+    if '-' in outputs_of(options).values():
+        print(text, file=sys.stderr)
+    else:
+        with standard_output():
+            print(text)
     if fault is not None:
         raise fault
     return report.status

@@ -15,6 +15,8 @@ from .address import Address
 NAME = 'crashfs-check'
 # Each job is a process, and one of the program.
 MOST_JOBS = 1_024
+# So many different crash states are all tried by default.
+MOST_STATES = 20_000
 
 DESCRIPTION = """\
 Runs COMMAND in the crash states of a trace, and reports in which states it fails, and why.
@@ -53,6 +55,9 @@ class Options:
     command: List[str]
     jobs: int
     shard: Shard
+    every: Optional[int]
+    families: bool
+    profile: Optional[str]
     prefixes: bool
     quick: bool
     window: Optional[int]
@@ -78,6 +83,16 @@ class Options:
     def leaves_families_out(self) -> bool:
         """A server has the plan that it was given: prefixes and holes, unless it has picks."""
         return self.quick or self.prefixes or self.serve is not None
+
+    @property
+    def has_every(self) -> bool:
+        """Whether all crash states are tried if they are not too many."""
+        return self.every is not None
+
+    @property
+    def most_states(self) -> int:
+        """The most different states of which all are tried."""
+        return self.every or MOST_STATES
 
     @property
     def has_lost(self) -> bool:
@@ -139,12 +154,30 @@ def seconds(text: str) -> float:
 def add_states(made: argparse.ArgumentParser) -> None:
     """Which states are tried."""
     made.add_argument(
+        '--every',
+        metavar='N',
+        type=positive,
+        help='all crash states if at most N of them differ, however long that takes '
+        f'(without a number: {MOST_STATES:,})',
+    )
+    made.add_argument(
+        '--families',
+        action='store_true',
+        help='not all crash states, but the prefixes, those with one hole, --lost and --files',
+    )
+    made.add_argument(
         '--prefixes', action='store_true', help='the prefixes only: a crash lost what came last'
     )
     made.add_argument(
         '--quick',
         action='store_true',
         help='the prefixes and those with one hole; --lost and --files only if given',
+    )
+    made.add_argument(
+        '--in',
+        metavar='PROFILE',
+        dest='profile',
+        help='only states that this profile allows, such as ordered',
     )
     made.add_argument('--window', metavar='N', type=positive, help=argparse.SUPPRESS)
     made.add_argument(
@@ -272,15 +305,27 @@ def parser() -> argparse.ArgumentParser:
     return made
 
 
+def with_number(words: List[str]) -> List[str]:
+    """The arguments, with a number for --every if none follows it."""
+    end = words.index('--') if '--' in words else len(words)
+    given = list(words)
+    for at in range(end):
+        if words[at] == '--every' and not ''.join(words[at + 1 : end][:1]).isdigit():
+            given[at] = f'--every={MOST_STATES}'
+    return given
+
+
 def read_options(arguments: List[str]) -> Options:
     made = parser()
-    values, command = parse(made, arguments)
+    values, command = parse(made, with_number(arguments))
     if values.merge is not None and command:
         made.error('--merge goes with no COMMAND')
     if values.merge is None and values.trace is None:
         made.error('TRACE is missing')
     if values.merge is None and not command:
         made.error('COMMAND is missing: put -- before it')
+    if values.every and (values.families or values.prefixes or values.quick or values.serve):
+        made.error('--every goes with no --families, --prefixes, --quick or --serve')
     if values.uname is not None and values.serve is None:
         made.error('--uname goes with --serve')
     if values.nested and (values.serve or values.shard.parts > 1 or values.merge):

@@ -53,7 +53,7 @@ def show(trying: Trying, number: int) -> int:
 def leave(trying: Trying, state: State) -> Tuple[str, str]:
     """Lays a state out where nothing removes it: its directory, and the file of its lines. That is
     no mount, also with --serve: none is left."""
-    folder = tempfile.mkdtemp(prefix=f'crashfs-state-{state.number}-')
+    folder = os.path.abspath(tempfile.mkdtemp(prefix=f'crashfs-state-{state.number}-'))
     try:
         ((_, directory),) = trying.archive(folder).states({state.number})
         acknowledged = os.path.join(folder, f'says-{state.says}')

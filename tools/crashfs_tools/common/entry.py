@@ -3,26 +3,56 @@
 from __future__ import annotations
 
 from dataclasses import dataclass
-from typing import Dict, Union
+from typing import Dict, Optional, Union
+
+from . import limits
+from .sparse import SparseBytes
 
 
 @dataclass
 class Entry:
-    """A directory (data is None) or a file. Entries are equal if all that they have is, whether or
-    not their bytes can be changed in place."""
+    """A directory, a file (data has its bytes) or a symbolic link (link has its target). Entries
+    are equal if all that they have is, whether or not their bytes can be changed in place."""
 
     owner: str
     group: str
     mode: int
-    data: Union[bytes, bytearray, None]
+    data: Union[bytes, bytearray, SparseBytes, None]
+    link: Optional[str] = None
 
     @property
     def is_directory(self) -> bool:
-        return self.data is None
+        return self.data is None and self.link is None
 
-    def growing(self) -> bytearray:
-        """The bytes of a file, to be changed in place."""
-        if not isinstance(self.data, bytearray):
+    @property
+    def is_file(self) -> bool:
+        return self.data is not None
+
+    def write(self, at: int, data: bytes) -> None:
+        """Puts bytes into a file, in place. It grows if they end past its end."""
+        end = at + len(data)
+        whole = self.growing(end)
+        if isinstance(whole, SparseBytes):
+            whole.write(at, data)
+            return
+        whole.extend(bytes(max(0, end - len(whole))))
+        whole[at:end] = data
+
+    def resize(self, length: int) -> None:
+        """Cuts the bytes of a file, or adds zeros, in place."""
+        whole = self.growing(length)
+        if isinstance(whole, SparseBytes):
+            whole.resize(length)
+            return
+        del whole[length:]
+        whole.extend(bytes(length - len(whole)))
+
+    def growing(self, length: int = 0) -> Union[bytearray, SparseBytes]:
+        """The bytes of a file that gets a length, to be changed in place: of a large file without
+        its pages of zeros."""
+        if length > limits.FILE_BYTES and not isinstance(self.data, SparseBytes):
+            self.data = SparseBytes.of(bytes(self.data or b''))
+        if not isinstance(self.data, (bytearray, SparseBytes)):
             self.data = bytearray(self.data or b'')
         return self.data
 

@@ -5,6 +5,7 @@ from __future__ import annotations
 
 import io
 import os
+import re
 import select
 import shutil
 import subprocess
@@ -12,7 +13,7 @@ import sys
 from contextlib import contextmanager
 from functools import cached_property
 from itertools import groupby
-from typing import Any, Dict, Iterator, List, Optional, Tuple
+from typing import Any, Dict, FrozenSet, Iterator, List, Optional, Tuple
 
 from .archive import ArchiveFault, Member, members
 from .command import Refused, ended
@@ -88,6 +89,15 @@ class Crashfs:
         except ProgramFault:
             return False
 
+    @cached_property
+    def picks_options(self) -> FrozenSet[str]:
+        """The options of its `picks`; none of the second reading, which is asked in another way."""
+        try:
+            shown = '' if self.unproved else self.text(['picks', '--help'])
+        except ProgramFault:
+            shown = ''
+        return frozenset(re.findall(r'--[a-z]+', shown))
+
     def text(self, words: List[str], environment: Optional[Dict[str, str]] = None) -> str:
         """What a command prints; ProgramFault where its status isn't 0."""
         child = self.start(words, environment)
@@ -116,8 +126,10 @@ class Crashfs:
     def archive(
         self, words: List[str], environment: Optional[Dict[str, str]] = None
     ) -> Iterator[Iterator[Member]]:
-        """The archive that `crashfs tar` writes, as a stream that is read once."""
-        child = self.start(['tar', *words], environment)
+        """The archive that `crashfs tar` writes, as a stream that is read once. Of the second
+        reading it has no long runs of zeros; the program doesn't know that option yet."""
+        sparse = ['--sparse'] if self.unproved else []
+        child = self.start(['tar', *words, *sparse], environment)
         assert child.stdout is not None and child.stderr is not None
         streams = Streams(child.stdout.fileno(), child.stderr.fileno())
         try:

@@ -2,13 +2,26 @@
 
 from __future__ import annotations
 
+import errno
 import os
 from typing import List, Optional
 
 FOLDER = os.O_RDONLY | os.O_DIRECTORY | os.O_NOFOLLOW | os.O_CLOEXEC
+# Opens a directory that may not be read.
+PLACE = os.O_PATH | os.O_DIRECTORY | os.O_NOFOLLOW | os.O_CLOEXEC
 OPEN_MODE = 0o700
 # What stays of a directory is beside it, in one whose name ends so.
 LEFT = '.left'
+
+
+def set_folder_mode(name: str, mode: int, at: Optional[int] = None) -> None:
+    """Sets the mode of a directory. What a link at its place refers to keeps its mode: that is an
+    OSError."""
+    folder = os.open(name, PLACE, dir_fd=at)
+    try:
+        os.chmod(f'/proc/self/fd/{folder}', mode)
+    finally:
+        os.close(folder)
 
 
 def remove_tree(path: str, at: Optional[int] = None, aside: str = '') -> bool:
@@ -27,8 +40,10 @@ def remove_tree(path: str, at: Optional[int] = None, aside: str = '') -> bool:
 
 def remove_directory(path: str, at: Optional[int], aside: str) -> bool:
     """The same for a directory. An OSError comes only if `aside` can't be made."""
+    if is_removed_empty(path, at):
+        return True
     if not os.path.isdir(aside):
-        os.mkdir(aside, OPEN_MODE)
+        make_aside(aside, path, at)
     file = os.open(aside, FOLDER)
     try:
         is_gone = Removal(file).run(path, at)
@@ -37,6 +52,58 @@ def remove_directory(path: str, at: Optional[int], aside: str) -> bool:
     if is_gone:
         os.rmdir(aside)
     return is_gone
+
+
+def is_removed_empty(path: str, at: Optional[int]) -> bool:
+    """Removes a directory that is empty; returns whether it was."""
+    try:
+        os.rmdir(path, dir_fd=at)
+    except OSError:
+        return False
+    return True
+
+
+def make_aside(aside: str, path: str, at: Optional[int]) -> None:
+    """Makes the directory `aside`. If the disk has no place for it, the first thing that can be
+    removed from PATH gives its own."""
+    try:
+        os.mkdir(aside, OPEN_MODE)
+    except OSError as error:
+        if error.errno not in (errno.ENOSPC, errno.EDQUOT):
+            raise
+        remove_one(path, at)
+        os.mkdir(aside, OPEN_MODE)
+
+
+def remove_one(path: str, at: Optional[int]) -> None:
+    """Removes a file or an empty directory from a directory, but nothing that is mounted there."""
+    directory = os.open(path, FOLDER, dir_fd=at)
+    device = os.fstat(directory).st_dev
+    try:
+        while os.fstat(directory).st_dev == device:
+            inner = inner_directory(directory)
+            if inner is None:
+                return
+            os.close(directory)
+            directory = inner
+    finally:
+        os.close(directory)
+
+
+def inner_directory(directory: int) -> Optional[int]:
+    """Removes the first entry of a directory; if that is a directory that isn't empty, it is opened
+    and returned."""
+    with os.scandir(directory) as entries:
+        entry = next(entries, None)
+        is_directory = entry is not None and entry.is_dir(follow_symlinks=False)
+    if entry is None:
+        return None
+    if not is_directory:
+        os.unlink(entry.name, dir_fd=directory)
+        return None
+    if is_removed_empty(entry.name, directory):
+        return None
+    return os.open(entry.name, FOLDER, dir_fd=directory)
 
 
 class Removal:
@@ -70,7 +137,7 @@ class Removal:
             try:
                 os.rename(name, moved, src_dir_fd=at, dst_dir_fd=self.aside)
             except PermissionError:
-                os.chmod(name, OPEN_MODE, dir_fd=at)
+                set_folder_mode(name, OPEN_MODE, at)
                 os.rename(name, moved, src_dir_fd=at, dst_dir_fd=self.aside)
         except OSError:
             return False
@@ -96,7 +163,7 @@ class Removal:
         try:
             directory = os.open(name, FOLDER, dir_fd=self.aside)
         except PermissionError:
-            os.chmod(name, OPEN_MODE, dir_fd=self.aside)
+            set_folder_mode(name, OPEN_MODE, self.aside)
             directory = os.open(name, FOLDER, dir_fd=self.aside)
         if os.fstat(directory).st_mode & OPEN_MODE != OPEN_MODE:
             os.fchmod(directory, OPEN_MODE)

@@ -5,12 +5,13 @@ from __future__ import annotations
 import dataclasses
 import json
 from dataclasses import dataclass, field
-from typing import Any, Dict, Iterator, List, Optional, Type, Union
+from typing import Any, Dict, Iterator, List, Type, Union
 
 from . import limits
 from .command import Refused
+from .sparse import SparseBytes
 
-BLOCKS, ORDERED = 'blocks', 'ordered'
+BLOCKS, ORDERED, JOURNAL = 'blocks', 'ordered', 'journal'
 PROFILES = (BLOCKS, ORDERED)
 BLOCK_SIZES = (512, 1_024, 2_048, 4_096)
 # The version that the recorder writes. Version 2 has no links, no syncs of a part and no notes:
@@ -33,13 +34,14 @@ class Header:
 
 @dataclass(frozen=True)
 class Start:
-    """A directory (data is None) or file of the start tree."""
+    """A directory (data is None) or file of the start tree. Version 4 writes SparseBytes in
+    parts."""
 
     path: str
     owner: str
     group: str
     mode: int
-    data: Optional[bytes]
+    data: Union[bytes, SparseBytes, None]
 
 
 @dataclass(frozen=True)
@@ -48,6 +50,16 @@ class StartLink:
 
     path: str
     source: str
+
+
+@dataclass(frozen=True)
+class StartSymlink:
+    """A symbolic link of the start tree; link is its target."""
+
+    path: str
+    owner: str
+    group: str
+    link: str
 
 
 @dataclass(frozen=True)
@@ -89,6 +101,16 @@ class Link:
 
 
 @dataclass(frozen=True)
+class Symlink:
+    """The making of a symbolic link; link is its target."""
+
+    path: str
+    owner: str
+    group: str
+    link: str
+
+
+@dataclass(frozen=True)
 class Write:
     path: str
     offset: int
@@ -116,6 +138,11 @@ class Chown:
 
 @dataclass(frozen=True)
 class Fsync:
+    path: str
+
+
+@dataclass(frozen=True)
+class Fdatasync:
     path: str
 
 
@@ -149,15 +176,18 @@ Operation = Union[
     Rmdir,
     Rename,
     Link,
+    Symlink,
     Write,
     Truncate,
     Chmod,
     Chown,
     Fsync,
+    Fdatasync,
     FsyncRange,
     Sync,
     Say,
 ]
+StartLine = Union[Start, StartLink, StartSymlink]
 
 KINDS: Dict[str, Type[Any]] = {
     'creat': Creat,
@@ -166,20 +196,25 @@ KINDS: Dict[str, Type[Any]] = {
     'rmdir': Rmdir,
     'rename': Rename,
     'link': Link,
+    'symlink': Symlink,
     'write': Write,
     'truncate': Truncate,
     'chmod': Chmod,
     'chown': Chown,
     'fsync': Fsync,
+    'fdatasync': Fdatasync,
     'fsync_range': FsyncRange,
     'sync': Sync,
     'say': Say,
 }
 # The first version that has a kind of line, where that isn't version 1.
-SINCE: Dict[Type[Any], int] = {Chmod: 2, Chown: 2, Link: 3, FsyncRange: 3, StartLink: 3}
+SINCE: Dict[Type[Any], int] = {
+    **{Chmod: 2, Chown: 2, Link: 3, FsyncRange: 3, StartLink: 3},
+    **{Fdatasync: 4, Symlink: 4, StartSymlink: 4},
+}
 KIND_OF = {made: kind for kind, made in KINDS.items()}
 # The keys of a line that have another name in Python.
-KEYS = {'source': 'from', 'target': 'to'}
+KEYS = {'source': 'from', 'target': 'to', 'link': 'target'}
 
 
 @dataclass
@@ -188,7 +223,7 @@ class Trace:
     but that of `blocks`. notes has the texts of lines by the operation's place, from 0."""
 
     header: Header
-    start: List[Union[Start, StartLink]] = field(default_factory=list)
+    start: List[StartLine] = field(default_factory=list)
     operations: List[Operation] = field(default_factory=list)
     version: int = WRITTEN_VERSION
     profile: str = BLOCKS
@@ -216,6 +251,8 @@ class Trace:
         return values
 
     def operation_values(self, place: int, operation: Operation) -> Dict[str, Any]:
+        if self.version < SINCE[Fdatasync] and isinstance(operation, Fdatasync):
+            operation = FsyncRange(operation.path, 0, limits.FILE_BYTES)
         values = {'op': KIND_OF[type(operation)], **values_of(operation, self.version)}
         if self.version >= 3 and place in self.notes:
             values['note'] = self.notes[place]
@@ -226,10 +263,12 @@ class Trace:
         return 2 + len(self.start) + place
 
 
-def start_line(entry: Union[Start, StartLink], version: int) -> str:
+def start_line(entry: StartLine, version: int) -> str:
     values = values_of(entry, version)
     if isinstance(entry, StartLink):
         return as_json({'start': 'link', **values})
+    if isinstance(entry, StartSymlink):
+        return as_json({'start': 'symlink', **values})
     if entry.data is None:
         return as_json({'start': 'dir', **{key: values[key] for key in DIRECTORY_KEYS}})
     return as_json({'start': 'file', **values})
@@ -251,8 +290,14 @@ def values_of(item: Any, version: int = 1) -> Dict[str, Any]:
     return values
 
 
-def bytes_value(data: bytes, version: int) -> Dict[str, str]:
-    """Bytes as a text if the version has texts and people can read it, else by numbers."""
+def bytes_value(data: Union[bytes, SparseBytes], version: int) -> Dict[str, Any]:
+    """Bytes as a text if the version has texts and people can read it, else by numbers; of a file
+    with holes its length and its parts, if the version has those."""
+    if isinstance(data, SparseBytes):
+        if version >= 4:
+            parts = [{'at': at, **bytes_value(part, version)} for at, part in data.parts()]
+            return {'length': len(data), 'parts': parts}
+        data = bytes(data)
     if version >= 3:
         text = readable_text(data)
         if text:

@@ -10,8 +10,8 @@ from .entry import parent_of
 
 # Lines that change the file or directory of their path, and lines that change an entry.
 CHANGES = ('write', 'truncate', 'chmod', 'chown')
-ENTRY_CHANGES = ('creat', 'mkdir', 'unlink', 'rmdir', 'rename', 'link')
-SYNCS = ('fsync', 'fsync_range', 'sync')
+ENTRY_CHANGES = ('creat', 'mkdir', 'unlink', 'rmdir', 'rename', 'link', 'symlink')
+SYNCS = ('fsync', 'fdatasync', 'fsync_range', 'sync')
 LARGEST_SAY = 40
 # What differs from run to run in a name or a cause: hashes, the directories that are named by two
 # digits of one, the six letters of mkstemp, and numbers.
@@ -96,6 +96,8 @@ def details_of(fields: Dict[str, Any]) -> str:
     if fields['op'] == 'write':
         data = fields['text'].encode() if 'text' in fields else fields['bytes'][::2]
         return f"{len(data):,} bytes at {fields['offset']:,}"
+    if fields['op'] == 'symlink':
+        return f"target {fields['target']}"
     if fields['op'] == 'truncate':
         return f"{fields['length']:,} bytes"
     if fields['op'] == 'fsync_range':

@@ -8,19 +8,23 @@ from typing import Any, Dict, Iterable, Iterator, List, Optional, Tuple, Type
 from .trace import (
     BLOCK_SIZES,
     BLOCKS,
+    JOURNAL,
     KEYS,
     KINDS,
     PROFILES,
     Header,
     Start,
     StartLink,
+    StartSymlink,
     Trace,
     TraceError,
 )
+from .sparse import SparseBytes
 from .trace_text import fields_of_lines
 from .tree import Tree
 
-VERSIONS = (1, 2, 3)
+VERSIONS = (1, 2, 3, 4)
+STARTS: Dict[str, Type[Any]] = {'link': StartLink, 'symlink': StartSymlink}
 
 
 def read_trace(text: str) -> Trace:
@@ -43,7 +47,7 @@ def replay(lines: Iterable[str]) -> Tree:
     would refuse is a ValueError."""
     tree: Optional[Tree] = None
     for number, trace in read_lines(lines):
-        tree = tree or Tree(trace.header.owner, trace.header.group, trace.header.mode, trace.block)
+        tree = tree or tree_of(trace)
         while trace.start:
             tree.start(trace.start.pop())
         while trace.operations:
@@ -54,6 +58,12 @@ def replay(lines: Iterable[str]) -> Tree:
             tree.apply(operation)
     assert tree is not None
     return tree
+
+
+def tree_of(trace: Trace) -> Tree:
+    """The tree of a header."""
+    header = trace.header
+    return Tree(header.owner, header.group, header.mode, trace.block, trace.version, trace.profile)
 
 
 def read_lines(lines: Iterable[str]) -> Iterator[Tuple[int, Trace]]:
@@ -78,12 +88,17 @@ def read_header(fields: Dict[str, Any]) -> Trace:
     profile, block = fields.get('profile'), fields.get('block')
     is_known = (
         version in VERSIONS
-        and (profile in PROFILES if version > 1 else profile is None)
+        and (profile in profiles_of(version) if version > 1 else profile is None)
         and (block in BLOCK_SIZES if version > 2 else block is None)
     )
     if not is_known:
         raise ValueError(f'a header of version {version}, profile {profile}, block {block}')
     return Trace(header, version=version, profile=profile or BLOCKS, block=block or BLOCK_SIZES[-1])
+
+
+def profiles_of(version: int) -> Tuple[str, ...]:
+    """The profiles that a header of a version may have."""
+    return (*PROFILES, JOURNAL) if version >= 4 else PROFILES
 
 
 def read_line(trace: Trace, fields: Dict[str, Any]) -> None:
@@ -102,7 +117,7 @@ def read_line(trace: Trace, fields: Dict[str, Any]) -> None:
 
 def kind_of(fields: Dict[str, Any]) -> Type[Any]:
     if 'start' in fields:
-        return StartLink if fields['start'] == 'link' else Start
+        return STARTS.get(fields['start'], Start)
     return KINDS[fields['op']]
 
 
@@ -114,7 +129,14 @@ def read_value(name: str, fields: Dict[str, Any], version: int) -> Any:
     if name == 'data':
         if fields.get('start') == 'dir':
             return None
-        is_text = version >= 3 and 'bytes' not in fields
-        return fields['text'].encode() if is_text else bytes.fromhex(fields['bytes'])
+        if version >= 4 and 'parts' in fields:
+            parts = [(int(part['at']), read_bytes(part, version)) for part in fields['parts']]
+            return SparseBytes(int(fields['length']), parts)
+        return read_bytes(fields, version)
     value = fields[KEYS.get(name, name)]
     return int(value, 8) if name == 'mode' else value
+
+
+def read_bytes(fields: Dict[str, Any], version: int) -> bytes:
+    is_text = version >= 3 and 'bytes' not in fields
+    return str(fields['text']).encode() if is_text else bytes.fromhex(fields['bytes'])

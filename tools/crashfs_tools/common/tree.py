@@ -6,10 +6,13 @@ from typing import Dict, List, Optional, Tuple, Union
 
 from . import limits
 from .entry import Entries, Entry, parent_of
+from .sparse import SparseBytes
 from .trace import (
+    BLOCKS,
     Chmod,
     Chown,
     Creat,
+    Fdatasync,
     Fsync,
     FsyncRange,
     Header,
@@ -20,7 +23,10 @@ from .trace import (
     Rmdir,
     Say,
     Start,
+    StartLine,
     StartLink,
+    StartSymlink,
+    Symlink,
     Truncate,
     Unlink,
     Write,
@@ -42,20 +48,38 @@ def path_fault(path: str) -> Optional[str]:
 class Tree:
     """The entries by path. files has the number of the file or directory at each path: all paths
     of a file have its number, and share its entry. micro_operations counts what `crashfs` makes of
-    the operations."""
+    the operations. version may change from 3 to 4."""
 
-    def __init__(self, owner: str, group: str, mode: int, block: int = 4_096) -> None:
+    def __init__(
+        self,
+        owner: str,
+        group: str,
+        mode: int,
+        block: int = 4_096,
+        version: int = 3,
+        profile: str = BLOCKS,
+    ) -> None:
         self.entries: Entries = {'/': Entry(owner, group, mode, None)}
         self.files: Dict[str, int] = {'/': 0}
         self.records = 1
         self.block = block
-        self.micro_operations = 0
+        self.version = version
+        self.profile = profile
+        self.steps_of_all = 0
+        self.steps_of_version_4 = 0
 
-    def start(self, entry: Union[Start, StartLink]) -> None:
+    @property
+    def micro_operations(self) -> int:
+        return self.steps_of_all + (self.steps_of_version_4 if self.version >= 4 else 0)
+
+    def start(self, entry: StartLine) -> None:
         if isinstance(entry, StartLink):
             self.link(entry.source, entry.path)
+        elif isinstance(entry, StartSymlink):
+            self.make(entry.path, symlink_of(entry))
         else:
-            self.make(entry.path, Entry(entry.owner, entry.group, entry.mode, entry.data))
+            data = entry.data.copy() if isinstance(entry.data, SparseBytes) else entry.data
+            self.make(entry.path, Entry(entry.owner, entry.group, entry.mode, data))
 
     def make(self, path: str, entry: Entry) -> None:
         self.entries[path], self.files[path] = entry, self.records
@@ -70,7 +94,7 @@ class Tree:
 
     def fault(self, operation: Operation) -> Optional[str]:
         """Why the trace can't have this operation here, in words, or None."""
-        if isinstance(operation, (Creat, Mkdir)):
+        if isinstance(operation, (Creat, Mkdir, Symlink)):
             return self.new_fault(operation.path)
         if isinstance(operation, Rename):
             return self.rename_fault(operation)
@@ -79,8 +103,10 @@ class Tree:
         if isinstance(operation, Rmdir):
             return self.rmdir_fault(operation.path)
         if isinstance(operation, (Chmod, Chown, Fsync)):
-            return None if operation.path in self.entries else f'{operation.path} is not there'
-        if isinstance(operation, (Unlink, Write, Truncate, FsyncRange)):
+            return self.rights_fault(operation)
+        if isinstance(operation, Unlink):
+            return self.unlink_fault(operation.path)
+        if isinstance(operation, (Write, Truncate, Fdatasync, FsyncRange)):
             return self.file_fault(operation.path) or self.size_fault(operation)
         return None
 
@@ -94,19 +120,61 @@ class Tree:
             return f'more than {limits.RECORDS} files and directories'
         return path_fault(path)
 
-    def file_fault(self, path: str) -> Optional[str]:
+    def unlink_fault(self, path: str) -> Optional[str]:
         entry = self.entries.get(path)
         if entry is None:
             return f'{path} is not there'
         return f'{path} is a directory' if entry.is_directory else None
 
+    def file_fault(self, path: str) -> Optional[str]:
+        return self.unlink_fault(path) or self.link_fault(path)
+
+    def rights_fault(self, operation: Union[Chmod, Chown, Fsync]) -> Optional[str]:
+        if operation.path not in self.entries:
+            return f'{operation.path} is not there'
+        return None if isinstance(operation, Chown) else self.link_fault(operation.path)
+
+    def link_fault(self, path: str) -> Optional[str]:
+        is_link = self.entries[path].link is not None
+        return f'{path} is a symbolic link' if is_link else None
+
     def rename_fault(self, operation: Rename) -> Optional[str]:
-        parent = self.entries.get(parent_of(operation.target))
+        source, target = operation.source, operation.target
+        moved, replaced = self.entries.get(source), self.entries.get(target)
+        parent = self.entries.get(parent_of(target))
         if parent is None or not parent.is_directory:
-            return f'{parent_of(operation.target)} is no directory of the trace'
-        if operation.target in self.entries and self.file_fault(operation.target):
-            return f'{operation.target} is a directory'
-        return self.file_fault(operation.source) or path_fault(operation.target)
+            return f'{parent_of(target)} is no directory of the trace'
+        if moved is None:
+            return f'{source} is not there'
+        if moved.is_directory:
+            fault = self.directory_fault(source, target)
+        else:
+            is_directory = replaced is not None and replaced.is_directory
+            fault = f'{target} is a directory' if is_directory else None
+        return fault or self.records_fault(operation) or path_fault(target)
+
+    def directory_fault(self, source: str, target: str) -> Optional[str]:
+        """Why a directory can't be renamed so."""
+        if self.version < 4:
+            return f'{source} is a directory'
+        if target == source or target not in self.entries:
+            return f'{target} is below {source}' if target.startswith(source + '/') else None
+        if target.startswith(source + '/'):
+            return f'{target} is below {source}'
+        return self.rmdir_fault(target)
+
+    def records_fault(self, operation: Rename) -> Optional[str]:
+        """Why there is no room for a rename, which counts if it goes into another directory."""
+        is_counted = self.version >= 4 and self.goes_elsewhere(operation)
+        if is_counted and self.records >= limits.RECORDS:
+            return f'more than {limits.RECORDS} files and directories'
+        return None
+
+    def goes_elsewhere(self, operation: Rename) -> bool:
+        """Whether a rename is one into another directory that isn't nothing."""
+        source, target = operation.source, operation.target
+        is_nothing = self.files[source] == self.files.get(target)
+        return parent_of(source) != parent_of(target) and not is_nothing
 
     def rmdir_fault(self, path: str) -> Optional[str]:
         entry = self.entries.get(path)
@@ -116,14 +184,13 @@ class Tree:
         full = any(other.startswith(below) for other in self.entries)
         return f'{path} has entries' if full else None
 
-    @staticmethod
-    def size_fault(operation: Operation) -> Optional[str]:
-        end = 0
+    def size_fault(self, operation: Operation) -> Optional[str]:
+        end, most = 0, limits.file_bytes(self.version)
         if isinstance(operation, Write):
-            end = operation.offset + len(operation.data)
+            end = operation.offset + len(operation.data) if operation.data else 0
         elif isinstance(operation, Truncate):
             end = operation.length
-        return f'a file of more than {limits.FILE_BYTES} bytes' if end > limits.FILE_BYTES else None
+        return f'a file of more than {most} bytes' if end > most else None
 
     # What an operation does
 
@@ -133,49 +200,67 @@ class Tree:
             data = b'' if isinstance(operation, Creat) else None
             entry = Entry(operation.owner, operation.group, operation.mode, data)
             self.make(operation.path, entry)
+        elif isinstance(operation, Symlink):
+            self.make(operation.path, symlink_of(operation))
         elif isinstance(operation, (Unlink, Rmdir)):
             del self.entries[operation.path], self.files[operation.path]
         elif isinstance(operation, Link):
             self.link(operation.source, operation.target)
         elif isinstance(operation, Rename):
             self.rename(operation)
-        self.micro_operations += self.steps(operation)
+        self.steps_of_all += self.steps(operation)
 
     def rename(self, operation: Rename) -> None:
-        """A rename onto another path of the same file does nothing."""
+        """A rename onto another path of the same file, or of a directory onto itself, does
+        nothing."""
         source, target = operation.source, operation.target
-        if self.files[source] != self.files.get(target):
-            self.entries[target] = self.entries.pop(source)
-            self.files[target] = self.files.pop(source)
-            self.micro_operations += 1
+        if self.files[source] == self.files.get(target):
+            return
+        is_directory = self.entries[source].is_directory
+        if self.goes_elsewhere(operation):
+            self.records += self.version >= 4
+            self.steps_of_version_4 += self.profile == BLOCKS and not is_directory
+        below = source + '/'
+        paths = [path for path in self.entries if path.startswith(below)] if is_directory else []
+        for path in (source, *paths):
+            moved = target + path[len(source) :]
+            self.entries[moved] = self.entries.pop(path)
+            self.files[moved] = self.files.pop(path)
+        self.steps_of_all += 1
 
     def steps(self, operation: Operation) -> int:
-        """The number of micro-operations, with the bytes of a write or truncate put in place, and
-        the rights of a chmod or chown."""
+        """The number of micro-operations in all versions, with the bytes of a write or truncate put
+        in place, and the rights of a chmod or chown."""
         if isinstance(operation, Write):
             return self.write(operation)
         if isinstance(operation, Truncate):
             return self.truncate(operation)
         if isinstance(operation, (Chmod, Chown)):
             return self.set_rights(operation)
-        return int(isinstance(operation, (Creat, Mkdir, Unlink, Rmdir, Link, Say)))
+        return int(isinstance(operation, (Creat, Mkdir, Symlink, Unlink, Rmdir, Link, Say)))
 
     def write(self, operation: Write) -> int:
-        data = self.entries[operation.path].growing()
+        entry = self.entries[operation.path]
+        size = len(entry.data or b'')
         if not operation.data:
             return 0
         end = operation.offset + len(operation.data)
-        grows = end > len(data)
-        resize(data, max(end, len(data)))
-        data[operation.offset : end] = operation.data
-        first, last = operation.offset // self.block, (end - 1) // self.block
-        return int(grows) + last - first + 1
+        entry.write(operation.offset, operation.data)
+        self.steps_of_version_4 += grows_past_page(size, end)
+        return int(end > size) + self.blocks(operation.offset, end)
 
     def truncate(self, operation: Truncate) -> int:
-        data = self.entries[operation.path].growing()
-        changes = len(data) != operation.length
-        resize(data, operation.length)
-        return int(changes)
+        entry, length = self.entries[operation.path], operation.length
+        size = len(entry.data or b'')
+        entry.resize(length)
+        zeros_end = min(page_end(length), size)
+        if length < zeros_end:
+            self.steps_of_version_4 += self.blocks(length, zeros_end)
+        return int(size != length)
+
+    def blocks(self, begin: int, end: int) -> int:
+        """How many blocks have bytes from a place of a file to another."""
+        return (end - 1) // self.block - begin // self.block + 1
 
     def set_rights(self, operation: Union[Chmod, Chown]) -> int:
         entry = self.entries[operation.path]
@@ -187,23 +272,44 @@ class Tree:
         return int((entry.owner, entry.group, entry.mode) != before)
 
 
-def start_lines(
-    entries: Entries, files: Dict[str, int]
-) -> Tuple[Header, List[Union[Start, StartLink]]]:
+def symlink_of(made: Union[Symlink, StartSymlink]) -> Entry:
+    return Entry(made.owner, made.group, 0o777, None, made.link)
+
+
+def page_end(length: int) -> int:
+    """The end of the page in which a length is; the length if it is at a page's end."""
+    return -(-length // limits.PAGE_BYTES) * limits.PAGE_BYTES
+
+
+def grows_past_page(size: int, end: int) -> bool:
+    """Whether a write up to an end gives a file of a size two sizes in version 4: first that of the
+    page that it has in part."""
+    return size < page_end(size) < end
+
+
+def start_lines(entries: Entries, files: Dict[str, int]) -> Tuple[Header, List[StartLine]]:
     """The header and the start lines of a tree. files has one number for all paths of a file; its
     first path has the file's line, the others are links to it."""
     root = entries['/']
     firsts: Dict[int, str] = {}
-    lines: List[Union[Start, StartLink]] = []
+    lines: List[StartLine] = []
     for path in sorted(entries.keys() - {'/'}, key=lambda one: one.split('/')):
         entry = entries[path]
         first = firsts.setdefault(files[path], path)
         if first != path:
             lines.append(StartLink(path, first))
+        elif entry.link is not None:
+            lines.append(StartSymlink(path, entry.owner, entry.group, entry.link))
         else:
-            data = None if entry.data is None else bytes(entry.data)
-            lines.append(Start(path, entry.owner, entry.group, entry.mode, data))
+            lines.append(Start(path, entry.owner, entry.group, entry.mode, data_of(entry)))
     return Header(root.owner, root.group, root.mode), lines
+
+
+def data_of(entry: Entry) -> Union[bytes, SparseBytes, None]:
+    """The bytes of a file as they are now, whatever is done to it later."""
+    if isinstance(entry.data, SparseBytes):
+        return entry.data.copy()
+    return None if entry.data is None else bytes(entry.data)
 
 
 def resize(data: bytearray, length: int) -> None:

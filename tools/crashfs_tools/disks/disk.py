@@ -9,6 +9,8 @@ from dataclasses import dataclass
 from typing import Dict, Iterator, List, NamedTuple, Tuple
 
 from crashfs_tools.common.entry import Entries, Entry
+from crashfs_tools.common.file_bytes import file_bytes
+from crashfs_tools.common.sparse import LARGE_BYTES, SparseBytes
 
 from .levers import Lever
 from .moments import Moment
@@ -56,12 +58,17 @@ def read_tree(top: str, owners: Owners) -> Entries:
 
 def entry_of(path: str, owners: Owners) -> Entry:
     status = os.lstat(path)
-    data = None
-    if not stat.S_ISDIR(status.st_mode):
-        with open(path, 'rb') as file:
-            data = bytearray(file.read())
     user, group = owners.users.name(status.st_uid), owners.groups.name(status.st_gid)
-    return Entry(user, group, status.st_mode & 0o777, data)
+    entry = Entry(user, group, status.st_mode & 0o777, None)
+    if stat.S_ISLNK(status.st_mode):
+        entry.link = os.readlink(path)
+    elif not stat.S_ISDIR(status.st_mode):
+        file = os.open(path, os.O_RDONLY | os.O_NOFOLLOW | os.O_CLOEXEC)
+        try:
+            entry.data = file_bytes(file)
+        finally:
+            os.close(file)
+    return entry
 
 
 def digest_of(tree: Entries) -> str:
@@ -77,7 +84,16 @@ def digest_of(tree: Entries) -> str:
 def pieces_of(path: str, entry: Entry) -> Iterator[bytes]:
     yield os.fsencode(path)
     yield f'{entry.owner}\0{entry.group}\0{entry.mode:o}'.encode('utf-8', 'surrogateescape')
-    yield b'' if entry.data is None else b'f' + entry.data
+    if entry.link is not None:
+        yield b'l' + os.fsencode(entry.link)
+    elif entry.data is None:
+        yield b''
+    elif len(entry.data) < LARGE_BYTES:
+        yield b'f' + bytes(entry.data)
+    else:
+        yield f's{len(entry.data)}'.encode()
+        for number, page in sorted(SparseBytes.of(entry.data).data_pages()):
+            yield number.to_bytes(8, 'little') + page
 
 
 def joined(found: Iterator[Tuple[Entries, Crash]]) -> List[Disk]:

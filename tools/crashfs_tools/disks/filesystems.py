@@ -4,10 +4,12 @@ from __future__ import annotations
 
 import os
 import shutil
-from dataclasses import dataclass
+from dataclasses import dataclass, replace
 from typing import Dict, List, Optional, Sequence, Tuple
 
 from crashfs_tools.common.command import Refused
+from crashfs_tools.common.sparse import PAGE_BYTES, SparseBytes
+from crashfs_tools.common.trace import Start, StartLine, Trace, Write
 
 LOOP_CONTROL = '/dev/loop-control'
 MEBIBYTE = 1 << 20
@@ -56,6 +58,33 @@ KNOWN: Dict[str, FileSystem] = {
         FileSystem('f2fs', 'mkfs.f2fs', ('-q', '-f'), 64 * MEBIBYTE),
     )
 }
+
+
+# An image of the usual size has room for so many bytes of a session.
+USUAL_BYTES = 8 * MEBIBYTE
+
+
+def with_room(filesystem: FileSystem, size: int) -> FileSystem:
+    """A file system whose images have room for a session that writes so many bytes."""
+    more = max(0, size - USUAL_BYTES)
+    return replace(filesystem, size=filesystem.size + -(-2 * more // MEBIBYTE) * MEBIBYTE)
+
+
+def bytes_written(trace: Trace) -> int:
+    """How many bytes the files of a session take at most: those of the start tree, and what is
+    written, by whole pages."""
+    sizes = [len(run) for line in trace.start for run in runs_of(line)]
+    sizes += [len(one.data) for one in trace.operations if isinstance(one, Write)]
+    return sum(size + 2 * PAGE_BYTES for size in sizes)
+
+
+def runs_of(line: StartLine) -> List[bytes]:
+    """What a start line gives a file that isn't a hole."""
+    if not isinstance(line, Start) or line.data is None:
+        return []
+    if isinstance(line.data, SparseBytes):
+        return [run for _, run in line.data.runs()]
+    return [line.data]
 
 
 def named(names: Sequence[str]) -> List[FileSystem]:

@@ -8,9 +8,10 @@ import os
 import subprocess
 import time
 from contextlib import contextmanager
-from typing import Iterator, List, Sequence
+from typing import Iterator, Sequence
 
 from crashfs_tools.common.command import Refused
+from crashfs_tools.common.file_bytes import data_ranges
 
 from .filesystems import FileSystem
 
@@ -71,27 +72,13 @@ def copy(source: str, target: str) -> None:
     with open(source, 'rb') as old, open(target, 'wb') as new:
         size = os.fstat(old.fileno()).st_size
         new.truncate(size)
-        for begin, end in pieces(old.fileno(), size):
+        for begin, end in data_ranges(old.fileno(), size):
             os.lseek(old.fileno(), begin, os.SEEK_SET)
             os.lseek(new.fileno(), begin, os.SEEK_SET)
             while begin < end:
                 begin += os.sendfile(
                     new.fileno(), old.fileno(), None, min(end - begin, PIECE_BYTES)
                 )
-
-
-def pieces(file: int, size: int) -> Iterator[List[int]]:
-    """Where a file has data, as places where a piece begins and ends."""
-    end = 0
-    while end < size:
-        try:
-            begin = os.lseek(file, end, os.SEEK_DATA)
-        except OSError as error:
-            if error.errno == errno.ENXIO:
-                return
-            raise
-        end = os.lseek(file, begin, os.SEEK_HOLE)
-        yield [begin, end]
 
 
 def repair(filesystem: FileSystem, image: str) -> None:

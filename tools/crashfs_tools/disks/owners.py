@@ -6,7 +6,16 @@ import grp
 import pwd
 from typing import Dict
 
-from crashfs_tools.common.trace import Chown, Creat, Header, Mkdir, Start, Trace
+from crashfs_tools.common.trace import (
+    Chown,
+    Creat,
+    Header,
+    Mkdir,
+    Start,
+    StartSymlink,
+    Symlink,
+    Trace,
+)
 
 # The numbers of names that this machine doesn't know.
 FIRST_UNKNOWN = 200_000
@@ -44,6 +53,6 @@ class Owners:
         self.users = Numbers(are_groups=False)
         self.groups = Numbers(are_groups=True)
         for line in (trace.header, *trace.start, *trace.operations):
-            if isinstance(line, (Header, Start, Creat, Mkdir, Chown)):
+            if isinstance(line, (Header, Start, StartSymlink, Creat, Mkdir, Symlink, Chown)):
                 self.users.number(line.owner)
                 self.groups.number(line.group)

@@ -8,10 +8,12 @@ import os
 from contextlib import contextmanager
 from typing import Any, Callable, Dict, Iterator, List, Type, Union
 
+from crashfs_tools.common.sparse import SparseBytes
 from crashfs_tools.common.trace import (
     Chmod,
     Chown,
     Creat,
+    Fdatasync,
     Fsync,
     FsyncRange,
     Header,
@@ -23,6 +25,8 @@ from crashfs_tools.common.trace import (
     Say,
     Start,
     StartLink,
+    StartSymlink,
+    Symlink,
     Sync,
     Trace,
     Truncate,
@@ -33,31 +37,55 @@ from crashfs_tools.common.trace import (
 from .owners import Owners
 
 # Filled before the session's modes are set.
-NEW_DIRECTORY, NEW_FILE = 0o700, os.O_RDWR | os.O_CREAT | os.O_EXCL | os.O_CLOEXEC
+NEW_DIRECTORY = 0o700
+OPEN_FILE = os.O_RDWR | os.O_NOFOLLOW | os.O_CLOEXEC
+NEW_FILE = OPEN_FILE | os.O_CREAT | os.O_EXCL
 SYNC_FILE_RANGE_WRITE_AND_WAIT = 7
 
 libc = ctypes.CDLL(None, use_errno=True)
 
 
 def lay_out_start(trace: Trace, top: str, owners: Owners) -> None:
-    """Makes the start tree of a trace in a new directory, and writes it to the disk."""
+    """Makes the start tree of a trace in a new directory, and writes it to the disk. Symbolic links
+    come last: nothing is made through one."""
     os.mkdir(top, NEW_DIRECTORY)
-    rights: List[Union[Start, Header]] = []
     for entry in trace.start:
         if isinstance(entry, StartLink):
             os.link(top + entry.source, top + entry.path)
-            continue
-        rights.append(entry)
-        if entry.data is None:
-            os.mkdir(top + entry.path, NEW_DIRECTORY)
-        else:
-            with open(top + entry.path, 'xb') as file:
-                file.write(entry.data)
-    for one in reversed([trace.header, *rights]):
+        elif isinstance(entry, Start):
+            make(top + entry.path, entry.data)
+    rights: List[Union[Header, Start]] = [trace.header]
+    rights += [one for one in trace.start if isinstance(one, Start)]
+    for one in reversed(rights):
         path = top + (one.path if isinstance(one, Start) else '')
         os.chown(path, owners.users.number(one.owner), owners.groups.number(one.group))
         os.chmod(path, one.mode)
+    for entry in trace.start:
+        if isinstance(entry, StartSymlink):
+            make_link(top + entry.path, entry, owners)
     sync_file_system(top)
+
+
+def make(path: str, data: Union[bytes, SparseBytes, None]) -> None:
+    """Makes a directory, or a file with these bytes; zeros between parts are holes."""
+    if data is None:
+        os.mkdir(path, NEW_DIRECTORY)
+        return
+    with open(path, 'xb') as file:
+        for at, part in data.runs() if isinstance(data, SparseBytes) else [(0, data)]:
+            file.seek(at)
+            file.write(part)
+        file.truncate(len(data))
+
+
+def make_link(path: str, made: Union[Symlink, StartSymlink], owners: Owners) -> None:
+    """Makes a symbolic link, and gives it its owner and group, if these aren't those that it
+    has."""
+    os.symlink(made.link, path)
+    rights = owners.users.number(made.owner), owners.groups.number(made.group)
+    status = os.lstat(path)
+    if (status.st_uid, status.st_gid) != rights:
+        os.lchown(path, *rights)
 
 
 class Replay:
@@ -83,10 +111,13 @@ class Replay:
 
     def descriptor(self, path: str) -> int:
         """The descriptor of a file, by its inode: it may have several names."""
-        inode = os.stat(self.path(path)).st_ino
+        inode = self.inode(path)
         if inode not in self.files:
-            self.files[inode] = os.open(self.path(path), os.O_RDWR | os.O_CLOEXEC)
+            self.files[inode] = os.open(self.path(path), OPEN_FILE)
         return self.files[inode]
+
+    def inode(self, path: str) -> int:
+        return os.lstat(self.path(path)).st_ino
 
     def do(self, operation: Operation) -> None:
         """Makes an operation."""
@@ -106,9 +137,9 @@ class Replay:
         that the session didn't make."""
         user = self.owners.users.number(made.owner)
         group = self.owners.groups.number(made.group)
-        status = os.stat(self.path(made.path))
+        status = os.lstat(self.path(made.path))
         if (status.st_uid, status.st_gid) != (user, group):
-            os.chown(self.path(made.path), user, group)
+            os.lchown(self.path(made.path), user, group)
         if status.st_mode & 0o777 != made.mode:
             os.chmod(self.path(made.path), made.mode)
 
@@ -136,21 +167,29 @@ class Replay:
         self.changed(one.path)
 
     def changed(self, path: str) -> None:
-        self.unsynced.setdefault(os.stat(self.path(path)).st_ino, path)
+        self.unsynced.setdefault(self.inode(path), path)
 
     def chmod(self, one: Chmod) -> None:
         os.chmod(self.path(one.path), one.mode)
 
     def chown(self, one: Chown) -> None:
         users, groups = self.owners.users, self.owners.groups
-        os.chown(self.path(one.path), users.number(one.owner), groups.number(one.group))
+        user, group = users.number(one.owner), groups.number(one.group)
+        os.chown(self.path(one.path), user, group, follow_symlinks=False)
 
     def fsync(self, one: Fsync) -> None:
         if os.path.isdir(self.path(one.path)):
             sync_directory(self.path(one.path))
         else:
             os.fsync(self.descriptor(one.path))
-            self.unsynced.pop(os.stat(self.path(one.path)).st_ino, None)
+            self.unsynced.pop(self.inode(one.path), None)
+
+    def symlink(self, made: Symlink) -> None:
+        make_link(self.path(made.path), made, self.owners)
+
+    def fdatasync(self, one: Fdatasync) -> None:
+        os.fdatasync(self.descriptor(one.path))
+        self.unsynced.pop(self.inode(one.path), None)
 
     def fsync_range(self, one: FsyncRange) -> None:
         """A sync of the whole file is an fdatasync; one of a part is made by msync, which syncs
@@ -159,7 +198,7 @@ class Replay:
         size = os.fstat(descriptor).st_size
         if one.offset == 0 and one.length >= size:
             os.fdatasync(descriptor)
-            self.unsynced.pop(os.stat(self.path(one.path)).st_ino, None)
+            self.unsynced.pop(self.inode(one.path), None)
             return
         begin = one.offset // mmap.PAGESIZE * mmap.PAGESIZE
         end = min(one.offset + one.length, size)
@@ -192,11 +231,13 @@ CALLS: Dict[Type[Any], Callable[[Replay, Any], None]] = {
     Rmdir: Replay.rmdir,
     Rename: Replay.rename,
     Link: Replay.link,
+    Symlink: Replay.symlink,
     Write: Replay.write,
     Truncate: Replay.truncate,
     Chmod: Replay.chmod,
     Chown: Replay.chown,
     Fsync: Replay.fsync,
+    Fdatasync: Replay.fdatasync,
     FsyncRange: Replay.fsync_range,
     Sync: Replay.sync,
     Say: Replay.say,

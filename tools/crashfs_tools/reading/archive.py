@@ -4,61 +4,123 @@ from __future__ import annotations
 
 import tarfile
 from io import BytesIO
-from typing import BinaryIO, Dict, List, Tuple
+from typing import BinaryIO, Dict, List, Optional, Tuple
 
+from .data import Data
 from .plan import StateList
-from .states import Entry
+from .sparse import has_many_zeros, map_of, runs_of
+from .states import Item
+
+KINDS = {'dir': tarfile.DIRTYPE, 'file': tarfile.REGTYPE, 'symlink': tarfile.SYMTYPE}
 
 
-def write_state(plan: StateList, number: int, out: BinaryIO) -> None:
-    """The tree of one state."""
-    with tarfile.open(fileobj=out, mode='w|', format=tarfile.PAX_FORMAT) as archive:
-        add_tree(archive, plan, number, './')
+class ArchiveWriter:
+    """An archive that is written as a stream. With sparse, large files of zeros are written in
+    pieces."""
 
+    def __init__(self, plan: StateList, out: BinaryIO, sparse: bool = False) -> None:
+        self.plan = plan
+        self.sparse = sparse
+        self.file = tarfile.open(fileobj=out, mode='w|', format=tarfile.PAX_FORMAT)
 
-def write_states(plan: StateList, numbers: List[int], out: BinaryIO) -> None:
-    """The trees of states, each below a directory of its number."""
-    with tarfile.open(fileobj=out, mode='w|', format=tarfile.PAX_FORMAT) as archive:
+    def __enter__(self) -> ArchiveWriter:
+        return self
+
+    def __exit__(self, *_: object) -> None:
+        """The end is two empty blocks, and not as many as fill a record of a tape."""
+        stream = self.file.fileobj
+        assert stream is not None
+        stream.write(bytes(2 * tarfile.BLOCKSIZE))
+        stream.close()
+
+    def tree(self, number: int) -> Dict[str, Item]:
+        return self.plan.trees.tree(self.plan.states[number][1])
+
+    def write_state(self, number: int) -> None:
+        """The tree of one state."""
+        self.write_tree(number, './')
+
+    def write_states(self, numbers: List[int]) -> None:
+        """The trees of states, each below a directory of its number."""
         for number in numbers:
-            add_tree(archive, plan, number, f'{number}/')
+            self.write_tree(number, f'{number}/')
 
-
-def write_changes(plan: StateList, numbers: List[int], out: BinaryIO) -> None:
-    """What differs between state 0 and each of these states."""
-    start = plan.trees.tree(plan.states[0][1])
-    with tarfile.open(fileobj=out, mode='w|', format=tarfile.PAX_FORMAT) as archive:
+    def write_changes(self, numbers: List[int]) -> None:
+        """What differs between state 0 and each of these states."""
+        start = self.tree(0)
         for number in numbers:
-            tree = plan.trees.tree(plan.states[number][1])
+            tree = self.tree(number)
             gone = [path for path in in_order(start) if path not in tree]
             shown = ''.join(shown_name(path, start[path]) + '\0' for path in gone).encode()
             missing = tarfile.TarInfo(f'{number}.missing')
             missing.size = len(shown)
-            archive.addfile(missing, BytesIO(shown))
+            self.file.addfile(missing, BytesIO(shown))
             for path in in_order(tree):
                 if start.get(path) != tree[path]:
-                    archive.addfile(*member(f'{number}{path}', tree[path]))
+                    self.write_item(f'{number}{path}', tree[path])
+
+    def write_tree(self, number: int, top: str) -> None:
+        tree = self.tree(number)
+        for path in in_order(tree):
+            name = top if path == '/' else ('' if top == './' else top) + path[1:]
+            self.write_item(name, tree[path])
+
+    def write_item(self, name: str, item: Item) -> None:
+        info = tarfile.TarInfo(name.rstrip('/'))
+        info.type = KINDS[item.kind]
+        (info.uname, info.gname, mode), data = item.rights, item.data
+        info.mode = int(mode, 8)
+        if data is None:
+            self.file.addfile(info)
+        elif item.kind == 'symlink':
+            info.linkname = data.whole().decode('utf-8')
+            self.file.addfile(info)
+        elif self.sparse and has_many_zeros(data):
+            self.write_sparse(info, data)
+        else:
+            info.size = data.length
+            self.file.addfile(info, Reader(data, [(0, data.length)]))
+
+    def write_sparse(self, info: tarfile.TarInfo, data: Data) -> None:
+        """A file in pieces, in the PAX format 1.0 of GNU tar: a map, and then the pieces."""
+        runs = runs_of(data)
+        head = map_of(runs, data.length)
+        info.pax_headers = {
+            'GNU.sparse.major': '1',
+            'GNU.sparse.minor': '0',
+            'GNU.sparse.name': info.name,
+            'GNU.sparse.realsize': str(data.length),
+        }
+        above, slash, name = info.name.rpartition('/')
+        info.name = f'{above}{slash}GNUSparseFile.0/{name}'
+        info.size = len(head) + sum(end - begin for begin, end in runs)
+        self.file.addfile(info, Reader(data, runs, head))
 
 
-def in_order(tree: Dict[str, Entry]) -> List[str]:
+class Reader(BytesIO):
+    """Reads a head and then pieces of a file, as a file of an archive is read."""
+
+    def __init__(self, data: Data, runs: List[Tuple[int, int]], head: bytes = b'') -> None:
+        super().__init__(head)
+        self.data = data
+        self.runs = list(runs)
+
+    def read(self, size: Optional[int] = -1, /) -> bytes:
+        """So many bytes; fewer only at the end."""
+        found = super().read(size)
+        while self.runs and len(found) < (size or 0):
+            begin, end = self.runs.pop(0)
+            stop = min(end, begin + (size or 0) - len(found))
+            found += self.data.read(begin, stop)
+            if stop < end:
+                self.runs.insert(0, (stop, end))
+        return found
+
+
+def in_order(tree: Dict[str, Item]) -> List[str]:
     return sorted(tree, key=lambda path: path.split('/'))
 
 
-def shown_name(path: str, entry: Entry) -> str:
+def shown_name(path: str, item: Item) -> str:
     """A path as an archive has it: a directory's ends with a slash."""
-    return path[1:] + ('/' if entry[1] is None else '')
-
-
-def add_tree(archive: tarfile.TarFile, plan: StateList, number: int, top: str) -> None:
-    tree = plan.trees.tree(plan.states[number][1])
-    for path in in_order(tree):
-        name = top if path == '/' else ('' if top == './' else top) + path[1:]
-        archive.addfile(*member(name, tree[path]))
-
-
-def member(name: str, entry: Entry) -> Tuple[tarfile.TarInfo, BytesIO]:
-    (owner, group, mode), data = entry
-    info = tarfile.TarInfo(name.rstrip('/'))
-    info.type = tarfile.DIRTYPE if data is None else tarfile.REGTYPE
-    info.uname, info.gname, info.mode = owner, group, int(mode, 8)
-    info.size = len(data or b'')
-    return info, BytesIO(data or b'')
+    return path[1:] + ('/' if item.data is None else '')

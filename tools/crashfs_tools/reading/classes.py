@@ -7,19 +7,22 @@ can still get one; bytes past a file's size count as long as a later size can sh
 
 from __future__ import annotations
 
-from typing import Dict, FrozenSet, Iterator, List, NamedTuple, Optional, Set, Tuple
+from typing import Dict, FrozenSet, Iterator, List, NamedTuple, Optional, Set, Tuple, Union
 
 from .contents import Contents
-from .micro import ChangeSize, LinkEntry, Micro
-from .order import Order
-from .states import change_nodes
-from .trace import Node, Reading
+from .micro import ChangeSize, LinkEntry, Micro, Rights
+from .names import DIRECTORY, Entry, Inode
+from .order import Order, bits
+from .tables import change_entries, change_rights, reached
+from .trace import Reading
 
-# What is at a path that the start tree has otherwise, None if nothing is.
-Names = Dict[str, Optional[Node]]
+# What the start tree has otherwise: what an entry holds, None if nothing, and a directory's rights.
+Names = Dict[Union[Entry, int], Union[Inode, Rights, None]]
 # Each changed file with its content.
 Files = Tuple[Tuple[int, int], ...]
-Tree = FrozenSet[Tuple[str, Optional[Tuple[object, ...]]]]
+# What is at a path: its kind, and its content or a directory's rights.
+Shown = Tuple[object, ...]
+Tree = FrozenSet[Tuple[str, Optional[Shown]]]
 
 
 class Found(NamedTuple):
@@ -38,24 +41,22 @@ class Classes:
         self.order = order
         self.contents = Contents(reading)
         self.start = {file: self.contents.start(file) for file in reading.made_rights}
-        self.start_paths: Dict[int, List[str]] = {}
-        for path, node in reading.start.items():
-            if isinstance(node, int):
-                self.start_paths.setdefault(node, []).append(path)
-        self.resized = self.places_by_file(ChangeSize)
-        self.linked = self.places_by_file(LinkEntry)
+        self.start_entries: Dict[int, List[Entry]] = {}
+        for entry, node in reading.start.items():
+            if node.kind != DIRECTORY:
+                self.start_entries.setdefault(node.number, []).append(entry)
+        self.resized: Dict[int, int] = {}
+        self.linked: Dict[int, int] = {}
+        for place, operation in enumerate(reading.operations):
+            if isinstance(operation, ChangeSize):
+                add_place(self.resized, operation.file, place)
+            elif isinstance(operation, LinkEntry):
+                add_place(self.linked, operation.node.number, place)
         self.names: List[Names] = []
-        self.numbers: Dict[FrozenSet[Tuple[str, Optional[Node]]], int] = {}
+        self.numbers: Dict[FrozenSet[object], int] = {}
         self._renamed: Dict[Tuple[int, int], int] = {}
         self._named: Dict[Tuple[int, int], bool] = {}
-
-    def places_by_file(self, kind: type) -> Dict[int, int]:
-        found: Dict[int, int] = {}
-        for place, operation in enumerate(self.reading.operations):
-            if isinstance(operation, kind):
-                file = getattr(operation, 'linked' if kind is LinkEntry else 'file')
-                found[file] = found.get(file, 0) | 1 << place
-        return found
+        self._start_paths: Dict[str, Inode] = {}
 
     def different(self) -> Iterator[int]:
         """The first set of each different state, ascending as every_set has them."""
@@ -70,7 +71,8 @@ class Classes:
             followed.add(one)
             if future:
                 lowest = future & -future
-                waiting.append((places | lowest, future ^ lowest, self.step(one[1], lowest)))
+                unit = self.order.unit(lowest)
+                waiting.append((places | unit, future & ~unit, self.step(one[1], unit)))
                 waiting.append((places, self.order.future_without(future, lowest), one[1]))
                 continue
             tree = found.says, self.tree(one[1])
@@ -89,15 +91,19 @@ class Classes:
                     files.append((file, content))
         return found._replace(files=tuple(files))
 
-    def step(self, found: Found, lowest: int) -> Found:
-        place = lowest.bit_length() - 1
+    def step(self, found: Found, unit: int) -> Found:
+        for place in bits(unit):
+            found = self.step_of(found, place)
+        return found
+
+    def step_of(self, found: Found, place: int) -> Found:
         operation = self.reading.operations[place]
         if operation.file is not None:
             files = dict(found.files)
             content = files.get(operation.file, self.start[operation.file])
             files[operation.file] = self.contents.changed(content, place)
             return found._replace(files=tuple(sorted(files.items())))
-        if operation.touched or operation.directory is not None:
+        if operation.entries or operation.directory is not None:
             return found._replace(names=self.renamed(found.names, place, operation))
         return found._replace(says=found.says + 1)
 
@@ -105,19 +111,35 @@ class Classes:
         key = names, place
         if key not in self._renamed:
             changed = dict(self.names[names])
-            paths = [*operation.touched, *([operation.directory] if operation.directory else [])]
-            nodes = {path: self.node(changed, path) for path in paths}
-            there = {path: node for path, node in nodes.items() if node is not None}
-            change_nodes(there, operation)
-            for path in paths:
-                changed[path] = there.get(path)
-                if changed[path] == self.reading.start.get(path):
-                    del changed[path]
+            self.change_names(changed, operation)
+            self.change_directories(changed, operation)
             self._renamed[key] = self.number(changed)
         return self._renamed[key]
 
-    def node(self, names: Names, path: str) -> Optional[Node]:
-        return names[path] if path in names else self.reading.start.get(path)
+    def change_names(self, changed: Names, operation: Micro) -> None:
+        nodes = {entry: self.node(changed, entry) for entry in operation.entries}
+        there = {entry: node for entry, node in nodes.items() if node is not None}
+        change_entries(there, operation)
+        for entry in operation.entries:
+            changed[entry] = there.get(entry)
+            if changed[entry] == self.reading.start.get(entry):
+                del changed[entry]
+
+    def change_directories(self, changed: Names, operation: Micro) -> None:
+        """A directory that is gone has no rights that could differ."""
+        rights: Dict[int, Rights] = {}
+        change_rights(rights, operation)
+        for directory, one in rights.items():
+            changed[directory] = one
+            if one == self.reading.start_rights.get(directory):
+                del changed[directory]
+        if operation.removed_directory is not None:
+            changed.pop(operation.removed_directory, None)
+
+    def node(self, names: Names, entry: Entry) -> Optional[Inode]:
+        node = names[entry] if entry in names else self.reading.start.get(entry)
+        assert node is None or isinstance(node, Inode)
+        return node
 
     def number(self, names: Names) -> int:
         key = frozenset(names.items())
@@ -129,28 +151,85 @@ class Classes:
     def is_named(self, names: int, file: int) -> bool:
         key = names, file
         if key not in self._named:
-            self._named[key] = any(True for _ in self.paths_of(names, file))
+            self._named[key] = any(True for _ in self.entries_of(names, file))
         return self._named[key]
 
-    def paths_of(self, names: int, file: int) -> Iterator[str]:
+    def entries_of(self, names: int, file: int) -> Iterator[Entry]:
         changed = self.names[names]
-        yield from (path for path in self.start_paths.get(file, []) if path not in changed)
-        yield from (path for path, node in changed.items() if node == file)
+        yield from (entry for entry in self.start_entries.get(file, []) if entry not in changed)
+        for entry, node in changed.items():
+            if isinstance(entry, tuple) and isinstance(node, Inode):
+                if node.kind != DIRECTORY and node.number == file:
+                    yield entry
+
+    # The trees
 
     def tree(self, found: Found) -> Tree:
         """The paths at which the state differs from the start tree, with what is there."""
-        paths = set(self.names[found.names])
-        contents = dict(found.files)
-        for file in contents:
-            paths.update(self.paths_of(found.names, file))
+        names, contents = self.names[found.names], dict(found.files)
+        nodes = self.nodes_at_home(found) if self.is_at_home(names) else self.all_nodes(names)
         items = {}
-        for path in paths:
-            there = self.shown(self.node(self.names[found.names], path), contents)
-            if there != self.shown(self.reading.start.get(path), {}):
+        for path, node in nodes.items():
+            there = self.shown(node, names, contents)
+            if there != self.shown(self.start_paths.get(path), {}, {}):
                 items[path] = there
         return frozenset(items.items())
 
-    def shown(self, node: Optional[Node], contents: Dict[int, int]) -> Optional[Tuple[object, ...]]:
-        if not isinstance(node, int):
-            return node
-        return (self.contents.shown(contents.get(node, self.start[node])),)
+    @property
+    def start_paths(self) -> Dict[str, Inode]:
+        if not self._start_paths:
+            self._start_paths = dict(reached(self.reading.start.items()))
+        return self._start_paths
+
+    def is_at_home(self, names: Names) -> bool:
+        """Whether each directory has the path that it has if no directory is moved."""
+        return all(
+            self.home(entry) == self.reading.homes[node.number]
+            for entry, node in names.items()
+            if isinstance(entry, tuple) and isinstance(node, Inode) and node.kind == DIRECTORY
+        )
+
+    def home(self, entry: Entry) -> str:
+        return f'{self.reading.homes[entry[0]]}/{entry[1]}'
+
+    def nodes_at_home(self, found: Found) -> Dict[str, Optional[Inode]]:
+        """What is at the paths of changed entries, files and directories."""
+        names = self.names[found.names]
+        nodes: Dict[str, Optional[Inode]] = {}
+        for key in names:
+            if isinstance(key, int):
+                nodes[self.reading.homes[key] or '/'] = Inode(DIRECTORY, key)
+                continue
+            node = self.node(names, key)
+            # A directory that is gone and one that is made again may have the same paths.
+            nodes[self.home(key)] = node or nodes.get(self.home(key))
+        for file, _ in found.files:
+            for entry in self.entries_of(found.names, file):
+                nodes[self.home(entry)] = self.node(names, entry)
+        return nodes
+
+    def all_nodes(self, names: Names) -> Dict[str, Optional[Inode]]:
+        """What is at each path, and at each path of the start tree."""
+        entries = dict(self.reading.start)
+        for key in names:
+            if isinstance(key, tuple):
+                node = self.node(names, key)
+                if node is None:
+                    entries.pop(key, None)
+                else:
+                    entries[key] = node
+        return {**dict.fromkeys(self.start_paths), **dict(reached(entries.items()))}
+
+    def shown(
+        self, node: Optional[Inode], names: Names, contents: Dict[int, int]
+    ) -> Optional[Shown]:
+        if node is None:
+            return None
+        if node.kind == DIRECTORY:
+            return node.kind, names.get(node.number, self.reading.start_rights.get(node.number))
+        return node.kind, self.contents.shown(contents.get(node.number, self.start[node.number]))
+
+
+def add_place(places: Dict[int, int], file: Optional[int], place: int) -> None:
+    assert file is not None
+    places[file] = places.get(file, 0) | 1 << place

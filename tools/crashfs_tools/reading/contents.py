@@ -4,20 +4,21 @@ from __future__ import annotations
 
 from typing import Dict, List, NamedTuple, Tuple
 
+from .data import Data, overwritten
 from .micro import ChangeSize, Micro, Rights, SetRights, WriteBlock
 from .trace import Reading
 
-# The number of a block of zeros. Blocks at a file's end that are zero are left out.
+# The number of a block of zeros, which no content has.
 ZEROS = 0
 
 
 class Content(NamedTuple):
-    """A file's rights and size, and its blocks by number: also bytes past the size, which a later
-    size may show."""
+    """A file's rights and size, and its blocks that aren't zero, ascending: which, and the number
+    of what it holds. Also bytes past the size, which a later size may show."""
 
     rights: Rights
     size: int
-    blocks: Tuple[int, ...]
+    blocks: Tuple[Tuple[int, int], ...]
 
 
 class Contents:
@@ -34,10 +35,9 @@ class Contents:
 
     def start(self, file: int) -> int:
         """The content of a file that nothing has changed."""
-        data = self.reading.start_data.get(file, b'')
-        size = self.reading.block_size
-        blocks = [self.block(data[at : at + size]) for at in range(0, len(data), size)]
-        return self.number(Content(self.reading.made_rights[file], len(data), trimmed(blocks)))
+        data = self.reading.made_data.get(file, Data(self.reading.block_size))
+        blocks = tuple((it, self.block(data.blocks[it])) for it in sorted(data.blocks))
+        return self.number(Content(self.reading.made_rights[file], data.length, blocks))
 
     def number(self, content: Content) -> int:
         if content not in self.numbers:
@@ -46,7 +46,7 @@ class Contents:
         return self.numbers[content]
 
     def block(self, data: bytes) -> int:
-        data = data.rstrip(b'\0')
+        """The number of a block, which comes without the zeros at its end."""
         if data not in self.block_numbers:
             self.block_numbers[data] = len(self.blocks)
             self.blocks.append(data)
@@ -72,23 +72,23 @@ class Contents:
         blocks = self.overwritten(content.blocks, operation)
         return content._replace(blocks=blocks)
 
-    def cut(self, blocks: Tuple[int, ...], length: int) -> Tuple[int, ...]:
+    def cut(self, blocks: Tuple[Tuple[int, int], ...], length: int) -> Tuple[Tuple[int, int], ...]:
         """The blocks without what is past a length."""
         full, rest = divmod(length, self.reading.block_size)
-        kept = list(blocks[:full])
-        if rest and full < len(blocks):
-            kept.append(self.block(self.blocks[blocks[full]][:rest]))
-        return trimmed(kept)
+        kept = [(it, number) for it, number in blocks if it < full]
+        number = dict(blocks).get(full, ZEROS)
+        last = self.block(self.blocks[number][:rest].rstrip(b'\0'))
+        return (*kept, (full, last)) if last != ZEROS else tuple(kept)
 
-    def overwritten(self, blocks: Tuple[int, ...], write: WriteBlock) -> Tuple[int, ...]:
-        changed = list(blocks)
-        changed.extend([ZEROS] * (write.block + 1 - len(changed)))
-        data = bytearray(self.blocks[changed[write.block]])
-        end = write.at + len(write.data)
-        data.extend(bytes(max(0, end - len(data))))
-        data[write.at : end] = write.data
-        changed[write.block] = self.block(bytes(data))
-        return trimmed(changed)
+    def overwritten(
+        self, blocks: Tuple[Tuple[int, int], ...], write: WriteBlock
+    ) -> Tuple[Tuple[int, int], ...]:
+        changed = dict(blocks)
+        before = self.blocks[changed.pop(write.block, ZEROS)]
+        number = self.block(overwritten(before, write.at, write.data))
+        if number != ZEROS:
+            changed[write.block] = number
+        return tuple(sorted(changed.items()))
 
     def shown(self, content: int) -> int:
         """The content without the bytes past its size."""
@@ -96,11 +96,3 @@ class Contents:
             it = self.contents[content]
             self._shown[content] = self.number(it._replace(blocks=self.cut(it.blocks, it.size)))
         return self._shown[content]
-
-
-def trimmed(blocks: List[int]) -> Tuple[int, ...]:
-    """The blocks without zeros at the end."""
-    count = len(blocks)
-    while count and blocks[count - 1] == ZEROS:
-        count -= 1
-    return tuple(blocks[:count])

@@ -4,26 +4,29 @@ from __future__ import annotations
 
 import hashlib
 from functools import lru_cache
-from typing import Callable, Dict, List, Tuple
+from typing import Callable, Dict, Tuple
 
+from .data import Data, overwritten
 from .micro import ChangeSize, Rights, SetRights, WriteBlock
 from .order import bits
 from .trace import Reading
 
+Blocks = Dict[int, bytes]
+
 
 class Digests:
-    """The digest of a file is that of the digests of its blocks. A block depends on its own changes
-    and the size alone, so that many states share it. changes has each file's places; bytes_of makes
-    the bytes of a file."""
+    """The digest of a file is that of its length and of its blocks that aren't zero. A block
+    depends on its own changes and the size alone, so that many states share it. changes has each
+    file's places; data_of makes the bytes of a file."""
 
     def __init__(
         self,
         reading: Reading,
         changes: Dict[int, int],
-        bytes_of: Callable[[int, int], Tuple[Rights, bytes]],
+        data_of: Callable[[int, int], Tuple[Rights, Data]],
     ) -> None:
         self.reading = reading
-        self.bytes_of = bytes_of
+        self.data_of = data_of
         self.writes = sum(
             1 << place
             for place, operation in enumerate(reading.operations)
@@ -37,29 +40,34 @@ class Digests:
         }
         self.block = lru_cache(None)(self.make_block)
         self.rights_and_size = lru_cache(None)(self.make_rights_and_size)
-        self.start_blocks = lru_cache(64)(self.make_start_blocks)
+        self.made_blocks = lru_cache(64)(self.make_made_blocks)
 
     def digest(self, number: int, places: int) -> Tuple[Rights, bytes]:
         """The rights and the digest of a file after some of its changes."""
         if number not in self.blocks:
-            rights, data = self.bytes_of(number, places)
-            return rights, whole(self.pieces(data))
+            rights, data = self.data_of(number, places)
+            found = {block: digest_of(whole) for block, whole in data.blocks.items()}
+            return rights, whole_digest(data.length, found)
         rights, size = self.rights_and_size(number, places & ~self.writes)
-        full, rest = divmod(size, self.reading.block_size)
         blocks = self.blocks[number]
-        digests = list(self.start_blocks(number, full))
+        digests = (
+            {}
+            if blocks.keys() >= self.made(number).blocks.keys()
+            else dict(self.made_blocks(number))
+        )
+        full, rest = divmod(size, self.reading.block_size)
         for block, changes in blocks.items():
             if block < full:
-                digests[block] = self.block(
-                    number, block, self.last_writes(changes & places), self.reading.block_size
-                )
+                seen = self.last_writes(changes & places)
+                digests[block] = self.block(number, block, seen, self.reading.block_size)
         if rest:
-            digests.append(self.block(number, full, blocks.get(full, 0) & places, rest))
-        return rights, whole(digests)
+            changes = blocks.get(full, 0) & places
+            digests[full] = self.block(number, full, changes, rest)
+        return rights, whole_digest(size, digests)
 
-    def pieces(self, data: bytes) -> List[bytes]:
-        size = self.reading.block_size
-        return [hashlib.sha256(data[at : at + size]).digest() for at in range(0, len(data), size)]
+    def made(self, number: int) -> Data:
+        """The bytes with which a file is made."""
+        return self.reading.made_data.get(number, Data(self.reading.block_size))
 
     def last_writes(self, places: int) -> int:
         """The writes of a block that are seen: of a whole block, the last one alone."""
@@ -69,26 +77,21 @@ class Digests:
             return 1 << last
         return places
 
-    def make_start_blocks(self, number: int, count: int) -> Tuple[bytes, ...]:
-        """The digests of the first blocks of a file that nothing has changed but its size."""
-        return tuple(
-            self.block(number, block, 0, self.reading.block_size) for block in range(count)
-        )
+    def make_made_blocks(self, number: int) -> Blocks:
+        """The digests of a file's blocks that nothing has changed."""
+        return {block: digest_of(whole) for block, whole in self.made(number).blocks.items()}
 
     def make_block(self, number: int, block: int, places: int, shown: int) -> bytes:
         """The digest of the first bytes of a block after some of its changes."""
-        size = self.reading.block_size
-        start = self.reading.start_data.get(number, b'')[block * size : (block + 1) * size]
-        data = bytearray(start.ljust(size, b'\0'))
+        data = self.made(number).blocks.get(block, b'')
         for place in bits(places):
             operation = self.reading.operations[place]
             assert isinstance(operation, WriteBlock)
-            data[operation.at : operation.at + len(operation.data)] = operation.data
-        return hashlib.sha256(data[:shown]).digest()
+            data = overwritten(data, operation.at, operation.data)
+        return digest_of(data[:shown].rstrip(b'\0'))
 
     def make_rights_and_size(self, number: int, places: int) -> Tuple[Rights, int]:
-        rights = self.reading.made_rights[number]
-        size = len(self.reading.start_data.get(number, b''))
+        rights, size = self.reading.made_rights[number], self.made(number).length
         for place in bits(places):
             operation = self.reading.operations[place]
             if isinstance(operation, SetRights):
@@ -98,7 +101,7 @@ class Digests:
         return rights, size
 
     def shrinks(self, number: int, places: int) -> bool:
-        size = len(self.reading.start_data.get(number, b''))
+        size = self.made(number).length
         for place in bits(places):
             operation = self.reading.operations[place]
             if isinstance(operation, ChangeSize):
@@ -116,5 +119,18 @@ class Digests:
         return blocks
 
 
-def whole(digests: List[bytes]) -> bytes:
-    return hashlib.sha256(b''.join(digests)).digest()
+ZEROS = b''
+
+
+def digest_of(block: bytes) -> bytes:
+    """The digest of a block without the zeros at its end; of zeros nothing."""
+    return hashlib.sha256(block).digest() if block else ZEROS
+
+
+def whole_digest(length: int, blocks: Blocks) -> bytes:
+    """The digest of a length and of the blocks that aren't zero."""
+    digest = hashlib.sha256(length.to_bytes(8, 'little'))
+    for block in sorted(blocks):
+        if blocks[block]:
+            digest.update(block.to_bytes(8, 'little') + blocks[block])
+    return digest.digest()

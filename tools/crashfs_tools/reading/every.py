@@ -26,7 +26,8 @@ def every_set(order: Order) -> Iterator[int]:
             yield places
             continue
         lowest = future & -future
-        waiting.append((places | lowest, future ^ lowest))
+        unit = order.unit(lowest)
+        waiting.append((places | unit, future & ~unit))
         waiting.append((places, order.future_without(future, lowest)))
 
 
@@ -50,7 +51,7 @@ def steps(order: Order, future: int, lowest: int) -> List[int]:
     """The futures that follow one: without its lowest place, and with it; or itself."""
     if not future & lowest:
         return [future]
-    return [order.future_without(future, lowest), future ^ lowest]
+    return [order.future_without(future, lowest), future & ~order.unit(lowest)]
 
 
 def count_sets(order: Order) -> int:
@@ -97,6 +98,6 @@ def set_at(order: Order, extensions: List[Dict[int, int]], number: int) -> int:
                 future = without
             else:
                 number -= before
-                places |= lowest
-                future ^= lowest
+                places |= order.unit(lowest)
+                future &= ~order.unit(lowest)
     return places

@@ -3,22 +3,26 @@
 from __future__ import annotations
 
 import re
-from typing import Any, Dict, Iterator, Tuple
+from typing import Any, Dict, Iterator, List, Set, Tuple
 
 from .faults import LineFault, syntax
 from .json_lines import is_number, read_object
 
-NAME_BYTES, USER_BYTES = 255, 64
+NAME_BYTES, USER_BYTES, TARGET_BYTES = 255, 64, 4_095
 BLOCK_SIZES = (512, 1024, 2048, 4096)
-PROFILES = ('blocks', 'ordered')
-HEADERS = {1: (), 2: ('profile',), 3: ('profile', 'block')}
-RIGHTS = ('owner', 'group', 'mode')
+PROFILES = ('blocks', 'ordered', 'journal')
+# The profiles that only later versions have.
+PROFILES_SINCE = {'journal': 4}
+HEADERS = {1: (), 2: ('profile',), 3: ('profile', 'block'), 4: ('profile', 'block')}
+OWNERS = ('owner', 'group')
+RIGHTS = (*OWNERS, 'mode')
 # The kinds of lines: the first version that has each, and its keys.
 KINDS: Dict[str, Dict[str, Tuple[int, Tuple[str, ...]]]] = {
     'start': {
         'dir': (1, ('path', *RIGHTS)),
         'file': (1, ('path', *RIGHTS, 'bytes')),
         'link': (3, ('path', 'from')),
+        'symlink': (4, ('path', *OWNERS, 'target')),
     },
     'op': {
         'creat': (1, ('path', *RIGHTS)),
@@ -27,11 +31,13 @@ KINDS: Dict[str, Dict[str, Tuple[int, Tuple[str, ...]]]] = {
         'rmdir': (1, ('path',)),
         'rename': (1, ('from', 'to')),
         'link': (3, ('from', 'to')),
+        'symlink': (4, ('path', *OWNERS, 'target')),
         'write': (1, ('path', 'offset', 'bytes')),
         'truncate': (1, ('path', 'length')),
         'chmod': (2, ('path', 'mode')),
         'chown': (2, ('path', 'owner', 'group')),
         'fsync': (1, ('path',)),
+        'fdatasync': (4, ('path',)),
         'fsync_range': (3, ('path', 'offset', 'length')),
         'sync': (1, ()),
         'say': (1, ('text',)),
@@ -63,10 +69,27 @@ class Line:
 
     @property
     def data(self) -> bytes:
-        """The bytes of a file or a write, which version 3 may have as a text."""
-        if 'text' in self.fields:
-            return str(self.fields['text']).encode('utf-8')
-        return bytes.fromhex(self.fields['bytes'])
+        """The bytes of a file or a write."""
+        return bytes_of(self.fields)
+
+    @property
+    def parts(self) -> List[Tuple[int, bytes]]:
+        """Where the bytes of a start file are, and what they are."""
+        if 'parts' not in self.fields:
+            return [(0, self.data)]
+        return [(part['at'], bytes_of(part)) for part in self.fields['parts']]
+
+    @property
+    def length(self) -> int:
+        """The length of a start file."""
+        return int(self.fields['length']) if 'parts' in self.fields else len(self.data)
+
+
+def bytes_of(fields: Fields) -> bytes:
+    """Bytes, which versions 3 and 4 may have as a text."""
+    if 'text' in fields:
+        return str(fields['text']).encode('utf-8')
+    return bytes.fromhex(fields['bytes'])
 
 
 class LineJudge:
@@ -95,9 +118,12 @@ class LineJudge:
     def judge_header(self, line: Line) -> None:
         version = line.fields['trace']
         if not is_number(version) or version not in HEADERS:
-            raise syntax(f'version {version} is not known (1, 2, 3)')
+            raise syntax(f'version {version} is not known (1, 2, 3, 4)')
         self.version = version
         self.judge_keys(line, (*HEADERS[version], *RIGHTS))
+        profile = line.fields.get('profile', 'blocks')
+        if PROFILES_SINCE.get(profile, 1) > version:
+            raise syntax(f'profile "{profile}" is not known in version {version}')
 
     def judge_word(self, line: Line) -> None:
         if line.key == 'start' and self.has_operation:
@@ -114,23 +140,36 @@ class LineJudge:
 
     def judge_keys(self, line: Line, keys: Tuple[str, ...]) -> None:
         wanted, found = {line.key, *keys}, set(line.fields)
-        if self.version == 3:
+        if self.version >= 3:
             wanted |= found & {'note'}
-            if 'bytes' in wanted and 'bytes' not in found and 'text' in found:
-                wanted = wanted - {'bytes'} | {'text'}
+        if 'bytes' in wanted and 'bytes' not in found:
+            wanted = wanted - {'bytes'} | self.other_bytes(line)
         for key in sorted(found - wanted):
             raise syntax(f'unknown key "{key}"')
         for key in sorted(wanted - found):
             raise syntax(f'no key "{key}"')
         for key in sorted(wanted - {line.key}):
             judge_value(key, line.fields[key])
+        if 'parts' in wanted:
+            judge_parts(line)
+        if line.word == 'symlink':
+            judge_target(line.fields['target'])
+
+    def other_bytes(self, line: Line) -> Set[str]:
+        """The keys by which a line has its bytes, if it hasn't the key `bytes`."""
+        if self.version >= 4 and line.key == 'start' and 'parts' in line.fields:
+            return {'length', 'parts'}
+        return {'text' if self.version >= 3 and 'text' in line.fields else 'bytes'}
 
 
 def judge_value(key: str, value: Any) -> None:
     """Syntax for a value that isn't of its key's kind."""
-    if key in ('offset', 'length', 'block'):
+    if key in ('offset', 'length', 'block', 'at'):
         if not is_number(value) or key == 'block' and value not in BLOCK_SIZES:
             raise syntax(f'{key} {value} is no number that it may have')
+    elif key == 'parts':
+        if not isinstance(value, list) or not all(isinstance(part, dict) for part in value):
+            raise syntax('parts is no array of objects')
     elif not isinstance(value, str):
         raise syntax(f'{key} is no text')
     elif key == 'mode' and not MODE.fullmatch(value):
@@ -140,7 +179,31 @@ def judge_value(key: str, value: Any) -> None:
     elif key == 'bytes' and len(value) % 2:
         raise syntax('bytes has an odd number of digits')
     elif key == 'profile' and value not in PROFILES:
-        raise syntax(f'profile "{value}" is not known (blocks, ordered)')
+        raise syntax(f'profile "{value}" is not known ({", ".join(PROFILES)})')
+
+
+def judge_parts(line: Line) -> None:
+    """Syntax for parts that aren't the bytes of a file: they ascend, are apart and not empty, and
+    end at the file's end at the latest."""
+    for part in line.fields['parts']:
+        if set(part) not in ({'at', 'bytes'}, {'at', 'text'}):
+            raise syntax('a part has at, and bytes or text, and nothing else')
+        for key, value in part.items():
+            judge_value(key, value)
+    end = 0
+    for at, data in line.parts:
+        if not data:
+            raise syntax(f'the part at {at} is empty')
+        if at < end:
+            raise syntax(f'the part at {at} begins before {end}, where the one before it ends')
+        end = at + len(data)
+    if end > line.length:
+        raise syntax(f'a part ends at {end}, past the length {line.length}')
+
+
+def judge_target(target: str) -> None:
+    if not 1 <= len(target.encode('utf-8')) <= TARGET_BYTES or '\0' in target:
+        raise syntax(f'a target is 1 to {TARGET_BYTES} bytes without NUL')
 
 
 def judge_names(line: Line) -> None:

@@ -8,6 +8,7 @@ from typing import Any, Dict, Iterator
 from .micro import Micro
 from .order import bits
 from .plan import StateList
+from .profiles import Profiles
 from .states import Digest
 
 
@@ -23,7 +24,8 @@ def listing(plan: StateList, lines: bool = False, same: bool = False) -> Iterato
 
 
 def origin(operation: Micro) -> str:
-    return f' line {operation.line} {operation.path}'.rstrip()
+    path = '' if operation.file is None else operation.path
+    return f' line {operation.line} {path}'.rstrip()
 
 
 def json_listing(plan: StateList) -> Iterator[str]:
@@ -40,15 +42,18 @@ def json_listing(plan: StateList) -> Iterator[str]:
             }
         )
     first: Dict[Digest, int] = {}
+    # So far the program prints no profiles.
+    profiles = Profiles(plan.reading) if plan.reading.version >= 4 else None
     for number, (text, places) in enumerate(plan.states):
-        yield as_line(
-            {
-                'state': number,
-                **state_fields(text),
-                'says': plan.trees.count_says(places),
-                'same': first.setdefault(plan.trees.digest(places), number),
-            }
-        )
+        fields: Dict[str, Any] = {
+            'state': number,
+            **state_fields(text),
+            'says': plan.trees.count_says(places),
+            'same': first.setdefault(plan.trees.digest(places), number),
+        }
+        if profiles is not None:
+            fields['profiles'] = profiles.names(places)
+        yield as_line(fields)
 
 
 def state_fields(text: str) -> Dict[str, Any]:

@@ -2,36 +2,36 @@
 
 from __future__ import annotations
 
-import json
 import os
 import sys
 from typing import Dict, List, Union
 
 from .faults import ReadingFault
 from .listing import json_listing, listing
-from .plan import StateList, different, file_sets, lost_sets, plan_of, read_picks
+from .picking import Usage, judge, lines_of
+from .plan import StateList, add_families, plan_of, read_picks
 from .trace import read
 
 FLAGS = {
-    'list': ('--holes', '--lines', '--same', '--json'),
-    'picks': ('--lost', '--files'),
-    'tar': ('--holes', '--changes', '--help'),
+    'list': ('--holes', '--lines', '--same', '--json', '--lost', '--files'),
+    'picks': ('--lost', '--files', '--every', '--different', '--count', '--help'),
+    'tar': ('--holes', '--changes', '--sparse', '--help'),
 }
 VALUED = {
     'list': ('--trace', '--picks'),
-    'picks': ('--trace',),
+    'picks': ('--trace', '--most', '--sample', '--seed', '--profile'),
     'tar': ('--trace', '--picks', '--state', '--states'),
 }
 
 Options = Dict[str, Union[str, bool]]
 HELP = (
     'tar --trace FILE [--holes] [--picks FILE] --state N\n'
-    'tar --trace FILE [--holes] [--picks FILE] --states LIST [--changes]'
+    'tar --trace FILE [--holes] [--picks FILE] --states LIST [--changes]\n'
+    'picks --trace FILE [--lost] [--files]\n'
+    'picks --trace FILE --every [--different] [--most N] [--profile F]\n'
+    'picks --trace FILE --every --count\n'
+    'picks --trace FILE --sample M --seed S'
 )
-
-
-class Usage(Exception):
-    """A command line that is refused."""
 
 
 def main(words: List[str]) -> int:
@@ -66,8 +66,12 @@ def read_options(words: List[str]) -> Options:
             options[word] = next(rest, '')
         else:
             raise Usage(f"unexpected argument '{word}' found")
-    if '--trace' not in options and '--help' not in options:
+    if '--help' in options:
+        return options
+    if '--trace' not in options:
         raise Usage('the following required arguments were not provided: --trace <FILE>')
+    if words[0] == 'picks':
+        judge(options)
     return options
 
 
@@ -76,16 +80,16 @@ def run(command: str, options: Options) -> None:
         print(HELP)
         return
     reading = read(file_bytes(str(options['--trace'])))
+    if command == 'picks':
+        sys.stdout.writelines(lines_of(reading, options))
+        return
     picks = read_picks(file_bytes(str(options['--picks']))) if '--picks' in options else []
     plan = plan_of(reading, '--holes' in options, picks)
+    add_families(plan, '--lost' in options, '--files' in options)
     if command == 'list' and '--json' in options:
         sys.stdout.writelines(json_listing(plan))
     elif command == 'list':
         sys.stdout.writelines(listing(plan, '--lines' in options, '--same' in options))
-    elif command == 'picks':
-        family = lost_sets if '--lost' in options else file_sets
-        for places in different(family(plan)):
-            print(json.dumps(places, separators=(',', ':')))
     else:
         write_archive(plan, options)
 
@@ -100,24 +104,33 @@ def file_bytes(path: str) -> bytes:
 
 def write_archive(plan: StateList, options: Options) -> None:
     # `list` begins faster without tarfile.
-    from .archive import write_changes, write_state, write_states
+    from .archive import ArchiveWriter
 
-    if '--state' in options and '--changes' not in options:
+    numbers = states_of(plan, options)
+    with ArchiveWriter(plan, sys.stdout.buffer, '--sparse' in options) as archive:
+        if '--changes' in options:
+            archive.write_changes(numbers)
+        elif '--state' in options:
+            archive.write_state(numbers[0])
+        else:
+            archive.write_states(numbers)
+
+
+def states_of(plan: StateList, options: Options) -> List[int]:
+    """The states that options name, in their order."""
+    if '--state' in options:
         number = str(options['--state'])
         if not number.isdigit():
             raise Usage(f"invalid value '{number}' for '--state <N>'")
-        if int(number) >= len(plan.states):
-            raise ReadingFault('no such state')
-        write_state(plan, int(number), sys.stdout.buffer)
-        return
-    numbers = states_of(str(options.get('--states') or options.get('--state', '')))
+        numbers = [int(number)]
+    else:
+        numbers = numbers_of(str(options.get('--states', '')))
     if max(numbers) >= len(plan.states):
         raise ReadingFault('no such state')
-    write = write_changes if '--changes' in options else write_states
-    write(plan, numbers, sys.stdout.buffer)
+    return numbers
 
 
-def states_of(shown: str) -> List[int]:
+def numbers_of(shown: str) -> List[int]:
     """The states of a list of numbers and ranges, in its order."""
     numbers: List[int] = []
     for piece in shown.split(','):

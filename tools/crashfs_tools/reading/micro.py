@@ -1,23 +1,33 @@
-"""Micro-operations and sync points."""
+"""Micro-operations: what each of them changes, and how it is printed."""
 
 from __future__ import annotations
 
 from typing import Any, Dict, Optional, Tuple
 
-from .names import parent
+from .names import DIRECTORY, Entry, Inode
 
 # Owner, group and mode, the mode as three octal digits.
 Rights = Tuple[str, str, str]
 
 
 class Micro:
-    """touched: the paths whose entries it changes. file: the file whose size, bytes or rights it
-    changes, with a path of it. directory: the directory whose rights it changes."""
+    """paths: those of its line. entries: those that it touches. handled: the files, symbolic links
+    and directories that it makes, links, moves, removes or replaces. file: the file whose size,
+    bytes or rights it changes, with a path of it. directory: the directory whose rights it
+    changes."""
 
-    touched: Tuple[str, ...] = ()
+    paths: Tuple[str, ...] = ()
+    entries: Tuple[Entry, ...] = ()
+    handled: Tuple[Inode, ...] = ()
+    # The directory that it makes, or removes.
+    made_directory: Optional[int] = None
+    removed_directory: Optional[int] = None
+    moves_directory = False
+    # Of a rename into another directory: 1 for its first half, 2 for its second one.
+    half = 0
     file: Optional[int] = None
     path = ''
-    directory: Optional[str] = None
+    directory: Optional[int] = None
     line = 0
 
     @property
@@ -31,63 +41,97 @@ class Micro:
     def path_of_file(self) -> Dict[str, Any]:
         return {'path': self.path or None, 'file': self.file}
 
-    @property
-    def named(self) -> Tuple[str, ...]:
-        return self.touched if self.directory is None else (self.directory,)
-
 
 class CreateEntry(Micro):
-    def __init__(self, path: str, made: Optional[int], rights: Rights) -> None:
-        self.touched = (path,)
-        self.made = made
+    """target: that of a symbolic link."""
+
+    def __init__(
+        self, path: str, entry: Entry, node: Inode, rights: Rights, target: str = ''
+    ) -> None:
+        self.paths, self.entries, self.handled = (path,), (entry,), (node,)
+        self.node = node
         self.rights = rights
+        self.target = target
+        if node.kind == DIRECTORY:
+            self.made_directory = node.number
 
     @property
     def text(self) -> str:
-        return f'create_dir_entry {self.touched[0]} {"dir" if self.made is None else "file"}'
+        return f'create_dir_entry {self.paths[0]} {self.node.kind}'
 
     def fields(self) -> Dict[str, Any]:
-        if self.made is None:
-            return {'path': self.touched[0], 'node': 'dir'}
-        return {'path': self.touched[0], 'node': 'file', 'file': self.made}
+        fields: Dict[str, Any] = {'path': self.paths[0], 'node': self.node.kind}
+        if self.node.kind != DIRECTORY:
+            fields['file'] = self.node.number
+        return {**fields, 'target': self.target} if self.target else fields
 
 
 class DeleteEntry(Micro):
-    def __init__(self, path: str, is_directory: bool) -> None:
-        self.touched = (path,)
-        self.is_directory = is_directory
+    def __init__(self, path: str, entry: Entry, node: Inode, half: int = 0) -> None:
+        self.paths, self.entries, self.handled = (path,), (entry,), (node,)
+        self.node = node
+        self.half = half
+        if node.kind == DIRECTORY:
+            self.removed_directory = node.number
 
     @property
     def text(self) -> str:
-        return f'delete_dir_entry {self.touched[0]}'
+        return f'delete_dir_entry {self.paths[0]}'
 
     def fields(self) -> Dict[str, Any]:
-        return {'path': self.touched[0], 'node': 'dir' if self.is_directory else 'file'}
+        return {'path': self.paths[0], 'node': self.node.kind}
 
 
 class MoveEntry(Micro):
-    def __init__(self, old: str, new: str) -> None:
-        self.touched = (old, new)
+    """replaced: what was at the new entry. In JSON only version 4 has what is moved."""
+
+    def __init__(
+        self,
+        paths: Tuple[str, str],
+        entries: Tuple[Entry, Entry],
+        node: Inode,
+        replaced: Optional[Inode],
+        shows_node: bool,
+    ) -> None:
+        self.paths, self.entries = paths, entries
+        self.handled = (node,) if replaced is None else (node, replaced)
+        self.node = node
+        self.shows_node = shows_node
+        self.moves_directory = node.kind == DIRECTORY
+        if replaced is not None and replaced.kind == DIRECTORY:
+            self.removed_directory = replaced.number
 
     @property
     def text(self) -> str:
-        return 'move_dir_entry {} {}'.format(*self.touched)
+        return 'move_dir_entry {} {}'.format(*self.paths)
 
     def fields(self) -> Dict[str, Any]:
-        return {'path': self.touched[0], 'to': self.touched[1]}
+        fields = {'path': self.paths[0], 'to': self.paths[1]}
+        return {**fields, 'node': self.node.kind} if self.shows_node else fields
 
 
 class LinkEntry(Micro):
-    def __init__(self, path: str, linked: int) -> None:
-        self.touched = (path,)
-        self.linked = linked
+    """replaced: what was there, which only the first half of a rename replaces."""
+
+    def __init__(
+        self,
+        path: str,
+        entry: Entry,
+        node: Inode,
+        half: int = 0,
+        replaced: Optional[Inode] = None,
+    ) -> None:
+        self.paths, self.entries = (path,), (entry,)
+        self.handled = (node,) if replaced is None else (node, replaced)
+        self.node = node
+        self.half = half
 
     @property
     def text(self) -> str:
-        return f'link_dir_entry {self.touched[0]} {self.linked}'
+        return f'link_dir_entry {self.paths[0]} {self.node.number}'
 
     def fields(self) -> Dict[str, Any]:
-        return {'path': self.touched[0], 'file': self.linked}
+        return {'path': self.paths[0], 'file': self.node.number}
 
 
 class ChangeSize(Micro):
@@ -106,11 +150,11 @@ class ChangeSize(Micro):
 class WriteBlock(Micro):
     """begin is where its bytes begin in the file."""
 
-    def __init__(self, file: int, block: int, size: int, begin: int, data: bytes) -> None:
+    def __init__(self, file: int, block: int, size: int, at: int, data: bytes) -> None:
         self.file = file
         self.block = block
-        self.at = begin - block * size
-        self.begin = begin
+        self.at = at
+        self.begin = block * size + at
         self.data = data
 
     @property
@@ -122,19 +166,24 @@ class WriteBlock(Micro):
 
 
 class SetRights(Micro):
-    def __init__(self, file: Optional[int], directory: Optional[str], rights: Rights) -> None:
+    """Of a file, or of a directory by its number and path."""
+
+    def __init__(
+        self, rights: Rights, file: Optional[int], directory: Optional[int] = None, path: str = ''
+    ) -> None:
         self.file = file
         self.directory = directory
+        self.path = path
         self.rights = rights
 
     @property
     def text(self) -> str:
         owner, group, mode = self.rights
-        target = f'dir {self.directory}' if self.file is None else f'file {self.file}'
+        target = f'dir {self.path}' if self.file is None else f'file {self.file}'
         return f'set_attr {target} {mode} {owner} {group}'
 
     def fields(self) -> Dict[str, Any]:
-        place = self.path_of_file() if self.directory is None else {'path': self.directory}
+        place = self.path_of_file() if self.directory is None else {'path': self.path}
         owner, group, mode = self.rights
         return {**place, 'mode': mode, 'owner': owner, 'group': group}
 
@@ -144,51 +193,3 @@ class Acknowledgement(Micro):
 
     def fields(self) -> Dict[str, Any]:
         return {}
-
-
-class SyncPoint:
-    """A sync point of everything, before the micro-operation at its place."""
-
-    def __init__(self, at: int) -> None:
-        self.at = at
-
-    def covers(self, operation: Micro) -> bool:
-        """Whether it makes an earlier micro-operation durable."""
-        return True
-
-
-class FileSync(SyncPoint):
-    def __init__(self, at: int, file: int) -> None:
-        super().__init__(at)
-        self.file = file
-
-    def covers(self, operation: Micro) -> bool:
-        return operation.file == self.file
-
-
-class RangeSync(FileSync):
-    """Of a file's sizes, and of writes all of whose bytes lie in the range."""
-
-    def __init__(self, at: int, file: int, offset: int, length: int) -> None:
-        super().__init__(at, file)
-        self.offset = offset
-        self.end = offset + length
-
-    def covers(self, operation: Micro) -> bool:
-        if not super().covers(operation):
-            return False
-        if isinstance(operation, WriteBlock):
-            end = operation.begin + len(operation.data)
-            return self.offset <= operation.begin and end <= self.end
-        return isinstance(operation, ChangeSize)
-
-
-class DirectorySync(SyncPoint):
-    def __init__(self, at: int, path: str) -> None:
-        super().__init__(at)
-        self.path = path
-
-    def covers(self, operation: Micro) -> bool:
-        if operation.directory is not None:
-            return operation.directory == self.path
-        return self.path in map(parent, operation.touched)

@@ -2,13 +2,29 @@
 
 from __future__ import annotations
 
-from typing import Dict, List, Optional
+from typing import Dict, List, NamedTuple, Optional, Tuple
 
 from .faults import LineFault
 from .lines import Line
 
-FILE_BYTES, PATH_NAMES, RECORDS, SAY_BYTES = 16_777_216, 64, 65_536, 1_024
-MAKES_RECORD = ('creat', 'mkdir', 'dir', 'file', 'link')
+FILE_BYTES, LARGE_FILE_BYTES = 16_777_216, 1_073_741_824
+PATH_NAMES, RECORDS, SAY_BYTES = 64, 65_536, 1_024
+MAKES_RECORD = ('creat', 'mkdir', 'dir', 'file', 'link', 'symlink')
+DIRECTORY, FILE, SYMLINK = 'dir', 'file', 'symlink'
+WORDS = {DIRECTORY: 'a directory', FILE: 'a file', SYMLINK: 'a symbolic link'}
+ROOT = 0
+
+
+class Inode(NamedTuple):
+    """A directory, or a file or symbolic link, by its number: directories and files are counted
+    apart."""
+
+    kind: str
+    number: int
+
+
+# A directory's number and a name in it.
+Entry = Tuple[int, str]
 
 
 def parent(path: str) -> str:
@@ -16,43 +32,103 @@ def parent(path: str) -> str:
 
 
 class Names:
-    """The files and directories by path; a file by its number, a directory as None."""
+    """The tree after the lines read so far: what each directory holds, and where each directory
+    and file is. In versions 1 to 3 a directory's number is that of its path: one that is made
+    again has the old number."""
 
     def __init__(self) -> None:
-        self.nodes: Dict[str, Optional[int]] = {'/': None}
+        self.version = 1
+        self.children: Dict[int, Dict[str, Inode]] = {ROOT: {}}
+        # The entry of each directory, also of one that is gone.
+        self.directories: Dict[int, Entry] = {}
+        self.numbers: Dict[Entry, int] = {}
         self.sizes: List[int] = []
-        # The paths of each file, the oldest first.
-        self.paths: List[List[str]] = []
+        # The entries of each file, the oldest first.
+        self.entries: List[List[Entry]] = []
         self.records = 1
 
-    def add_file(self, path: str, size: int) -> int:
-        self.sizes.append(size)
-        self.paths.append([])
-        self.add_path(path, len(self.sizes) - 1)
-        return len(self.sizes) - 1
+    # Where things are
 
-    def add_path(self, path: str, number: Optional[int]) -> None:
-        self.nodes[path] = number
-        self.records += 1
-        if number is not None:
-            self.paths[number].append(path)
+    def node(self, path: str) -> Optional[Inode]:
+        """What is at a path; nothing is looked up through a file or a symbolic link."""
+        found: Optional[Inode] = Inode(DIRECTORY, ROOT)
+        for name in path.split('/')[1:] if path != '/' else []:
+            if found is None or found.kind != DIRECTORY:
+                return None
+            found = self.children[found.number].get(name)
+        return found
 
-    def remove(self, path: str) -> None:
-        number = self.nodes.pop(path)
-        if number is not None:
-            self.paths[number].remove(path)
-
-    def move(self, old: str, new: str) -> None:
-        if new in self.nodes:
-            self.remove(new)
-        number = self.nodes[new] = self.nodes.pop(old)
-        assert number is not None
-        self.paths[number] = [new if path == old else path for path in self.paths[number]]
+    def entry(self, path: str) -> Entry:
+        """The entry of a path whose parent directory is there."""
+        above = self.node(parent(path))
+        assert above is not None and above.kind == DIRECTORY
+        return above.number, path.rpartition('/')[2]
 
     def file(self, path: str) -> int:
-        number = self.nodes[path]
-        assert number is not None
-        return number
+        node = self.node(path)
+        assert node is not None and node.kind != DIRECTORY
+        return node.number
+
+    def path_of(self, entry: Entry) -> str:
+        """The path of an entry as the tree is now."""
+        directory, name = entry
+        above = '' if directory == ROOT else self.path_of(self.directories[directory])
+        return f'{above}/{name}'
+
+    def path_of_file(self, number: int) -> str:
+        return self.path_of(self.entries[number][0])
+
+    # What lines do
+
+    def add_file(self, path: str, size: int, kind: str = FILE) -> Inode:
+        self.sizes.append(size)
+        self.entries.append([])
+        node = Inode(kind, len(self.sizes) - 1)
+        self.add_path(path, node)
+        return node
+
+    def add_directory(self, path: str) -> Inode:
+        entry = self.entry(path)
+        number = len(self.directories) + 1
+        if self.version < 4:
+            number = self.numbers.setdefault(entry, number)
+        node = Inode(DIRECTORY, number)
+        self.children[number] = {}
+        self.directories[number] = entry
+        self.add_path(path, node)
+        return node
+
+    def add_path(self, path: str, node: Inode) -> None:
+        self.records += 1
+        self.put(self.entry(path), node)
+
+    def put(self, entry: Entry, node: Inode) -> None:
+        self.children[entry[0]][entry[1]] = node
+        if node.kind != DIRECTORY:
+            self.entries[node.number].append(entry)
+
+    def remove(self, path: str) -> Inode:
+        entry = self.entry(path)
+        node = self.children[entry[0]].pop(entry[1])
+        if node.kind != DIRECTORY:
+            self.entries[node.number].remove(entry)
+        return node
+
+    def move(self, old: str, new: str) -> None:
+        """What is at the new path is replaced. Among the paths of a file the new one has the old
+        one's place."""
+        source, target = self.entry(old), self.entry(new)
+        if self.node(new) is not None:
+            self.remove(new)
+        if self.version >= 4 and source[0] != target[0]:
+            self.records += 1
+        node = self.children[source[0]].pop(source[1])
+        self.children[target[0]][target[1]] = node
+        if node.kind == DIRECTORY:
+            self.directories[node.number] = target
+        else:
+            entries = self.entries[node.number]
+            entries[entries.index(source)] = target
 
     # What a line needs
 
@@ -60,7 +136,7 @@ class Names:
         """LineFault for a line that the tree has no place for."""
         if line.key == 'trace':
             return
-        if line.word in ('creat', 'mkdir', 'dir', 'file'):
+        if line.word in ('creat', 'mkdir', 'dir', 'file', 'symlink'):
             self.need_free(line.fields['path'])
         elif line.word == 'link':
             self.need_file(line.fields['from'])
@@ -69,61 +145,91 @@ class Names:
             self.judge_rename(line.fields['from'], line.fields['to'])
         elif line.word == 'rmdir':
             self.judge_rmdir(line.fields['path'])
-        elif line.word in ('fsync', 'chmod', 'chown'):
+        elif line.word in ('fsync', 'chmod'):
+            self.need_kind(line.fields['path'], (DIRECTORY, FILE))
+        elif line.word == 'chown':
             self.need(line.fields['path'])
-        elif line.word in ('unlink', 'write', 'truncate', 'fsync_range'):
+        elif line.word == 'unlink':
+            self.need_kind(line.fields['path'], (FILE, SYMLINK))
+        elif line.word in ('write', 'truncate', 'fdatasync', 'fsync_range'):
             self.need_file(line.fields['path'])
         self.judge_size(line)
 
-    def need(self, path: str) -> None:
-        if path not in self.nodes:
+    def need(self, path: str) -> Inode:
+        node = self.node(path)
+        if node is None:
             raise LineFault('Missing', f'{path} is not there')
+        return node
+
+    def need_kind(self, path: str, kinds: Tuple[str, ...]) -> None:
+        node = self.need(path)
+        if node.kind not in kinds:
+            raise LineFault('NotFile', f'{path} is {WORDS[node.kind]}')
 
     def need_file(self, path: str) -> None:
-        self.need(path)
-        if self.nodes[path] is None:
-            raise LineFault('NotFile', f'{path} is a directory')
+        self.need_kind(path, (FILE,))
 
     def need_parent(self, path: str) -> None:
-        if parent(path) not in self.nodes:
+        above = self.node(parent(path))
+        if above is None:
             raise LineFault('NoParent', f'{parent(path)} is not there')
-        if self.nodes[parent(path)] is not None:
-            raise LineFault('NotDir', f'{parent(path)} is a file')
+        if above.kind != DIRECTORY:
+            raise LineFault('NotDir', f'{parent(path)} is {WORDS[above.kind]}')
 
     def need_free(self, path: str) -> None:
         self.need_parent(path)
-        if path in self.nodes:
+        if self.node(path) is not None:
             raise LineFault('Exists', f'{path} is there already')
 
     def judge_rename(self, old: str, new: str) -> None:
-        self.need_file(old)
+        node = self.need(old)
+        if node.kind == DIRECTORY and self.version < 4:
+            raise LineFault('NotFile', f'{old} is a directory')
         self.need_parent(new)
-        if new in self.nodes:
-            self.need_file(new)
+        there = self.node(new)
+        if node.kind == DIRECTORY and new.startswith(old + '/'):
+            raise LineFault('BadName', f'{new} is below {old}')
+        if there is None or there == node:
+            return
+        if node.kind == DIRECTORY:
+            self.judge_rmdir(new)
+        elif there.kind == DIRECTORY:
+            raise LineFault('NotFile', f'{new} is a directory')
 
     def judge_rmdir(self, path: str) -> None:
-        self.need(path)
-        if self.nodes[path] is not None:
-            raise LineFault('NotDir', f'{path} is a file')
-        if any(other.startswith(path + '/') for other in self.nodes):
+        node = self.need(path)
+        if node.kind != DIRECTORY:
+            raise LineFault('NotDir', f'{path} is {WORDS[node.kind]}')
+        if self.children[node.number]:
             raise LineFault('NotEmpty', f'{path} has entries')
 
     def judge_size(self, line: Line) -> None:
         if any(path.count('/') > PATH_NAMES for path in line.paths()):
             raise LineFault('TooLarge', f'a path of more than {PATH_NAMES} names')
-        if line.word in MAKES_RECORD and self.records >= RECORDS:
+        if self.records >= RECORDS and (line.word in MAKES_RECORD or self.moves_elsewhere(line)):
             raise LineFault('TooLarge', f'more than {RECORDS} files and directories')
         if line.word == 'say' and len(line.fields['text'].encode('utf-8')) > SAY_BYTES:
             raise LineFault('TooLarge', f'a say of more than {SAY_BYTES} bytes')
-        if end_of(line) > FILE_BYTES:
-            raise LineFault('TooLarge', f'a file of more than {FILE_BYTES} bytes')
+        most = LARGE_FILE_BYTES if self.version >= 4 else FILE_BYTES
+        if end_of(line) > most:
+            raise LineFault('TooLarge', f'a file of more than {most} bytes')
+
+    def moves_elsewhere(self, line: Line) -> bool:
+        """Whether a line is a rename into another directory that isn't nothing: it counts as a
+        record."""
+        if self.version < 4 or line.word != 'rename':
+            return False
+        old, new = line.fields['from'], line.fields['to']
+        return parent(old) != parent(new) and self.node(old) != self.node(new)
 
 
 def end_of(line: Line) -> int:
     """Where what a line writes ends, and 0 if it writes nothing."""
     if line.word == 'truncate':
         return int(line.fields['length'])
-    if line.word not in ('file', 'write'):
+    if line.word == 'file':
+        return line.length
+    if line.word != 'write':
         return 0
     size = len(line.data)
-    return int(line.fields.get('offset', 0)) + size if size else 0
+    return int(line.fields['offset']) + size if size else 0

@@ -3,36 +3,45 @@
 from __future__ import annotations
 
 from copy import copy
+from operator import or_
 from typing import Dict, Iterator, List, Optional, Tuple
 
 from .micro import (
+    Acknowledgement,
     ChangeSize,
     CreateEntry,
-    DeleteEntry,
     LinkEntry,
     Micro,
-    Acknowledgement,
     SetRights,
-    SyncPoint,
     WriteBlock,
 )
-from .names import parent
+from .names import DIRECTORY
+from .syncs import SyncPoint
 from .trace import Reading
 
 Mark = Tuple[object, ...]
+# The profiles in which all changes of entries stay in order.
+IN_ORDER = ('ordered', 'journal')
 
 
 def same_thing(operation: Micro) -> Iterator[Mark]:
     """What no two micro-operations change out of order: a block, a size, a file's rights (P1, P7),
-    and a path (P2)."""
+    an entry, and a directory that is made or removed or gets rights (P2)."""
     if isinstance(operation, WriteBlock):
         yield 'block', operation.file, operation.block
     elif isinstance(operation, ChangeSize):
         yield 'size', operation.file
     elif isinstance(operation, SetRights) and operation.file is not None:
         yield 'rights', operation.file
-    for path in operation.named:
-        yield 'path', path
+    for entry in operation.entries:
+        yield 'entry', entry
+    for directory in (
+        operation.made_directory,
+        operation.removed_directory,
+        operation.directory,
+    ):
+        if directory is not None:
+            yield 'directory', directory
 
 
 def marks_left(operation: Micro) -> Iterator[Mark]:
@@ -40,31 +49,36 @@ def marks_left(operation: Micro) -> Iterator[Mark]:
     yield from same_thing(operation)
     if isinstance(operation, Acknowledgement):
         yield ('say',)
-    if operation.touched:
-        yield ('entry',)
-    for path in operation.touched:
-        yield 'entry of', parent(path)
-    if isinstance(operation, CreateEntry) and operation.made is not None:
-        yield 'made', operation.made
+    if operation.entries:
+        yield ('entries',)
+    for directory, _ in operation.entries:
+        yield 'entry in', directory
+    if isinstance(operation, CreateEntry) and operation.node.kind != DIRECTORY:
+        yield 'made', operation.node.number
+    if operation.moves_directory:
+        yield ('directory moved',)
 
 
 def marks_asked(operation: Micro, reading: Reading, profile: str) -> Iterator[Mark]:
     """What a micro-operation asks for: it needs all earlier ones with such a mark."""
     yield from same_thing(operation)
-    if isinstance(operation, DeleteEntry) and operation.is_directory:
-        yield 'entry of', operation.touched[0]  # P4
-    if isinstance(operation, Acknowledgement) or reading.version == 3:
+    if operation.removed_directory is not None:
+        yield 'entry in', operation.removed_directory  # P4
+    if isinstance(operation, Acknowledgement) or reading.version >= 3:
         yield ('say',)  # P6, P9
-    if operation.touched and profile == 'ordered':
-        yield ('entry',)  # P8
+    if operation.entries and profile in IN_ORDER:
+        yield ('entries',)  # P8
     if isinstance(operation, LinkEntry):
-        yield 'made', operation.linked  # P10
+        yield 'made', operation.node.number  # P10
+    if operation.moves_directory:
+        yield ('directory moved',)  # P12
 
 
 class Order:
     """Sets of places are numbers whose bits are the places. needs: for each micro-operation all
     that it needs, by any chain. synced: for each number of micro-operations what is durable there:
-    what sync points before the next one cover."""
+    what sync points before the next one cover. units: the places that an allowed set has together
+    or not at all, by the first of them, where they are more than one."""
 
     def __init__(self, reading: Reading, profile: Optional[str] = None) -> None:
         self.count = len(reading.operations)
@@ -72,24 +86,28 @@ class Order:
         self.synced = synced_sets(reading.operations, reading.syncs)
         self.needs = self.all_needs(reading)
         self.needed_by = inverse(self.needs)
+        self.units: Dict[int, int] = {}
 
     def all_needs(self, reading: Reading) -> List[int]:
         needs: List[int] = []
         left: Dict[Mark, int] = {}
-        directories: Dict[str, int] = {}
+        directories: Dict[int, int] = {}
+        logged = logged_sets(reading, self.profile)
         for place, operation in enumerate(reading.operations):
-            direct = self.synced[place]  # P5
+            direct = self.synced[place] | logged[place]  # P5, P11
             for mark in marks_asked(operation, reading, self.profile):
                 direct |= left.get(mark, 0)
-            for path in operation.named:
-                direct |= directories.get(parent(path), 0) if path != '/' else 0  # P3
+            for directory, _ in operation.entries:
+                direct |= directories.get(directory, 0)  # P3
+            if operation.half == 2:
+                direct |= 1 << (place - 1)  # P13
             needs.append(direct)
             for needed in bits(direct):
                 needs[place] |= needs[needed]
             for mark in marks_left(operation):
                 left[mark] = left.get(mark, 0) | 1 << place
-            if isinstance(operation, CreateEntry) and operation.made is None:
-                directories[operation.touched[0]] = 1 << place
+            if operation.made_directory is not None:
+                directories[operation.made_directory] = 1 << place
         return needs
 
     @property
@@ -101,20 +119,44 @@ class Order:
         """What can still be added if the lowest place of a future is left out for good."""
         return future & ~lowest & ~self.needed_by[lowest.bit_length() - 1]
 
+    def unit(self, lowest: int) -> int:
+        """What is added with the lowest place of a future."""
+        return self.units.get(lowest.bit_length() - 1, lowest)
+
     def both(self, other: Order) -> Order:
         """The order that allows a set if this one and another do, of the same micro-operations."""
         both = copy(self)
-        both.needs = []
-        for mine, others in zip(self.needs, other.needs):
-            needs = mine | others
-            for needed in bits(mine | others):
+        both.needs, both.units = [], {**self.units, **other.units}
+        for place, needs in enumerate(map(or_, self.needs, other.needs)):
+            if place in both.units:
+                needs |= (self.needs[place + 1] | other.needs[place + 1]) & ~(1 << place)
+            for needed in bits(needs):
                 needs |= both.needs[needed]
             both.needs.append(needs)
         both.needed_by = inverse(both.needs)
         return both
 
+    def within(self, reading: Reading, profile: str) -> Order:
+        """The order that allows a set if this one does, and a file system of a profile may leave
+        it: only with `blocks` a rename may be half done."""
+        other = Order(reading, profile)
+        if profile != 'blocks':
+            other.units = {place: 0b11 << place for place in half_places(reading.operations)}
+        return self.both(other)
+
+    def acknowledged_first(self, reading: Reading) -> Order:
+        """The order that besides allows only sets that, for each member, have all acknowledged
+        lines before it."""
+        first = copy(self)
+        says, first.needs = 0, []
+        for place, operation in enumerate(reading.operations):
+            first.needs.append(says)
+            says |= isinstance(operation, Acknowledgement) << place
+        return self.both(first)
+
     def is_allowed(self, places: int) -> bool:
-        return all(self.needs[place] & ~places == 0 for place in bits(places))
+        lacking = (1 << places.bit_length()) - 1 & ~places
+        return not any(self.needed_by[place] & places for place in bits(lacking))
 
     def without(self, places: int, lost: int) -> int:
         """What stays of a set if some are lost, and with them all that need one of them."""
@@ -145,6 +187,28 @@ def synced_sets(operations: List[Micro], syncs: List[SyncPoint]) -> List[int]:
     for place in range(1, len(covered)):
         covered[place] |= covered[place - 1]
     return covered
+
+
+def logged_sets(reading: Reading, profile: str) -> List[int]:
+    """For each place what the log has that sync points before it wrote: with the profile `journal`
+    all changes of entries before them."""
+    entries, logged, begin = 0, [0] * (len(reading.operations) + 1), 0
+    if profile != 'journal':
+        return logged
+    for sync in reading.syncs:
+        for place, operation in enumerate(reading.operations[begin : sync.at], begin):
+            entries |= bool(operation.entries) << place
+        if sync.is_fresh(reading.operations[begin : sync.at]):
+            logged[sync.at] |= entries
+        begin = sync.at
+    for place in range(1, len(logged)):
+        logged[place] |= logged[place - 1]
+    return logged
+
+
+def half_places(operations: List[Micro]) -> List[int]:
+    """The places of the first halves of renames; the second one follows each."""
+    return [place for place, operation in enumerate(operations) if operation.half == 1]
 
 
 def bits(mask: int) -> Iterator[int]:

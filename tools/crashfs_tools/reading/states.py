@@ -3,27 +3,35 @@
 from __future__ import annotations
 
 from functools import lru_cache
-from typing import Dict, List, Optional, Tuple
+from typing import Dict, List, NamedTuple, Optional, Tuple
 
+from .data import Data
 from .digests import Digests
-from .micro import (
-    ChangeSize,
-    CreateEntry,
-    DeleteEntry,
-    LinkEntry,
-    Micro,
-    MoveEntry,
-    Rights,
-    SetRights,
-    WriteBlock,
-)
+from .micro import ChangeSize, Micro, Rights, SetRights, WriteBlock
+from .names import DIRECTORY, Inode
 from .order import bits
-from .trace import Node, Reading
+from .tables import Table, change_entries, change_rights
+from .trace import Reading
 
-# The rights of a file or directory, and a file's bytes; a directory has None.
-Entry = Tuple[Rights, Optional[bytes]]
+
+class Item(NamedTuple):
+    """What is at a path: its kind (`dir`, `file` or `symlink`), its rights and its bytes. Those of
+    a symbolic link are its target; a directory has none."""
+
+    kind: str
+    rights: Rights
+    data: Optional[Data]
+
+    @property
+    def content(self) -> Optional[bytes]:
+        """All its bytes."""
+        return None if self.data is None else self.data.whole()
+
+
 # A tree in a form in which equal trees are equal, and others are not.
-Digest = Tuple[Tuple[str, Rights, Optional[bytes]], ...]
+Digest = Tuple[Tuple[str, str, Rights, Optional[bytes]], ...]
+# The nodes of a state by path, in the order of the paths, and the rights of its directories.
+Inodes = Tuple[Dict[str, Inode], Dict[int, Rights]]
 
 
 class States:
@@ -33,16 +41,19 @@ class States:
     def __init__(self, reading: Reading) -> None:
         self.reading = reading
         self.entry_places = 0
+        self.directory_moves = 0
         self.change_places: Dict[int, int] = {}
         self.says = 0
         for place, operation in enumerate(reading.operations):
             if operation.file is not None:
                 before = self.change_places.get(operation.file, 0)
                 self.change_places[operation.file] = before | 1 << place
-            elif operation.touched or operation.directory is not None:
+            elif operation.entries or operation.directory is not None:
                 self.entry_places |= 1 << place
+                self.directory_moves |= operation.moves_directory << place
             else:
                 self.says |= 1 << place
+        self.start_nodes = dict(Table(reading).paths())
         self._nodes = lru_cache(64)(self.make_nodes)
         self._file = lru_cache(64)(self.make_file)
         self._digests = lru_cache(None)(Digests(reading, self.change_places, self.make_file).digest)
@@ -50,66 +61,79 @@ class States:
     def count_says(self, places: int) -> int:
         return bin(places & self.says).count('1')
 
-    def tree(self, places: int) -> Dict[str, Entry]:
+    def tree(self, places: int) -> Dict[str, Item]:
         """What is at each path, the root among them."""
-        nodes = self._nodes(places & self.entry_places)
+        nodes, rights = self._nodes(places & self.entry_places)
         return {
-            path: self.file(node, places) if isinstance(node, int) else (node, None)
+            path: (
+                Item(DIRECTORY, rights[node.number], None)
+                if node.kind == DIRECTORY
+                else Item(node.kind, *self.file(node.number, places))
+            )
             for path, node in nodes.items()
         }
 
     def digest(self, places: int) -> Digest:
-        nodes = self._nodes(places & self.entry_places)
+        nodes, rights = self._nodes(places & self.entry_places)
         return tuple(
-            (path, *self.file_digest(node, places)) if isinstance(node, int) else (path, node, None)
+            (
+                (path, DIRECTORY, rights[node.number], None)
+                if node.kind == DIRECTORY
+                else (path, node.kind, *self.file_digest(node.number, places))
+            )
             for path, node in nodes.items()
         )
 
-    def file(self, number: int, places: int) -> Entry:
+    def file(self, number: int, places: int) -> Tuple[Rights, Data]:
         return self._file(number, places & self.change_places.get(number, 0))
 
     def file_digest(self, number: int, places: int) -> Tuple[Rights, bytes]:
         return self._digests(number, places & self.change_places.get(number, 0))
 
-    def make_nodes(self, places: int) -> Dict[str, Node]:
-        nodes = dict(self.reading.start)
-        for place in bits(places):
-            change_nodes(nodes, self.reading.operations[place])
-        return dict(sorted(nodes.items()))
+    def make_nodes(self, places: int) -> Inodes:
+        """Without a move of a directory each directory is at its home, so that only paths of
+        changed entries are looked at."""
+        operations = [self.reading.operations[place] for place in bits(places)]
+        if places & self.directory_moves:
+            table = Table(self.reading)
+            for operation in operations:
+                table.change(operation)
+            return dict(sorted(table.paths())), table.rights
+        rights = dict(self.reading.start_rights)
+        changed = {
+            entry: self.reading.start[entry]
+            for operation in operations
+            for entry in operation.entries
+            if entry in self.reading.start
+        }
+        gone = [self.home(entry) for entry in changed]
+        for operation in operations:
+            change_entries(changed, operation)
+            change_rights(rights, operation)
+        nodes = dict(self.start_nodes)
+        for path in gone:
+            del nodes[path]
+        nodes.update((self.home(entry), node) for entry, node in changed.items())
+        return dict(sorted(nodes.items())), rights
 
-    def make_file(self, number: int, places: int) -> Tuple[Rights, bytes]:
+    def home(self, entry: Tuple[int, str]) -> str:
+        """The path of an entry while no directory is moved."""
+        return f'{self.reading.homes[entry[0]]}/{entry[1]}'
+
+    def make_file(self, number: int, places: int) -> Tuple[Rights, Data]:
         rights = self.reading.made_rights[number]
+        data = self.reading.made_data.get(number, Data(self.reading.block_size)).copy()
         operations: List[Micro] = [self.reading.operations[place] for place in bits(places)]
         for operation in operations:
             if isinstance(operation, SetRights):
                 rights = operation.rights
-        return rights, file_bytes(self.reading.start_data.get(number, b''), operations)
+            change_data(data, operation)
+        return rights, data.shown()
 
 
-def change_nodes(nodes: Dict[str, Node], operation: Micro) -> None:
-    if isinstance(operation, CreateEntry):
-        made = operation.made
-        nodes[operation.touched[0]] = operation.rights if made is None else made
-    elif isinstance(operation, LinkEntry):
-        nodes[operation.touched[0]] = operation.linked
-    elif isinstance(operation, DeleteEntry):
-        del nodes[operation.touched[0]]
-    elif isinstance(operation, MoveEntry):
-        nodes[operation.touched[1]] = nodes.pop(operation.touched[0])
-    elif isinstance(operation, SetRights) and operation.directory is not None:
-        nodes[operation.directory] = operation.rights
-
-
-def file_bytes(start: bytes, operations: List[Micro]) -> bytes:
+def change_data(data: Data, operation: Micro) -> None:
     """Bytes past the size are hidden until a size covers them; a size that shrinks drops them."""
-    data, size = bytearray(start), len(start)
-    for operation in operations:
-        if isinstance(operation, ChangeSize):
-            if operation.length < size:
-                del data[operation.length :]
-            size = operation.length
-        elif isinstance(operation, WriteBlock):
-            end = operation.begin + len(operation.data)
-            data.extend(bytes(max(0, end - len(data))))
-            data[operation.begin : end] = operation.data
-    return bytes(data[:size]) + bytes(max(0, size - len(data)))
+    if isinstance(operation, ChangeSize):
+        data.resize(operation.length)
+    elif isinstance(operation, WriteBlock):
+        data.write(operation.block, operation.at, operation.data)

@@ -2,33 +2,30 @@
 
 from __future__ import annotations
 
-from typing import Dict, List, Optional, Union
+from typing import Dict, List
 
+from .data import Data, split
 from .faults import LineFault, ReadingFault, syntax
 from .lines import Line, LineJudge
 from .micro import (
     ChangeSize,
     CreateEntry,
     DeleteEntry,
-    DirectorySync,
-    FileSync,
     LinkEntry,
     Micro,
     MoveEntry,
-    RangeSync,
     Rights,
     Acknowledgement,
     SetRights,
-    SyncPoint,
     WriteBlock,
 )
-from .names import Names
+from .names import DIRECTORY, ROOT, SYMLINK, Entry, Names, Inode
+from .syncs import DataSync, DirectorySync, FileSync, RangeSync, SyncPoint
 
 MICRO_OPERATIONS = 1_024
+PAGE_BYTES = 4_096
 BLANKS = ' \t\r'
-
-# What is at a path: a file by its number, a directory by its rights.
-Node = Union[int, Rights]
+LINK_MODE = '777'
 
 
 class Reading:
@@ -38,11 +35,15 @@ class Reading:
         self.version = 1
         self.profile = 'blocks'
         self.block_size = 4096
-        self.start: Dict[str, Node] = {}
-        self.start_data: Dict[int, bytes] = {}
-        # The rights with which each file was made, and those that each file and directory has now.
+        self.start: Dict[Entry, Inode] = {}
+        # The path of each directory if no directory is moved; the root's is empty.
+        self.homes: Dict[int, str] = {ROOT: ''}
+        # The rights and bytes with which each file is made; the rights of the start's directories;
+        # and the rights that each file and directory has now.
         self.made_rights: Dict[int, Rights] = {}
-        self.rights: Dict[Union[int, str], Rights] = {}
+        self.made_data: Dict[int, Data] = {}
+        self.start_rights: Dict[int, Rights] = {}
+        self.rights: Dict[Inode, Rights] = {}
         self.operations: List[Micro] = []
         self.syncs: List[SyncPoint] = []
         self.names = Names()
@@ -59,137 +60,184 @@ class Reading:
             operation.line = line.number
 
     def take_header(self, line: Line) -> None:
-        self.version = line.fields['trace']
+        self.version = self.names.version = line.fields['trace']
         self.profile = line.fields.get('profile', self.profile)
         self.block_size = line.fields.get('block', self.block_size)
-        self.start['/'] = self.rights['/'] = line.rights
+        self.start_rights[ROOT] = self.rights[Inode(DIRECTORY, ROOT)] = line.rights
 
     def add_change(self, operation: Micro) -> None:
         """Adds a change of a file, with the oldest of the file's paths."""
         assert operation.file is not None
-        operation.path = self.names.paths[operation.file][0]
+        operation.path = self.names.path_of_file(operation.file)
         self.operations.append(operation)
+
+    # What is made
+
+    def make_file(self, line: Line, length: int) -> Inode:
+        node = self.names.add_file(line.fields['path'], length)
+        self.made_rights[node.number] = self.rights[node] = line.rights
+        return node
+
+    def make_link(self, line: Line) -> Inode:
+        """A symbolic link: its bytes are its target's."""
+        target = line.fields['target'].encode('utf-8')
+        node = self.names.add_file(line.fields['path'], len(target), SYMLINK)
+        rights = line.fields['owner'], line.fields['group'], LINK_MODE
+        self.made_rights[node.number] = self.rights[node] = rights
+        self.made_data[node.number] = Data.of(self.block_size, len(target), [(0, target)])
+        return node
+
+    def make_directory(self, line: Line) -> Inode:
+        path = line.fields['path']
+        above, name = self.names.entry(path)
+        node = self.names.add_directory(path)
+        self.homes[node.number] = f'{self.homes[above]}/{name}'
+        self.rights[node] = line.rights
+        return node
 
     # The start tree
 
     def start_dir(self, line: Line) -> None:
-        path = line.fields['path']
-        self.names.add_path(path, None)
-        self.start[path] = self.rights[path] = line.rights
+        node = self.make_directory(line)
+        self.start[self.names.entry(line.fields['path'])] = node
+        self.start_rights[node.number] = line.rights
 
     def start_file(self, line: Line) -> None:
-        number = self.names.add_file(line.fields['path'], len(line.data))
-        self.start[line.fields['path']] = number
-        self.start_data[number] = line.data
-        self.made_rights[number] = self.rights[number] = line.rights
+        node = self.make_file(line, line.length)
+        self.start[self.names.entry(line.fields['path'])] = node
+        self.made_data[node.number] = Data.of(self.block_size, line.length, line.parts)
+
+    def start_symlink(self, line: Line) -> None:
+        self.start[self.names.entry(line.fields['path'])] = self.make_link(line)
 
     def start_link(self, line: Line) -> None:
-        number = self.names.file(line.fields['from'])
-        self.names.add_path(line.fields['path'], number)
-        self.start[line.fields['path']] = number
+        node = self.names.need(line.fields['from'])
+        self.names.add_path(line.fields['path'], node)
+        self.start[self.names.entry(line.fields['path'])] = node
 
     # Operations on entries
 
     def op_creat(self, line: Line) -> None:
-        number = self.names.add_file(line.fields['path'], 0)
-        self.made_rights[number] = self.rights[number] = line.rights
-        self.operations.append(CreateEntry(line.fields['path'], number, line.rights))
+        self.add_creation(line, self.make_file(line, 0))
 
     def op_mkdir(self, line: Line) -> None:
-        self.names.add_path(line.fields['path'], None)
-        self.rights[line.fields['path']] = line.rights
-        self.operations.append(CreateEntry(line.fields['path'], None, line.rights))
+        self.add_creation(line, self.make_directory(line))
+
+    def op_symlink(self, line: Line) -> None:
+        self.add_creation(line, self.make_link(line))
+
+    def add_creation(self, line: Line, node: Inode) -> None:
+        path, target = line.fields['path'], line.fields.get('target', '')
+        entry = self.names.entry(path)
+        self.operations.append(CreateEntry(path, entry, node, self.rights[node], target))
 
     def op_unlink(self, line: Line) -> None:
-        self.names.remove(line.fields['path'])
-        self.operations.append(DeleteEntry(line.fields['path'], False))
+        path = line.fields['path']
+        entry = self.names.entry(path)
+        self.operations.append(DeleteEntry(path, entry, self.names.remove(path)))
 
-    def op_rmdir(self, line: Line) -> None:
-        self.names.remove(line.fields['path'])
-        self.operations.append(DeleteEntry(line.fields['path'], True))
+    op_rmdir = op_unlink
 
     def op_rename(self, line: Line) -> None:
-        """A rename onto a path of the same file does nothing, as rename(2) has it."""
+        """Onto itself, or onto a path of the same file, it does nothing, as rename(2) has it. With
+        the profile `blocks` of version 4 a file goes into another directory in two halves."""
         old, new = line.fields['from'], line.fields['to']
-        if self.names.nodes[old] != self.names.nodes.get(new):
-            self.names.move(old, new)
-            self.operations.append(MoveEntry(old, new))
+        node, replaced = self.names.need(old), self.names.node(new)
+        if node == replaced:
+            return
+        entries = self.names.entry(old), self.names.entry(new)
+        self.names.move(old, new)
+        is_whole = self.version < 4 or self.profile != 'blocks' or node.kind == DIRECTORY
+        if is_whole or entries[0][0] == entries[1][0]:
+            move = MoveEntry((old, new), entries, node, replaced, self.version >= 4)
+            self.operations.append(move)
+        else:
+            self.operations.append(LinkEntry(new, entries[1], node, 1, replaced))
+            self.operations.append(DeleteEntry(old, entries[0], node, 2))
 
     def op_link(self, line: Line) -> None:
-        number = self.names.file(line.fields['from'])
-        self.names.add_path(line.fields['to'], number)
-        self.operations.append(LinkEntry(line.fields['to'], number))
+        node = self.names.need(line.fields['from'])
+        self.names.add_path(line.fields['to'], node)
+        entry = self.names.entry(line.fields['to'])
+        self.operations.append(LinkEntry(line.fields['to'], entry, node))
 
     # Operations on what files and directories are
 
     def op_write(self, line: Line) -> None:
+        """In version 4 a file that has a part of a page grows to the end of this page first."""
         number, at, data = self.names.file(line.fields['path']), line.fields['offset'], line.data
-        end = at + len(data)
-        if data and end > self.names.sizes[number]:
+        end, size = at + len(data), self.names.sizes[number]
+        if data and end > size:
+            if self.version >= 4 and size < page_end(size) < end:
+                self.change_size(number, page_end(size))
             self.change_size(number, end)
-        place = at
-        while place < end:
-            block = place // self.block_size
-            stop = min(end, (block + 1) * self.block_size)
-            piece = data[place - at : stop - at]
-            self.add_change(WriteBlock(number, block, self.block_size, place, piece))
-            place = stop
+        self.write_blocks(number, at, data)
+
+    def write_blocks(self, number: int, at: int, data: bytes) -> None:
+        size = self.block_size
+        for block, begin, piece in split(at, data, size):
+            self.add_change(WriteBlock(number, block, size, begin, piece))
 
     def op_truncate(self, line: Line) -> None:
-        number = self.names.file(line.fields['path'])
-        if self.names.sizes[number] != line.fields['length']:
-            self.change_size(number, line.fields['length'])
+        """In version 4 the rest of the page in which a file is cut becomes zero first."""
+        number, length = self.names.file(line.fields['path']), line.fields['length']
+        size = self.names.sizes[number]
+        if size == length:
+            return
+        if self.version >= 4:
+            zeros = min(page_end(length), size) - length
+            self.write_blocks(number, length, bytes(max(0, zeros)))
+        self.change_size(number, length)
 
     def change_size(self, number: int, length: int) -> None:
         self.names.sizes[number] = length
         self.add_change(ChangeSize(number, length))
 
     def op_chmod(self, line: Line) -> None:
-        owner, group, _ = self.rights[self.key_of(line)]
+        owner, group, _ = self.rights[self.names.need(line.fields['path'])]
         self.set_rights(line, (owner, group, line.fields['mode']))
 
     def op_chown(self, line: Line) -> None:
-        mode = self.rights[self.key_of(line)][2]
+        mode = self.rights[self.names.need(line.fields['path'])][2]
         self.set_rights(line, (line.fields['owner'], line.fields['group'], mode))
 
-    def key_of(self, line: Line) -> Union[int, str]:
-        number = self.names.nodes[line.fields['path']]
-        return line.fields['path'] if number is None else number
-
     def set_rights(self, line: Line, rights: Rights) -> None:
-        key = self.key_of(line)
-        if self.rights[key] == rights:
+        node = self.names.need(line.fields['path'])
+        if self.rights[node] == rights:
             return
-        self.rights[key] = rights
-        if isinstance(key, int):
-            self.add_change(SetRights(key, None, rights))
+        self.rights[node] = rights
+        if node.kind == DIRECTORY:
+            path = line.fields['path']
+            self.operations.append(SetRights(rights, None, node.number, path))
         else:
-            self.operations.append(SetRights(None, key, rights))
+            self.add_change(SetRights(rights, node.number))
 
     def op_say(self, line: Line) -> None:
         self.operations.append(Acknowledgement())
 
-    # SyncPoint points
+    # Sync points
 
     def op_fsync(self, line: Line) -> None:
-        number: Optional[int] = self.names.nodes[line.fields['path']]
-        at = len(self.operations)
-        self.syncs.append(
-            DirectorySync(at, line.fields['path']) if number is None else FileSync(at, number)
-        )
+        node = self.names.need(line.fields['path'])
+        made = DirectorySync if node.kind == DIRECTORY else FileSync
+        self.syncs.append(made(len(self.operations), node.number))
+
+    def op_fdatasync(self, line: Line) -> None:
+        number = self.names.file(line.fields['path'])
+        self.syncs.append(DataSync(len(self.operations), number))
 
     def op_fsync_range(self, line: Line) -> None:
-        self.syncs.append(
-            RangeSync(
-                len(self.operations),
-                self.names.file(line.fields['path']),
-                line.fields['offset'],
-                line.fields['length'],
-            )
-        )
+        number = self.names.file(line.fields['path'])
+        offset, length = line.fields['offset'], line.fields['length']
+        self.syncs.append(RangeSync(len(self.operations), number, offset, length))
 
     def op_sync(self, line: Line) -> None:
         self.syncs.append(SyncPoint(len(self.operations)))
+
+
+def page_end(length: int) -> int:
+    """The end of the page in which a length is; the length itself at a page's end."""
+    return -(-length // PAGE_BYTES) * PAGE_BYTES
 
 
 def read(data: bytes) -> Reading:

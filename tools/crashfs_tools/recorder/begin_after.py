@@ -3,8 +3,9 @@
 from __future__ import annotations
 
 import fnmatch
-from crashfs_tools.common.trace import Say, Trace
-from crashfs_tools.common.tree import Tree, start_lines
+
+from crashfs_tools.common.trace import Say
+from crashfs_tools.common.tree import start_lines
 
 from .recording import Recording
 
@@ -34,12 +35,9 @@ class LateStart:
 
 def begin_here(recording: Recording) -> None:
     """Begins the trace again. What wasn't synced up to here counts as durable."""
-    old = recording.trace
     header, start = start_lines(recording.tree.entries, recording.tree.files)
-    trace = Trace(header, start, version=old.version, profile=old.profile, block=old.block)
-    tree = Tree(header.owner, header.group, header.mode, old.block)
+    recording.begin(header)
     for line in start:
-        tree.start(line)
-    recording.trace, recording.tree = trace, tree
+        recording.add_start(line)
     recording.troubles.forget_lines()
     recording.begins_later = True

@@ -8,10 +8,11 @@ from typing import Dict, Iterable, List, Optional, Set
 
 from crashfs_tools.common.entry import Entries, Entry
 from crashfs_tools.common.program import Crashfs
+from crashfs_tools.common.trace import StartSymlink
 from crashfs_tools.common.trace_read import replay
-from crashfs_tools.common.tree import Tree
+from crashfs_tools.common.tree import Tree, symlink_of
 
-from .directory import Scan
+from .directory import Scan, ScannedEntry
 from .troubles import Trouble
 
 
@@ -68,11 +69,22 @@ def differences(directory: Scan, last: Entries, reported: Iterable[str]) -> List
         elif path not in there:
             lines.append(f'{path}: the trace has it, and at the end it is not there')
         else:
-            start = there[path]
-            data = None if start.data is None else bytearray(start.data)
-            real = Entry(start.owner, start.group, start.mode, data)
+            real = scanned_entry(there[path])
             lines += [f'{path}: {text}' for text in entry_differences(real, last[path])]
     return lines
+
+
+def scanned_entry(one: ScannedEntry) -> Entry:
+    """What the directory has at the end, as an entry."""
+    if isinstance(one, StartSymlink):
+        return symlink_of(one)
+    return Entry(one.owner, one.group, one.mode, one.data)
+
+
+def kind_of(entry: Entry) -> str:
+    if entry.link is not None:
+        return f'a symbolic link to {entry.link}'
+    return 'a directory' if entry.is_directory else 'a file'
 
 
 def is_below(path: str, known: Set[str]) -> bool:
@@ -81,6 +93,8 @@ def is_below(path: str, known: Set[str]) -> bool:
 
 
 def entry_differences(real: Entry, traced: Entry) -> List[str]:
+    if kind_of(real) != kind_of(traced):
+        return [f'it is {kind_of(real)} at the end, and {kind_of(traced)} in the trace']
     found = []
     if real.data != traced.data:
         found.append('its bytes at the end are not those that the trace gives it')

@@ -7,13 +7,17 @@ import os
 import pwd
 import stat
 from dataclasses import dataclass, field
-from typing import Callable, Dict, List, Tuple
+from typing import Callable, Dict, List, Tuple, Union
 
 from crashfs_tools.common import limits
-from crashfs_tools.common.trace import Header, Start
+from crashfs_tools.common.file_bytes import file_bytes
+from crashfs_tools.common.trace import Header, Start, StartSymlink
 from crashfs_tools.common.tree import path_fault
 
 Ignored = Callable[[str], bool]
+ScannedEntry = Union[Start, StartSymlink]
+# The newest version of a trace.
+NEWEST = 4
 
 
 @dataclass
@@ -23,7 +27,7 @@ class Scan:
     attributes has the extended ones of each path that has some."""
 
     header: Header
-    entries: List[Start] = field(default_factory=list)
+    entries: List[ScannedEntry] = field(default_factory=list)
     links: Dict[str, str] = field(default_factory=dict)
     left_out: List[Tuple[str, str]] = field(default_factory=list)
     noted: List[Tuple[str, str]] = field(default_factory=list)
@@ -48,16 +52,16 @@ def permission_bits(status: os.stat_result) -> int:
     return status.st_mode & 0o777
 
 
-def scan(top: str, ignored: Ignored) -> Scan:
-    """Reads a directory; OSError if it can't be read."""
-    return Scanner(top, ignored).scan()
+def scan(top: str, ignored: Ignored, version: int = NEWEST) -> Scan:
+    """Reads what traces of a version can have of a directory; OSError if it can't be read."""
+    return Scanner(top, ignored, version).scan()
 
 
 class Scanner:
     """Reads a directory; firsts has the first path of each file that has several."""
 
-    def __init__(self, top: str, ignored: Ignored) -> None:
-        self.top, self.ignored = top, ignored
+    def __init__(self, top: str, ignored: Ignored, version: int) -> None:
+        self.top, self.ignored, self.version = top, ignored, version
         status = os.stat(top)
         self.found = Scan(
             Header(user_name(status.st_uid), group_name(status.st_gid), permission_bits(status))
@@ -81,7 +85,7 @@ class Scanner:
                 self.entry(path, os.lstat(self.top + path))
 
     def entry(self, path: str, status: os.stat_result) -> None:
-        fault = path_fault(path) or kind_fault(status)
+        fault = path_fault(path) or self.kind_fault(path, status)
         if fault:
             self.found.left_out.append((path, fault))
             return
@@ -97,6 +101,17 @@ class Scanner:
         if stat.S_ISDIR(status.st_mode):
             self.below(path)
 
+    def kind_fault(self, path: str, status: os.stat_result) -> str:
+        """Why a trace can't have a file of this kind, or nothing."""
+        if stat.S_ISDIR(status.st_mode):
+            return ''
+        if stat.S_ISLNK(status.st_mode) and self.version >= NEWEST:
+            return target_fault(os.readlink(self.top + path))
+        if not stat.S_ISREG(status.st_mode):
+            return kind_of(status.st_mode)
+        most = limits.file_bytes(self.version)
+        return f'a file of more than {most} bytes' if status.st_size > most else ''
+
     def link(self, path: str, status: os.stat_result) -> None:
         inode = status.st_dev, status.st_ino
         first = self.firsts.setdefault(inode, path)
@@ -108,20 +123,10 @@ class Scanner:
 def attributes_of(path: str) -> Dict[str, bytes]:
     """The extended attributes of a file; none if they can't be read."""
     try:
-        return {name: os.getxattr(path, name) for name in os.listxattr(path)}
+        names = os.listxattr(path, follow_symlinks=False)
+        return {name: os.getxattr(path, name, follow_symlinks=False) for name in names}
     except OSError:
         return {}
-
-
-def kind_fault(status: os.stat_result) -> str:
-    """Why a trace can't have a file of this kind, or nothing."""
-    if stat.S_ISDIR(status.st_mode):
-        return ''
-    if not stat.S_ISREG(status.st_mode):
-        return kind_of(status.st_mode)
-    if status.st_size > limits.FILE_BYTES:
-        return f'a file of more than {limits.FILE_BYTES} bytes'
-    return ''
 
 
 def kind_of(mode: int) -> str:
@@ -133,11 +138,21 @@ def kind_of(mode: int) -> str:
     return kinds.get(stat.S_IFMT(mode), 'a device')
 
 
-def entry_of(top: str, path: str, status: os.stat_result) -> Start:
+def target_fault(target: str) -> str:
+    """Why a trace can't have a symbolic link with this target, or nothing."""
+    try:
+        target.encode()
+    except UnicodeEncodeError:
+        return 'a symbolic link to a name that is not UTF-8'
+    return ''
+
+
+def entry_of(top: str, path: str, status: os.stat_result) -> ScannedEntry:
+    owner, group = user_name(status.st_uid), group_name(status.st_gid)
+    if stat.S_ISLNK(status.st_mode):
+        return StartSymlink(path, owner, group, os.readlink(top + path))
     data = None
     if stat.S_ISREG(status.st_mode):
-        with open(top + path, 'rb') as file:
-            data = file.read()
-    return Start(
-        path, user_name(status.st_uid), group_name(status.st_gid), permission_bits(status), data
-    )
+        with open(top + path, 'rb', buffering=0) as file:
+            data = file_bytes(file.fileno())
+    return Start(path, owner, group, permission_bits(status), data)

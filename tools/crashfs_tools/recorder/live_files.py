@@ -6,27 +6,32 @@ from __future__ import annotations
 import os.path
 import re
 from dataclasses import dataclass
-from typing import Callable, Dict, List, Optional, Tuple
+from typing import Dict, List, Optional, Tuple
 
 from crashfs_tools.common import limits
 from crashfs_tools.common.entry import parent_of
 from crashfs_tools.common.trace import (
     Creat,
+    Fdatasync,
     Fsync,
     FsyncRange,
     Mkdir,
     Operation,
+    StartLine,
     StartLink,
+    StartSymlink,
+    Symlink,
     Truncate,
     Write,
 )
 
 from . import arguments
-from .directory import Ignored, Scan
+from .directory import Ignored, Scan, ScannedEntry
 from .live_tree import Change, LiveTree, Node
 from .output_streams import OutputStream
 from .processes import Descriptors, OpenFile, PathContext, Process
-from .recording import Recording
+from .recording import Recording, symbolic_link
+from .resolving import LinkOf, Resolver
 from .strace_log import Call
 
 UNKNOWN = 'by something that the log has not'
@@ -35,16 +40,21 @@ BY_DESCRIPTOR = re.compile(r'^(?:/proc/(self|thread-self|\d+)(?:/task/\d+)?|/dev
 STANDARD_NAMES = {'/dev/stdin': 0, '/dev/stdout': 1, '/dev/stderr': 2}
 
 
+def no_link(_: str) -> None:
+    """Of a log from elsewhere the links outside the directory aren't known."""
+
+
 @dataclass(frozen=True)
 class StartConditions:
     """What COMMAND started with: the directory's path as the calls name it, the umask, and the
-    owner and group of new files. resolve gives a path without symbolic links."""
+    owner and group of new files. link_of gives the target of a symbolic link that is not in the
+    directory."""
 
     top: str
     umask: int
     owner: str
     group: str
-    resolve: Callable[[str], str] = os.path.normpath
+    link_of: LinkOf = no_link
 
 
 class LiveFiles:
@@ -59,6 +69,7 @@ class LiveFiles:
         root = Node.directory(scan.header.mode)
         root.traced_paths = {'/'}
         self.tree = LiveTree(root)
+        self.resolver = Resolver(conditions.top, self.link_at, conditions.link_of)
         self.processes: Dict[int, Process] = {}
         # Syncs of writes that had not ended where the writes are, with their calls.
         self.late_syncs: List[Tuple[Call, Node, int, int]] = []
@@ -67,22 +78,24 @@ class LiveFiles:
 
     def add_scan(self, scan: Scan) -> None:
         """Takes what the directory has at the start, as the trace's start tree."""
-        trace = self.recording.trace
         for entry in scan.entries[: limits.RECORDS - 1]:
             source = scan.links.get(entry.path)
-            if source is not None and trace.has(StartLink):
-                node = self.tree.nodes[source]
-                trace.start.append(StartLink(entry.path, source))
+            if source is None:
+                self.add_scanned(entry, node_of(entry), entry)
+            elif self.recording.trace.has(StartLink):
+                self.add_scanned(entry, self.tree.nodes[source], StartLink(entry.path, source))
             else:
-                data = entry.data
-                node = Node.directory(entry.mode) if data is None else Node.file(entry.mode, data)
-                trace.start.append(entry)
-            node.traced_paths.add(entry.path)
-            self.tree.add(entry.path, node)
-            self.recording.tree.start(trace.start[-1])
-            if source is not None and not trace.has(StartLink):
+                self.add_scanned(entry, node_of(entry), entry)
                 self.report(f'the start tree leaves out that it is a link to {source}', entry.path)
         self.add_left_out(scan)
+
+    def add_scanned(self, entry: ScannedEntry, node: Node, line: StartLine) -> None:
+        """Takes a file, directory or symbolic link of the start, with its line in the trace."""
+        self.tree.add(entry.path, node)
+        if self.recording.add_start(line):
+            node.traced_paths.add(entry.path)
+        else:
+            self.report('the start tree leaves out a symbolic link', entry.path)
 
     def add_left_out(self, scan: Scan) -> None:
         """Reports what the start tree doesn't have. Entries come after their directories."""
@@ -114,41 +127,63 @@ class LiveFiles:
 
     # Paths
 
-    def relative_path(self, path: str) -> Optional[str]:
-        """A path as the trace has it; None for one outside the directory, or ignored."""
-        top = self.conditions.top
-        full = self.conditions.resolve(path)
-        if full == top:
-            return '/'
-        if not full.startswith(top.rstrip('/') + '/'):
-            return None
-        below = full[len(top.rstrip('/')) :]
-        return None if self.ignored(below) else below
+    def link_at(self, path: str) -> Optional[str]:
+        """The target of a symbolic link in the directory. Those that are ignored aren't followed
+        by the calls: they are asked for as they are now."""
+        node = self.tree.get(path)
+        if node is not None:
+            return node.link
+        return self.conditions.link_of(self.conditions.top + path) if self.ignored(path) else None
 
-    def path_argument(self, process: Process, call: Call, place: int) -> Optional[str]:
+    def relative_path(self, path: str, follows: bool = False) -> Optional[str]:
+        """A path as the trace has it; None for one outside the directory, or ignored. follows says
+        that a symbolic link at its end means what it refers to."""
+        below = self.resolver.below(self.resolver.resolved(path, follows))
+        return None if below is None or self.ignored(below) else below
+
+    def path_argument(
+        self, process: Process, call: Call, place: int, follows: bool = False
+    ) -> Optional[str]:
         """The path of an argument that has no descriptor before it."""
-        return self.join_path(process.paths.directory, call.word(place))
+        return self.join_path(process.paths.directory, call.word(place), follows)
 
-    def path_argument_at(self, process: Process, call: Call, place: int) -> Optional[str]:
+    def path_argument_at(
+        self, process: Process, call: Call, place: int, follows: bool = False
+    ) -> Optional[str]:
         """The path of the argument after a directory's descriptor, which is at place."""
         base = call.descriptor(place).path or process.paths.directory
-        return self.join_path(base, call.word(place + 1))
+        return self.join_path(base, call.word(place + 1), follows)
 
-    def join_path(self, base: str, word: str) -> Optional[str]:
+    def join_path(self, base: str, word: str, follows: bool = False) -> Optional[str]:
         path = arguments.path(word)
-        return None if path is None else self.relative_path(os.path.join(base, path))
+        return None if path is None else self.relative_path(os.path.join(base, path), follows)
 
-    def node_argument(self, process: Process, call: Call, place: int) -> Optional[Node]:
+    def node_argument(
+        self, process: Process, call: Call, place: int, follows: bool = True
+    ) -> Optional[Node]:
         """The file of a path, also by /proc/self/fd."""
         file = self.open_file_of_path(process, call.word(place))
-        return file.node if file else self.tree.get(self.path_argument(process, call, place))
+        if file is not None:
+            return file.node
+        return self.tree.get(self.path_argument(process, call, place, follows))
 
-    def node_argument_at(self, process: Process, call: Call, place: int) -> Optional[Node]:
+    def node_argument_at(
+        self, process: Process, call: Call, place: int, follows: bool = True
+    ) -> Optional[Node]:
         """The file of a path after a directory's descriptor; an empty one is the descriptor's."""
         file = self.open_file_of_path(process, call.word(place + 1))
         if call.word(place + 1) == '""':
             file = process.descriptors.files.get(call.descriptor(place).number)
-        return file.node if file else self.tree.get(self.path_argument_at(process, call, place))
+        if file is not None:
+            return file.node
+        return self.tree.get(self.path_argument_at(process, call, place, follows))
+
+    def move_directories(self, source: str, target: str) -> None:
+        """Moves the working directories of processes that are in a directory that was renamed."""
+        top = self.conditions.top
+        for paths in {id(one.paths): one.paths for one in self.processes.values()}.values():
+            if (paths.directory + '/').startswith(f'{top}{source}/'):
+                paths.directory = top + target + paths.directory[len(top + source) :]
 
     def open_file_of_path(self, process: Process, word: str) -> Optional[OpenFile]:
         """The open file that a path of /proc or /dev means."""
@@ -194,6 +229,11 @@ class LiveFiles:
         made: Operation = Creat(path, owner, group, node.mode)
         if node.is_directory:
             made = Mkdir(path, owner, group, node.mode)
+        elif node.link is not None:
+            made = Symlink(path, owner, group, node.link)
+            if not self.recording.may_have(symbolic_link(path)):
+                self.report('a symbolic link was made', path)
+                return
         if self.recording.add(made):
             node.traced_paths.add(path)
 
@@ -210,6 +250,16 @@ class LiveFiles:
                 'two calls changed it at once, and their order is not in the log', node.name
             )
         self.write_bytes(node, offset, data)
+
+    def zero_by_call(self, node: Node, begin: int, end: int) -> None:
+        """Writes zeros; in a large file only where it has data, and what gives it its length."""
+        if node.data is None or end <= limits.FILE_BYTES:
+            self.write_by_call(node, begin, bytes(max(0, end - begin)))
+            return
+        for first, last in node.data.data_ranges(begin, end):
+            self.write_by_call(node, first, bytes(last - first))
+        if end > node.size:
+            self.set_length(node, end)
 
     def write_bytes(self, node: Node, offset: int, data: bytes) -> None:
         path = node.path_of_traced_bytes
@@ -240,7 +290,9 @@ class LiveFiles:
         """Syncs a file's size and all its bytes, but not its mode and owner. Of a directory no
         trace has such a sync: it is written as one that has both."""
         if not node.is_directory:
-            self.sync_range(node, 0, limits.FILE_BYTES)
+            node.was_synced = True
+            if node.traced_path is not None:
+                self.recording.add(Fdatasync(node.traced_path))
             return
         if node.has_new_rights:
             self.report('fdatasync of a directory whose mode or owner was changed', node.name)
@@ -266,3 +318,12 @@ class LiveFiles:
                 self.late_syncs.remove(late)
                 self.recording.call = late[0]
                 self.sync_range(*late[1:])
+
+
+def node_of(entry: ScannedEntry) -> Node:
+    """A file, directory or symbolic link of the start."""
+    if isinstance(entry, StartSymlink):
+        return Node.symbolic_link(entry.link)
+    if entry.data is None:
+        return Node.directory(entry.mode)
+    return Node.file(entry.mode, entry.data)

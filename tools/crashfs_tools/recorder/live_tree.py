@@ -3,10 +3,10 @@
 from __future__ import annotations
 
 from dataclasses import dataclass, field
-from typing import Dict, List, Optional, Set
+from typing import Dict, List, Optional, Set, Union
 
 from crashfs_tools.common import limits
-from crashfs_tools.common.tree import resize
+from crashfs_tools.common.sparse import SparseBytes
 
 # What a write floats on that goes to the file's end.
 END = 'end'
@@ -36,7 +36,7 @@ class Change:
 
 @dataclass(eq=False)
 class Node:
-    """A file or directory.
+    """A file, directory or symbolic link, which has its target as link.
 
     traced_paths has the paths at which the trace has it. data is None for a directory, and for a
     file whose bytes are not followed any more. size is kept. was_synced counts for a file that has
@@ -45,7 +45,7 @@ class Node:
 
     is_directory: bool
     mode: int
-    data: Optional[bytearray] = None
+    data: Optional[SparseBytes] = None
     size: int = 0
     traced_paths: Set[str] = field(default_factory=set)
     names: Set[str] = field(default_factory=set)
@@ -53,10 +53,15 @@ class Node:
     was_synced: bool = False
     has_new_rights: bool = False
     recent: List[Change] = field(default_factory=list)
+    link: Optional[str] = None
 
     @staticmethod
-    def file(mode: int, data: bytes = b'') -> Node:
-        return Node(False, mode, bytearray(data), len(data))
+    def file(mode: int, data: Union[bytes, SparseBytes] = b'') -> Node:
+        return Node(False, mode, SparseBytes.of(data), len(data))
+
+    @staticmethod
+    def symbolic_link(target: str) -> Node:
+        return Node(False, 0o777, link=target)
 
     @staticmethod
     def directory(mode: int) -> Node:
@@ -85,18 +90,17 @@ class Node:
         self.data = None
 
     def put(self, offset: int, data: bytes) -> None:
-        end = offset + len(data)
-        self.resize(max(self.size, end))
+        self.resize(max(self.size, offset + len(data)))
         if self.data is not None:
-            self.data[offset:end] = data
+            self.data.write(offset, data)
 
     def resize(self, length: int) -> None:
         """Cuts the file, or adds zeros; bytes of one that is too large are lost."""
         self.size = length
-        if length > limits.FILE_BYTES:
+        if length > limits.LARGE_FILE_BYTES:
             self.drop_bytes()
         if self.data is not None:
-            resize(self.data, length)
+            self.data.resize(length)
 
     def add_change(self, change: Change) -> bool:
         """Adds a change, and returns whether another ran at once whose order counts."""
@@ -134,3 +138,11 @@ class LiveTree:
         self.add(target, self.remove(source))
         for path in below:
             self.add(target + path[len(source) :], self.remove(path))
+
+    def move_traced(self, source: str, target: str) -> None:
+        """Moves the traced paths of a directory that was moved, and of what is below it."""
+        for path in [target] + self.below(target):
+            paths, old = self.nodes[path].traced_paths, source + path[len(target) :]
+            if old in paths:
+                paths.remove(old)
+                paths.add(path)

@@ -8,7 +8,9 @@ import re
 import signal
 import threading
 import time
-from typing import List, Optional, Set
+from typing import List, Optional, Set, TextIO
+
+from crashfs_tools.common.command import refuse_planted
 
 from . import stopped_processes
 from .arguments import LogError
@@ -23,6 +25,12 @@ SAME_STOP = 0.005
 STOPPED = re.compile(r'^(\d+) +--- stopped by SIGSTOP ---')
 
 
+def open_log(path: str) -> TextIO:
+    """The file of a log that is kept; never one that another user's link or pipe names."""
+    refuse_planted(path)
+    return open(path, 'w', encoding='ascii')
+
+
 class LogStream:
     """strace writes to `pipe`; the lines are kept in a file too if one is named."""
 
@@ -35,7 +43,7 @@ class LogStream:
     ) -> None:
         self.pipe = os.path.join(folder, 'log')
         os.mkfifo(self.pipe)
-        self.kept = None if keep is None else open(keep, 'w', encoding='ascii')
+        self.kept = None if keep is None else open_log(keep)
         self.mapped = mapped
         self.reader = LogReader(needed)
         self.lines = 0

@@ -19,9 +19,9 @@ from crashfs_tools.common.trace import Say
 from . import stacks, strace_run, summary
 from .begin_after import LateStart
 from .arguments import LogError
-from .directory import Scan, group_name, scan, user_name
+from .directory import NEWEST, Scan, group_name, scan, user_name
 from .log_filter import LogFilter
-from .live_files import LiveFiles, StartConditions
+from .live_files import LiveFiles, StartConditions, no_link
 from .log_stream import LogStream
 from .mapped_files import FileCopies, MappedFiles
 from .options import NAME, RecordOptions, check, read_options
@@ -34,6 +34,10 @@ from .translate import Translator
 
 NOTHING = 1
 WRITTEN, NOT_WRITTEN = 'the trace is written', 'no trace is written'
+NEW_VERSION = (
+    f'the trace has version {NEWEST} (%s): the program crashfs does not read it yet, so '
+    'crashfs-check uses the Python implementation (unproved)'
+)
 BEGINS = 'it begins after an acknowledged line: what was not yet synced then counts as durable'
 
 
@@ -107,25 +111,31 @@ def start_conditions(options: RecordOptions) -> StartConditions:
         umask if is_here else 0o022,
         user_name(os.geteuid()),
         group_name(os.getegid()),
-        resolve if is_here else os.path.normpath,
+        link_of if is_here else no_link,
     )
 
 
-def resolve(path: str) -> str:
-    """A path without symbolic links, except for its last name."""
-    parent, name = os.path.split(os.path.normpath(path))
-    return os.path.join(os.path.realpath(parent), name) if name else path
+def link_of(path: str) -> Optional[str]:
+    """The target of a symbolic link of this system; None if there is no link, or one that means
+    something else in each process."""
+    if path.startswith('/proc/'):
+        return None
+    try:
+        return os.readlink(path)
+    except OSError:
+        return None
 
 
 def record(options: RecordOptions) -> int:
     check(options)
     Crashfs.find(options.crashfs)
-    before = scan(options.directory, options.ignored)
+    before = scan(options.directory, options.ignored, options.version or NEWEST)
     settings = TraceSettings(
         options.acknowledged,
         SayEach(options.each) if options.each else None,
         options.profile,
         options.block,
+        options.version,
     )
     recording = Recording(before.header, settings)
     files = LiveFiles(recording, start_conditions(options), before, options.ignored)
@@ -160,6 +170,7 @@ def finish(options: RecordOptions, recording: Recording, before: Scan, run: Reco
     if options.from_log is None:
         how = summary.compare(options, recording, before, found)
     also = [BEGINS] if recording.begins_later else []
+    also += [NEW_VERSION % recording.new_version] if recording.new_version else []
     also += summary.without_stack(recording.trace) if options.stacks else []
     for line in found.lines + found.notes + also:
         print_text(line)

@@ -8,7 +8,7 @@ import re
 from dataclasses import dataclass, field
 from typing import Dict, Iterable, List, Set, Tuple
 
-from crashfs_tools.common import limits
+from crashfs_tools.common.file_bytes import Bytes, file_bytes
 
 from . import arguments, stopped_processes
 from .directory import Ignored
@@ -60,7 +60,7 @@ class FileCopy:
     line: int
     process: int
     is_alone: bool
-    files: Dict[int, bytes]
+    files: Dict[int, Bytes]
     shared: Set[int] = field(default_factory=set)
 
     def is_sure(self, number: int) -> bool:
@@ -86,7 +86,7 @@ class MappedFiles:
         self.copies = FileCopies()
         self.inodes: Dict[Tuple[int, int], int] = {}
         self.descriptors: List[int] = []
-        self.last: Dict[int, bytes] = {}
+        self.last: Dict[int, Bytes] = {}
 
     def note(self, line: str, number: int) -> None:
         """Looks for a mapping in a line of strace's. Its file is held open from then on, since
@@ -117,9 +117,9 @@ class MappedFiles:
 
     def copy(self, line: int, process: int, is_alone: bool, others: Iterable[int] = ()) -> None:
         """Takes a copy of what changed since the last one."""
-        changed: Dict[int, bytes] = {}
+        changed: Dict[int, Bytes] = {}
         for number, descriptor in enumerate(self.descriptors):
-            data = os.pread(descriptor, limits.FILE_BYTES + 1, 0)
+            data = file_bytes(descriptor)
             if self.last.get(number) != data:
                 changed[number] = self.last[number] = data
         shared = self.mapped_by(others) & changed.keys() if changed else set()

@@ -5,7 +5,8 @@ from __future__ import annotations
 import bisect
 from typing import Dict, List, Tuple
 
-from crashfs_tools.common import limits
+from crashfs_tools.common.file_bytes import Bytes
+from crashfs_tools.common.sparse import PAGE_BYTES, SparseBytes
 
 from .live_tree import Node
 from .mapped_files import STOPPING_CALLS, FileCopies, FileCopy
@@ -42,15 +43,15 @@ def copies_by_call(
     return found
 
 
-def add_stores(files: LiveFiles, node: Node, data: bytes, is_sure: bool) -> None:
+def add_stores(files: LiveFiles, node: Node, data: Bytes, is_sure: bool) -> None:
     """Adds the stores that a copy of a mapped file shows: each page that differs is one."""
     if node.data is None:
         return
     if len(data) != node.size:
         files.report('a copy of the mapped file has another size than is known', node.name)
         return
-    for begin in range(0, len(data), limits.BLOCK_BYTES):
-        end = begin + limits.BLOCK_BYTES
+    for begin in page_places(node.data, SparseBytes.of(data)):
+        end = begin + PAGE_BYTES
         first, last = difference(node.data[begin:end], data[begin:end])
         if first < last and not is_sure:
             files.report(NOT_ALONE, node.name)
@@ -58,6 +59,11 @@ def add_stores(files: LiveFiles, node: Node, data: bytes, is_sure: bool) -> None
             files.write_bytes(node, begin + first, data[begin + first : begin + last])
         if node.data is None:
             return
+
+
+def page_places(old: SparseBytes, new: SparseBytes) -> List[int]:
+    """Where pages begin that may differ."""
+    return [page * PAGE_BYTES for page in sorted(old.pages.keys() | new.pages.keys())]
 
 
 def difference(old: bytes, new: bytes) -> Tuple[int, int]:

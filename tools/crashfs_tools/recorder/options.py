@@ -8,13 +8,15 @@ from dataclasses import dataclass, field
 from typing import List, Optional
 
 from crashfs_tools.common.command import Refused, folder_of, found, parse
-from crashfs_tools.common.trace import BLOCK_SIZES, BLOCKS, PROFILES
+from crashfs_tools.common.trace import BLOCK_SIZES, BLOCKS, JOURNAL, PROFILES
 from crashfs_tools.common.version import version_of
 
 from .ignore import Ignore, Rule
 from .output_streams import SOCKETS, SayEach
 
 NAME = 'crashfs-record'
+# The versions of traces that are written; AUTO is the oldest that has all that happens.
+AUTO, VERSIONS = 'auto', ('3', '4')
 
 DESCRIPTION = """\
 Records what COMMAND does to the directory DIR, as a trace that crashfs reads.
@@ -51,11 +53,17 @@ class RecordOptions:
     crashfs: Optional[str]
     profile: str
     block: int
+    trace_version: str
     ignored: Ignore = field(init=False)
 
     def __post_init__(self) -> None:
         self.acknowledged = self.acknowledged or ['1']
         self.ignored = Ignore(self.ignore, self.directory)
+
+    @property
+    def version(self) -> Optional[int]:
+        """The version of the trace; None for the oldest that has all that happens."""
+        return None if self.trace_version == AUTO else int(self.trace_version)
 
 
 def parser() -> argparse.ArgumentParser:
@@ -131,10 +139,11 @@ def add_the_trace(made: argparse.ArgumentParser) -> None:
     )
     made.add_argument(
         '--profile',
-        choices=PROFILES,
+        choices=[*PROFILES, JOURNAL],
         default=BLOCKS,
-        help='which directory operations the file system keeps in order: only those '
-        'of the same names (blocks, the default), or all (ordered)',
+        help='which directory operations the file system keeps in order: only those of the same '
+        'names (blocks, the default), all (ordered), or all, with each sync that writes the log '
+        'making them durable (journal, as ext4 and XFS do; needs a trace of version 4)',
     )
     made.add_argument(
         '--block',
@@ -143,6 +152,15 @@ def add_the_trace(made: argparse.ArgumentParser) -> None:
         default=BLOCK_SIZES[-1],
         help='how many bytes the disk writes whole; with 512, records inside a page '
         'may be torn (default: 4096)',
+    )
+    made.add_argument(
+        '--trace-version',
+        metavar='VERSION',
+        choices=[AUTO, *VERSIONS],
+        default=AUTO,
+        help='the version of the trace. 4 has symbolic links, renamed directories and files of up '
+        'to 1 GiB; states of such a trace are not proved yet (default: auto, which is 3 if that '
+        'has all that happens, else 4)',
     )
     made.add_argument(
         '--crashfs',
@@ -191,6 +209,8 @@ def read_options(arguments: List[str]) -> RecordOptions:
         command or values.mapped or values.keep_log or values.stacks
     ):
         made.error('--from-log goes with no COMMAND, --mapped, --stacks or --keep-log')
+    if values.profile == JOURNAL and values.trace_version == VERSIONS[0]:
+        made.error(f'--profile {JOURNAL} needs --trace-version {VERSIONS[-1]} or {AUTO}')
     return RecordOptions(command=command, **vars(values))
 
 

@@ -7,7 +7,8 @@ import os
 import re
 from typing import Iterator, List, Tuple
 
-from crashfs_tools.common.trace import Start, Trace, Write
+from crashfs_tools.common.sparse import SparseBytes
+from crashfs_tools.common.trace import Start, StartSymlink, Symlink, Trace, Write
 
 NOTE = (
     'it has the path of the recorded directory: a recovery that opens that path reads no crash '
@@ -25,10 +26,12 @@ def files_with_path(trace: Trace, top: str) -> List[str]:
 
 
 def bytes_of(trace: Trace) -> Iterator[Tuple[str, bytes]]:
-    """The bytes that a trace has, with the path of their file there."""
-    for entry in trace.start:
-        if isinstance(entry, Start) and entry.data:
-            yield entry.path, entry.data
-    for operation in trace.operations:
-        if isinstance(operation, Write):
-            yield operation.path, operation.data
+    """The bytes that a trace has, with the path of their file there; of a symbolic link its
+    target."""
+    for line in (*trace.start, *trace.operations):
+        if isinstance(line, (StartSymlink, Symlink)):
+            yield line.path, os.fsencode(line.link)
+        elif isinstance(line, Start) and isinstance(line.data, SparseBytes):
+            yield from ((line.path, run) for _, run in line.data.runs())
+        elif isinstance(line, (Start, Write)) and line.data:
+            yield line.path, bytes(line.data)

@@ -5,12 +5,15 @@ from __future__ import annotations
 from dataclasses import dataclass
 from typing import Callable, Optional, Sequence, Set
 
+from crashfs_tools.common import limits
 from crashfs_tools.common.trace import (
     BLOCK_SIZES,
     BLOCKS,
+    JOURNAL,
     WRITTEN_VERSION,
     Chmod,
     Creat,
+    Fdatasync,
     Fsync,
     FsyncRange,
     Header,
@@ -20,11 +23,16 @@ from crashfs_tools.common.trace import (
     Rename,
     Say,
     Start,
+    StartLine,
+    StartSymlink,
     Sync,
     Trace,
+    Truncate,
+    Write,
 )
 from crashfs_tools.common.tree import Tree
 
+from .directory import NEWEST
 from .output_streams import OutputStream, OutputStreams, SayEach
 from .strace_log import Call
 from .troubles import Troubles
@@ -34,12 +42,13 @@ from .troubles import Troubles
 class TraceSettings:
     """How a trace is made: which descriptors acknowledge something, and whether by lines or by
     writes; which directory operations the file system keeps in order; how many bytes the disk
-    writes whole."""
+    writes whole; its version, or None for the oldest that has all that happens."""
 
     acknowledged: Sequence[str] = ('1',)
     each: Optional[SayEach] = None
     profile: str = BLOCKS
     block: int = BLOCK_SIZES[-1]
+    version: Optional[int] = None
 
 
 def place_of(operation: Operation) -> str:
@@ -57,19 +66,40 @@ def is_private(trace: Trace) -> bool:
     return any(mode & 0o044 != 0o044 for mode in modes)
 
 
+def end_of_change(operation: Operation) -> int:
+    """Where the bytes end that an operation gives a file, or its length."""
+    if isinstance(operation, Write):
+        return operation.offset + len(operation.data)
+    return operation.length if isinstance(operation, Truncate) else 0
+
+
+# Why a trace has the newest version.
+
+
+def symbolic_link(path: str) -> str:
+    return f'{path} is a symbolic link'
+
+
+def renamed_directory(path: str) -> str:
+    return f'{path} is a directory that was renamed'
+
+
+def large_file(path: str) -> str:
+    return f'{path} has more than {limits.FILE_BYTES:,} bytes'
+
+
 class Recording:
     """The trace, the tree at its end, the streams that COMMAND writes to, and the troubles.
 
     call is the call that is translated now; differing has the paths that differ at the end from
     the directory, apart from those of the troubles; changes counts the operations that are no
-    acknowledgements.
+    acknowledgements; new_version says why the trace has the newest version.
     """
 
     def __init__(self, header: Header, settings: TraceSettings) -> None:
-        self.trace = Trace(
-            header, version=WRITTEN_VERSION, profile=settings.profile, block=settings.block
-        )
-        self.tree = Tree(header.owner, header.group, header.mode, settings.block)
+        self.settings = settings
+        self.new_version = ''
+        self.begin(header)
         self.streams = OutputStreams(settings.acknowledged, settings.each)
         self.troubles = Troubles()
         self.differing: Set[str] = set()
@@ -77,6 +107,26 @@ class Recording:
         self.on_acknowledged: Callable[[Say], None] = lambda said: None
         self.begins_later = False
         self.changes = 0
+
+    def begin(self, header: Header) -> None:
+        """Begins the trace, in the oldest version that it may have."""
+        profile, block = self.settings.profile, self.settings.block
+        version = self.settings.version or WRITTEN_VERSION
+        self.trace = Trace(header, version=version, profile=profile, block=block)
+        self.tree = Tree(header.owner, header.group, header.mode, block, version, profile)
+        self.new_version = f'--trace-version {NEWEST}' if version >= NEWEST else ''
+        if profile == JOURNAL:
+            self.may_have(f'--profile {JOURNAL}')
+
+    def add_start(self, line: StartLine) -> bool:
+        """Adds a start line to the trace, and returns whether its version may have it."""
+        if isinstance(line, StartSymlink) and not self.may_have(symbolic_link(line.path)):
+            return False
+        if isinstance(line, Start) and len(line.data or b'') > limits.FILE_BYTES:
+            self.may_have(large_file(line.path))
+        self.trace.start.append(line)
+        self.tree.start(line)
+        return True
 
     def report(self, what: str, where: str, is_note: bool = False) -> None:
         """Reports what the trace doesn't have, once for each thing and place."""
@@ -87,11 +137,20 @@ class Recording:
         """Reports what no trace has, and what changes no verdict."""
         self.report(what, where, is_note=True)
 
+    def may_have(self, what: str) -> bool:
+        """Whether the trace may have what only the newest version has; it then has this version."""
+        if self.trace.version < NEWEST and self.settings.version is None:
+            self.trace.version = self.tree.version = NEWEST
+            self.new_version = what
+        return self.trace.version >= NEWEST
+
     def add(self, operation: Operation) -> bool:
         """Adds an operation to the trace, and returns whether it could: one that `crashfs` would
         refuse is reported."""
-        if not self.trace.has(type(operation)):
+        if not self.has_line(operation):
             return self.add_in_older_version(operation)
+        if limits.FILE_BYTES < end_of_change(operation) <= limits.LARGE_FILE_BYTES:
+            self.may_have(large_file(place_of(operation)))
         fault = self.tree.fault(operation)
         if fault:
             name = self.call.name if self.call else 'a change'
@@ -104,9 +163,15 @@ class Recording:
         self.changes += not isinstance(operation, Say)
         return True
 
+    def has_line(self, operation: Operation) -> bool:
+        """Whether the trace's version has a line for an operation: version 3 has one for an
+        fdatasync, too."""
+        kind = FsyncRange if isinstance(operation, Fdatasync) else type(operation)
+        return self.trace.has(kind)
+
     def add_in_older_version(self, operation: Operation) -> bool:
         """Adds an operation that the trace's version has no line for, as far as it can."""
-        if not isinstance(operation, FsyncRange):
+        if not isinstance(operation, (FsyncRange, Fdatasync)):
             return False
         self.report('a sync of a part is written as one of the file', operation.path)
         return self.add(Fsync(operation.path))

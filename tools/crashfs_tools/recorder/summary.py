@@ -21,7 +21,7 @@ from .comparison import (
     links_that_differ,
     notes_on,
 )
-from .directory import Scan, scan
+from .directory import NEWEST, Scan, scan
 from .options import RecordOptions
 from .output_streams import ERRORS, OutputStream
 from .recording import Recording
@@ -135,7 +135,7 @@ def held_text(stream: OutputStream) -> List[str]:
 def compare(options: RecordOptions, recording: Recording, before: Scan, found: FinalReport) -> str:
     """Compares the directory with the last state, adds what differs, and returns the verdict."""
     try:
-        now = scan(options.directory, options.ignored)
+        now = scan(options.directory, options.ignored, options.version or NEWEST)
     except OSError as error:
         found.lines.append(f'{error.filename}: {error.strerror}: {NOT_COMPARED}')
         return NOT_COMPARED

@@ -4,6 +4,8 @@ from __future__ import annotations
 
 from typing import Callable, Dict, List, Optional
 
+from crashfs_tools.common.file_bytes import Bytes
+
 from . import call_order, mapped_stores
 from .arguments import LogError
 from .calls import data as data_calls
@@ -47,7 +49,7 @@ class Translator:
         self.files.has_copies = copies is not None
         self.stores: Dict[int, List[FileCopy]] = {}
         self.mapped: Dict[int, Node] = {}
-        self.early: Dict[int, bytes] = {}
+        self.early: Dict[int, Bytes] = {}
         self.newest: Dict[int, FileCopy] = {}
         self.places = {id(copy): place for place, copy in enumerate(self.copies.taken)}
         self.parents: Dict[int, List[Call]] = {}

@@ -3,17 +3,18 @@
 from __future__ import annotations
 
 import os
-from typing import Dict, FrozenSet, Iterable, List, Set, Tuple
+from typing import Dict, FrozenSet, Iterable, List, NamedTuple, Optional, Set, Tuple
 
 from crashfs_tools.checker.running.results import Results
 from crashfs_tools.checker.running.runner import GOOD, Outcome
 from crashfs_tools.checker.running.trying import Trying
-from crashfs_tools.checker.states.plan import Before, Needs, Plan, Planned, Trial
+from crashfs_tools.checker.states.plan import Before, Plan, Planned, Trial
 from crashfs_tools.checker.states.planning import Planner
 from crashfs_tools.common.command import TEXT
 from crashfs_tools.common.trace_text import with_syncs
 
 from .advice import Tried
+from .equal_sets import equal_sets
 from .groups import Findings, Group, Totals, Union
 from .swaps import add_swaps
 from .tree_diff import find_differences
@@ -22,6 +23,14 @@ from .tree_diff import find_differences
 TRIED, COVERED = 5, 100
 
 Points = FrozenSet[Tuple[int, str]]
+
+
+class SyncedCopy(NamedTuple):
+    """A copy of the trace with some syncs: its plan, and the keys of its states if all crash states
+    are tried."""
+
+    planned: Planned
+    keys: Set[object]
 
 
 def add_details(trying: Trying, planner: Planner, findings: Findings) -> None:
@@ -44,26 +53,43 @@ class AdviceTrials:
             self.kept[state]: one for state, one in findings.by_state.items()
         }
         self.before = count_failing(findings.plan, self.known)
+        # The copies have the same micro-operations.
+        self.equal = equal_sets(trying.planned, findings)
+        every = findings.plan.all_states
+        self.has_all = every is not None and every.are_listed
 
     def run(self) -> None:
         """Tries the groups' advice, largest group first; what that removes needs no advice."""
-        needs: List[Needs] = []
+        copies: List[SyncedCopy] = []
         tried = 0
         for group in self.findings.groups[:COVERED]:
             if group.advice.syncs:
-                group.is_covered = self.is_covered(group, needs)
+                group.is_covered = self.is_covered(group, copies)
                 if not group.is_covered:
-                    planned = self.copy(points_of([group]))
-                    needs.append(planned.plan.needs)
+                    copy = self.copy(points_of([group]))
+                    copies.append(copy)
                     if tried < TRIED:
-                        group.advice.tried = self.tried(planned, group)
+                        group.advice.tried = self.tried(copy, group)
                         tried += 1
         self.findings.union = self.union()
 
-    def is_covered(self, group: Group, needs: List[Needs]) -> bool:
+    def is_covered(self, group: Group, copies: List[SyncedCopy]) -> bool:
         """Whether the syncs of earlier groups leave no state of this one."""
-        masks = {self.kept[state.number] for state in group.states}
-        return all(any(not one.allow(mask) for one in needs) for mask in masks)
+        left = {self.key(self.kept[state.number]): state for state in group.states}
+        return all(
+            any(not self.leaves(copy, self.kept[state.number]) for copy in copies)
+            for state in left.values()
+        )
+
+    def key(self, kept: int) -> object:
+        """Equal for sets that leave equal trees, if all crash states were tried."""
+        return self.equal.tree(kept) if self.equal is not None and self.has_all else kept
+
+    def leaves(self, copy: SyncedCopy, kept: int) -> bool:
+        """Whether a crash of a copy leaves what a set leaves."""
+        if self.equal is not None and self.has_all:
+            return self.key(kept) in copy.keys
+        return copy.planned.plan.needs.allow(kept)
 
     def union(self) -> Union:
         """Tries all advised syncs at once."""
@@ -74,12 +100,12 @@ class AdviceTrials:
         if len(advised) == 1 and advised[0].advice.tried is not None:
             tried = advised[0].advice.tried
             return Union(points, Totals(tried.before, tried.after))
-        planned = self.copy(points)
+        planned = self.copy(points).planned
         self.try_states(planned)
         return Union(points, Totals(self.before, count_failing(planned.plan, self.known)))
 
-    def copy(self, points: Points) -> Planned:
-        """The plan of a copy of the trace that has these syncs."""
+    def copy(self, points: Points) -> SyncedCopy:
+        """A copy of the trace that has these syncs."""
         planned = self.trying.planned
         with open(planned.trace, **TEXT) as file:
             text = file.read()
@@ -91,18 +117,21 @@ class AdviceTrials:
         path = os.path.join(self.trying.guard.directory, 'advice.trace')
         with open(path, 'w', **TEXT) as file:
             file.write(with_syncs(text, own))
-        return self.planner.plan(path, Before(says=planned.before.says))
+        copy = self.planner.plan(path, Before(says=planned.before.says))
+        plan = copy.plan
+        keys = {self.key(plan.kept[one.number]) for one in plan.states} if self.has_all else set()
+        return SyncedCopy(copy, keys)
 
-    def tried(self, planned: Planned, group: Group) -> Tried:
+    def tried(self, copy: SyncedCopy, group: Group) -> Tried:
         """The result of a group's advice."""
+        planned = copy.planned
         self.try_states(planned)
         left = {
             Trial(state.same, state.says)
             for state in group.states
-            if planned.plan.needs.allow(self.kept[state.number])
+            if self.leaves(copy, self.kept[state.number])
         }
-        masks = {self.kept[state.number] for state in group.states}
-        others, still = self.count_others(planned.plan, masks)
+        others, still = self.count_others(planned.plan, group)
         after = count_failing(planned.plan, self.known)
         return Tried(len(left), group.count, others, still, self.before, after)
 
@@ -112,7 +141,7 @@ class AdviceTrials:
         plan = planned.plan
         found: Dict[Trial, Outcome] = {}
         for state in plan.states:
-            known = self.known.get(plan.kept[state.number])
+            known = self.known_outcome(plan.kept[state.number])
             if known is not None:
                 found[Trial(state.same, state.says)] = known
         trials = Results(plan).trials
@@ -127,14 +156,22 @@ class AdviceTrials:
             if outcome is not None:
                 self.known.setdefault(plan.kept[state.number], outcome)
 
-    def count_others(self, plan: Plan, masks: Set[int]) -> Tuple[int, int]:
-        """How many other different states of a copy fail, and how many of them failed before."""
-        before = {self.kept[state] for state in self.findings.by_state}
+    def known_outcome(self, kept: int) -> Optional[Outcome]:
+        """The outcome of a set, if it or an equal one was tried."""
+        if kept not in self.known and self.equal is not None:
+            return self.equal.outcome(kept)
+        return self.known.get(kept)
+
+    def count_others(self, plan: Plan, group: Group) -> Tuple[int, int]:
+        """How many different states of a copy fail that aren't the group's, and how many of them
+        failed before."""
+        mine = {self.key(self.kept[state.number]) for state in group.states}
+        before = {self.key(self.kept[state]) for state in self.findings.by_state}
         others: Dict[Trial, bool] = {}
         for state in plan.states:
             kept, trial = plan.kept[state.number], Trial(state.same, state.says)
-            if kept not in masks and fails(self.known, kept):
-                others[trial] = others.get(trial, False) or kept in before
+            if fails(self.known, kept) and self.key(kept) not in mine:
+                others[trial] = others.get(trial, False) or self.key(kept) in before
         return len(others), sum(others.values())
 
 

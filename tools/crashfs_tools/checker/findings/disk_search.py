@@ -12,18 +12,19 @@ from crashfs_tools.checker.running.runner import GOOD, Outcome
 from crashfs_tools.checker.running.trying import Trying
 from crashfs_tools.checker.states.layout import lay_out
 from crashfs_tools.common.archive import Member
-from crashfs_tools.common.entry import Entries, Entry
+from crashfs_tools.common.entry import Entries
 from crashfs_tools.common.guard import Guard
 from crashfs_tools.common.removal import remove_tree
 from crashfs_tools.common.trace_read import read_trace
 from crashfs_tools.disks.disk import Crash, Disk, digest_of
-from crashfs_tools.disks.filesystems import IMAGES, FileSystem, named
+from crashfs_tools.disks.filesystems import IMAGES, bytes_written, named, with_room
 from crashfs_tools.disks.pool import DiskPool
 from crashfs_tools.reading import read
 from crashfs_tools.reading.classes import Classes
 from crashfs_tools.reading.order import Order
 from crashfs_tools.reading.states import States
 
+from .read_trees import entries_of
 from .sightings import OUTSIDE, UNKNOWN, UNTRIED, DiskFailure, Explanation, Sightings, keep_first
 
 MEMORY = '/dev/shm'
@@ -48,10 +49,15 @@ class DiskTree:
 def sightings_of(trying: Trying, by_state: Dict[int, Outcome]) -> Sightings:
     """Makes the session again on the file systems of --disks. Images are in memory if there is room
     for them: a crash is then taken in a fraction of a second."""
-    filesystems = named(trying.options.disks or [])
+    with open(trying.planned.trace, 'rb') as file:
+        text = file.read()
+    trace = read_trace(text.decode('utf-8', 'surrogateescape'))
+    size = bytes_written(trace)
+    filesystems = [with_room(one, size) for one in named(trying.options.disks or [])]
     room = IMAGES * trying.options.jobs * sum(one.size for one in filesystems)
     with Guard('crashfs-disks-', MEMORY if has_room(MEMORY, room) else None) as guard:
-        return Search(trying, by_state, filesystems).run(guard.directory, trying.progress.note)
+        search = Search(trying, by_state, text)
+        return search.run(DiskPool(filesystems, trace, guard.directory), trying.progress.note)
 
 
 def has_room(folder: str, size: int) -> bool:
@@ -64,23 +70,18 @@ def has_room(folder: str, size: int) -> bool:
 
 
 class Search:
-    """Makes the session again, and looks for each disk. by_state has the outcomes of states."""
+    """Makes the session again, and looks for each disk. by_state has the outcomes of states, trace
+    is the trace's text."""
 
-    def __init__(
-        self, trying: Trying, by_state: Dict[int, Outcome], filesystems: Sequence[FileSystem]
-    ) -> None:
+    def __init__(self, trying: Trying, by_state: Dict[int, Outcome], trace: bytes) -> None:
         self.trying = trying
         self.by_state = by_state
-        self.filesystems = filesystems
+        self.trace = trace
         self.checker = trying.checker()
-        with open(trying.planned.trace, 'rb') as file:
-            self.trace = file.read()
 
-    def run(self, folder: str, on_step: Callable[[int, int], None]) -> Sightings:
-        """Searches; folder is for the images of disks."""
-        trace = read_trace(self.trace.decode('utf-8', 'surrogateescape'))
-        disks = DiskPool(self.filesystems, trace, folder).disks(self.trying.options.jobs, on_step)
-        found = Sightings([one.name for one in self.filesystems])
+    def run(self, pool: DiskPool, on_step: Callable[[int, int], None]) -> Sightings:
+        disks = pool.disks(self.trying.options.jobs, on_step)
+        found = Sightings(list(disks))
         for name, different in disks.items():
             found.crashes[name] = sum(len(one.crashes) for one in different)
             found.trees[name] = len(different)
@@ -112,9 +113,9 @@ class Search:
         planned = self.trying.planned
         digests: Dict[int, str] = {}
         firsts = {state.same for state in planned.plan.listed}
-        words = [*planned.words, '--states', planned.list_of(firsts)]
-        for number, tree in self.trying.program.trees(words, self.trying.guard.environment):
-            digests[number + planned.plan.first] = digest_of(tree)
+        for request in planned.requests(firsts):
+            trees = self.trying.program.trees(request.words, self.trying.guard.environment)
+            digests.update((own + request.lead, digest_of(tree)) for own, tree in trees)
         found: Dict[TreeAndCount, List[int]] = {}
         for state in planned.plan.listed:
             found.setdefault((digests[state.same], state.says), []).append(state.number)
@@ -193,10 +194,7 @@ def search(trace: bytes, wanted: Set[TreeAndCount]) -> SearchResult:
         if searched >= MOST_STATES or time.monotonic() > deadline:
             return SearchResult(found, searched, False)
         searched += 1
-        tree = {
-            path: Entry(*rights[:2], int(rights[2], 8), None if data is None else bytearray(data))
-            for path, (rights, data) in states.tree(places).items()
-        }
+        tree = entries_of(states.tree(places))
         found |= {(digest_of(tree), states.count_says(places))} & wanted
         if found == wanted:
             break

@@ -61,7 +61,9 @@ class Group:
     rerun is the outcome of its second run, which took so many seconds, kept_part what a crash kept
     of a torn line, swap the
     result of another order of the two lines, and overwrites says whether the kept line overwrites
-    bytes in use. is_covered says whether the advice of larger groups removes all states."""
+    bytes in use. is_covered says whether the advice of larger groups removes all states. under has
+    for each profile those of tried that a crash may leave by its rules, and explained those that
+    lack the lost operation and have the kept one."""
 
     outcome: Outcome
     example: State
@@ -82,6 +84,8 @@ class Group:
     swap: Optional[Totals] = None
     overwrites: bool = False
     is_covered: bool = False
+    under: Dict[str, FrozenSet[Tuple[int, ...]]] = field(default_factory=dict)
+    explained: FrozenSet[Tuple[int, ...]] = frozenset()
 
     @property
     def cause(self) -> str:
@@ -130,6 +134,10 @@ class Group:
         """Adds the states and pairs of a group with the same key."""
         self.states.extend(other.states)
         self.tried |= other.tried
+        self.explained |= other.explained
+        self.under = {
+            name: self.under.get(name, frozenset()) | states for name, states in other.under.items()
+        }
         self.places = sorted({*self.places, *other.places})
         self.is_covered = self.is_covered and other.is_covered
         mine, others = self.advice.tried, other.advice.tried
@@ -239,6 +247,7 @@ class Findings:
         loss = self.losses.get(state.number)
         pair = loss.pair if loss else self.pairs.pair_of(state)
         kept, lost = self.line_at(pair.kept), self.line_at(pair.lost)
+        tried, allowed = self.tried_for(state), self.plan.profiles_of(state)
         return Group(
             self.by_state[state.number],
             state,
@@ -246,9 +255,19 @@ class Findings:
             kept,
             lost,
             [state],
-            self.tried_for(state),
+            tried,
             [(lost.number, kept.number)] if kept and lost else [],
+            under={
+                name: tried if name in allowed else frozenset() for name in self.plan.profiles.names
+            },
+            explained=tried if self.is_explained(state, pair) else frozenset(),
         )
+
+    def is_explained(self, state: State, pair: Pair) -> bool:
+        """Whether a state lacks the operation that was lost, and has the one that was kept."""
+        kept = self.plan.kept[state.number]
+        lacks = pair.lost is not None and not kept >> pair.lost & 1
+        return lacks and pair.kept is not None and bool(kept >> pair.kept & 1)
 
     def tried_for(self, state: State) -> FrozenSet[Tuple[int, ...]]:
         """The state of this window that was tried for a state; none if the window before had it."""

@@ -15,11 +15,14 @@ from crashfs_tools.checker.running.trying import Trying
 from crashfs_tools.checker.states.plan import Plan, State, places_of, set_of
 from crashfs_tools.checker.states.planning import Planner
 
+from .equal_sets import EqualSets, equal_sets
 from .groups import Findings
 from .pairs import Loss, Pair
 
-# So many states are searched in each window, and COMMAND runs so often for each at most.
+# So many states are searched in each window, and COMMAND runs so often for each at most. If all
+# crash states were tried, it isn't run.
 SEARCHED, RUNS = 20, 12
+SEARCHED_OF_ALL = 1_000
 
 # Yields sets of micro-operations, and is sent whether each fails alike; returns the smallest loss.
 Search = Generator[int, bool, Loss]
@@ -42,8 +45,10 @@ class Lines(NamedTuple):
 def find_losses(trying: Trying, planner: Planner, findings: Findings) -> None:
     """Finds the smallest loss of each entry's example whose pair is a guess. Other states that lack
     the same and keep the same get the same pair."""
-    searched = 0
-    while searched < SEARCHED:
+    searched, equal = 0, equal_sets(trying.planned, findings)
+    every = findings.plan.all_states
+    most = SEARCHED_OF_ALL if every is not None and every.are_listed else SEARCHED
+    while searched < most:
         examples = [
             group.example
             for group in findings.groups
@@ -51,19 +56,26 @@ def find_losses(trying: Trying, planner: Planner, findings: Findings) -> None:
         ]
         if not examples:
             return
-        examples = examples[: SEARCHED - searched]
+        examples = examples[: most - searched]
         searched += len(examples)
-        found = Searches(trying, planner, findings).run(examples)
+        found = Searches(trying, planner, findings, equal).run(examples)
         findings.take_losses(found)
 
 
 class Searches:
     """Searches for several states at once: in each turn one set of each is tried."""
 
-    def __init__(self, trying: Trying, planner: Planner, findings: Findings) -> None:
+    def __init__(
+        self,
+        trying: Trying,
+        planner: Planner,
+        findings: Findings,
+        equal: Optional[EqualSets] = None,
+    ) -> None:
         self.trying = trying
         self.planner = planner
         self.findings = findings
+        self.equal = equal
         plan, by_state = findings.plan, findings.by_state
         self.known: Dict[int, Outcome] = {plan.kept[one]: by_state[one] for one in by_state}
 
@@ -89,9 +101,19 @@ class Searches:
     ) -> None:
         """Goes on with each search until it asks for a set that has not been tried."""
         for number in list(wanted):
-            while number in wanted and wanted[number] in self.known:
-                is_alike = self.is_alike(number, self.known[wanted.pop(number)])
+            while number in wanted:
+                outcome = self.outcome(wanted[number])
+                if outcome is None:
+                    break
+                del wanted[number]
+                is_alike = self.is_alike(number, outcome)
                 self.advance(searches[number], is_alike, number, wanted, found)
+
+    def outcome(self, kept: int) -> Optional[Outcome]:
+        """The outcome of a set; None if neither it nor an equal one was tried."""
+        if kept not in self.known and self.equal is not None:
+            return self.equal.outcome(kept)
+        return self.known.get(kept)
 
     @staticmethod
     def advance(

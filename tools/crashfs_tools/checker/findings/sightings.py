@@ -138,6 +138,8 @@ def crash_text(crash: Crash) -> str:
 
 
 def path_text(path: str, entry: Entry) -> str:
+    if entry.link is not None:
+        return f'{path} (a symbolic link to {entry.link})'
     return path if entry.data is None else f'{path} ({len(entry.data):,} bytes)'
 
 

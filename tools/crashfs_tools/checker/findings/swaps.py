@@ -12,6 +12,7 @@ from crashfs_tools.checker.running.trying import Trying
 from crashfs_tools.checker.states.plan import Before, Plan, Planned, Trial, places_of
 from crashfs_tools.checker.states.planning import Planner
 from crashfs_tools.common.command import TEXT, Refused
+from crashfs_tools.common.sparse import PAGE_BYTES, SparseBytes
 from crashfs_tools.common.trace_lines import SYNCS, TraceLine
 
 from .groups import Findings, Group, Totals
@@ -178,4 +179,13 @@ def overwrites(trying: Trying, findings: Findings, group: Group) -> bool:
     before, after = (tree.get(path) for tree in trees)
     if before is None or after is None or before.data is None or after.data is None:
         return False
-    return any(old not in (0, new) for old, new in zip(before.data, after.data))
+    return replaces_bytes(SparseBytes.of(before.data), SparseBytes.of(after.data))
+
+
+def replaces_bytes(before: SparseBytes, after: SparseBytes) -> bool:
+    """Whether some bytes that aren't zeros have others in their place."""
+    for number, page in before.data_pages():
+        new = after.read(number * PAGE_BYTES, PAGE_BYTES)
+        if page != new and any(old not in (0, now) for old, now in zip(page, new)):
+            return True
+    return False

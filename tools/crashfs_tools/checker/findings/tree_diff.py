@@ -7,6 +7,7 @@ from typing import Iterator, Optional, Tuple
 from crashfs_tools.checker.running.runner import GOOD
 from crashfs_tools.checker.running.trying import Trying
 from crashfs_tools.checker.states.plan import State, count
+from crashfs_tools.common import sparse
 from crashfs_tools.common.entry import Entries, Entry
 
 from .groups import Difference, Findings, Group
@@ -49,14 +50,22 @@ def different_lines(failing: Entries, good: Entries) -> Iterator[str]:
             assert present is not None
             where = 'failing' if one else 'good'
             yield f'{path} ({size_text(present)}) is only in the {where} state'
+        elif kind_text(one) != kind_text(other):
+            yield f'{path} is {kind_text(one)}, in the good state {kind_text(other)}'
         elif one.data != other.data:
             yield f'{path} {size_difference(one, other)}{first_difference(one, other)}'
         elif (one.owner, one.group, one.mode) != (other.owner, other.group, other.mode):
             yield f'{path} is {rights_text(one)}, in the good state {rights_text(other)}'
 
 
+def kind_text(entry: Entry) -> str:
+    if entry.link is not None:
+        return f'a symbolic link to {entry.link}'
+    return 'a directory' if entry.is_directory else 'a file'
+
+
 def size_text(entry: Entry) -> str:
-    return 'a directory' if entry.data is None else f'{len(entry.data):,} bytes'
+    return kind_text(entry) if entry.data is None else f'{len(entry.data):,} bytes'
 
 
 def size_difference(one: Entry, other: Entry) -> str:
@@ -80,11 +89,7 @@ def first_difference(one: Entry, other: Entry) -> str:
     """Where the bytes begin to differ, and the bytes there."""
     if one.data is None or other.data is None:
         return ''
-    pairs = zip(one.data, other.data)
-    place = next(
-        (at for at, (left, right) in enumerate(pairs) if left != right),
-        min(len(one.data), len(other.data)),
-    )
+    place = sparse.first_difference(one.data, other.data)
     pieces = [
         bytes_text(bytes(entry[place : place + SHOWN_BYTES])) for entry in (one.data, other.data)
     ]

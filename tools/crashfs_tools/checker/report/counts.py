@@ -5,11 +5,12 @@ from __future__ import annotations
 from collections import Counter
 from dataclasses import dataclass, field
 from typing import Counter as Counts
-from typing import List
+from typing import List, Optional
 
 from crashfs_tools.checker.findings.groups import Findings
 from crashfs_tools.checker.running.results import Head
 from crashfs_tools.checker.running.runner import BAD, GOOD, NO_ANSWER, Outcome
+from crashfs_tools.checker.states.plan import AllStates
 from crashfs_tools.common.printable import printable
 
 # So many words of causes are counted in the first line.
@@ -28,6 +29,8 @@ class StateCounts:
     wanted: int = 0
     tried: int = 0
     all_failing: int = 0
+    every: List[Optional[AllStates]] = field(default_factory=list)
+    profile: str = ''
     results: Counts[str] = field(default_factory=Counter)
     words: Counts[str] = field(default_factory=Counter)
 
@@ -40,6 +43,8 @@ class StateCounts:
             if number in results.outcomes
         ]
         self.windows += 1
+        self.every.append(findings.plan.all_states)
+        self.profile = findings.plan.profiles.wanted
         self.operations = findings.plan.begin + len(findings.plan.operations)
         self.states += len(results.own)
         self.different += len(results.trials)
@@ -72,9 +77,39 @@ class StateCounts:
             return f'{trace}: nothing was tried{stop_text(head)}'
         windows = f' in {self.windows:,} windows' if self.windows > 1 else ''
         return (
-            f'{trace}: {self.operations:,} micro-operations{windows}, {self.states:,} states, '
-            f'{self.different:,} different: {self.verdict(head)}'
+            f'{trace}: {self.operations:,} micro-operations{windows}, {self.shown_states(head)}: '
+            f'{self.verdict(head)}'
         )
+
+    @property
+    def has_every(self) -> bool:
+        """Whether all crash states of each window are listed."""
+        return bool(self.every) and all(one is not None and one.are_listed for one in self.every)
+
+    @property
+    def are_read(self) -> bool:
+        """Whether the second reading found what all crash states are."""
+        return any(one is not None and one.are_read for one in self.every)
+
+    @property
+    def sets(self) -> Optional[int]:
+        """How many sets the rules allow; None if that isn't known."""
+        only = self.every[0] if len(self.every) == 1 else None
+        return only.sets if only is not None else None
+
+    def shown_states(self, head: Head) -> str:
+        """How many states there are."""
+        under = f' under {self.profile}' if self.profile else ''
+        if not self.has_every:
+            return f'{self.states:,} states{under}, {self.different:,} different'
+        all_of = 'all ' if self.is_whole(head) else ''
+        sets = f' ({self.sets:,} set{"" if self.sets == 1 else "s"})' if self.sets else ''
+        states = 'crash states' if self.different > 1 else 'crash state'
+        return f'{all_of}{self.different:,} {states}{under or sets}'
+
+    def is_whole(self, head: Head) -> bool:
+        """Whether all was tried."""
+        return head.shard.parts == 1 and not self.left and not head.has_rest
 
     def verdict(self, head: Head) -> str:
         """How many fail; `none fails` is only said of a whole check."""
@@ -99,12 +134,10 @@ class StateCounts:
             f'{count:,} {printable(word)}' for word, count in self.words.most_common(SHOWN_WORDS)
         )
         fail = f'fail{"s" if self.failing == 1 else ""}'
-        if is_whole:
-            return (
-                f'{self.failing:,} {fail} ({self.all_failing:,} of all {self.states:,} states): '
-                f'{words}'
-            )
-        return f'{self.failing:,}{of_tried} {fail}: {words}'
+        if not self.is_whole(head):
+            return f'{self.failing:,}{of_tried} {fail}: {words}'
+        of_all = f' ({self.all_failing:,} of all {self.states:,} states)'
+        return f'{self.failing:,} {fail}{"" if self.has_every else of_all}: {words}'
 
     def left_text(self, head: Head) -> str:
         rest = f'all states after micro-operation {self.operations - 1:,}' if head.has_rest else ''

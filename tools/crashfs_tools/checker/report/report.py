@@ -7,7 +7,7 @@ import re
 import time
 from dataclasses import replace
 from typing import TYPE_CHECKING, Any
-from typing import Dict, Iterator, List, Optional
+from typing import Dict, Iterable, Iterator, List, Optional
 
 from crashfs_tools.checker.findings.groups import (
     Findings,
@@ -24,6 +24,7 @@ from crashfs_tools.common.printable import printable
 from crashfs_tools.common.trace_lines import TraceLine
 
 from .counts import StateCounts
+from .profiles import profiles_text
 
 if TYPE_CHECKING:
     from crashfs_tools.checker.findings.sightings import Sightings
@@ -42,6 +43,7 @@ SURROGATE = re.compile('[\ud800-\udfff]')
 CAUSE_WIDTH = 52
 NONE_FAILS, SOME_FAIL, NOT_ALL_TRIED = 0, 1, 3
 UNPROVED = 'unproved: a Python program computed these states, not crashfs'
+SETS_UNPROVED = 'unproved: a Python program found which states there are, not crashfs'
 HOW_TO_BUILD = ' (tools/build builds crashfs)'
 # What stopped a check that could not say so itself.
 KILLED = 'a kill'
@@ -159,17 +161,23 @@ class Report:
             lines.append(f'  with {all_syncs} syncs {union.totals.text}')
         if covered:
             lines.append('  with these syncs these entries are gone too:')
+        words = {group.outcome.word for group in shown}
         for group in covered[:SHOWN_GROUPS]:
             states = self.states_text(group)
             cause = cut(printable(group.cause), CAUSE_WIDTH - 2)
             lines.append(f'    {cause:<{CAUSE_WIDTH - 2}} {states}')
+            if group.outcome.word not in words:
+                lines += folded(self.sentences(group), '      ')
+                words.add(group.outcome.word)
         if len(covered) > SHOWN_GROUPS:
             lines.append(f'    and {len(covered) - SHOWN_GROUPS:,} more')
         return lines
 
     def first_lines(self) -> List[str]:
         how = HOW_TO_BUILD if can_be_built() else ''
-        return [UNPROVED + how, self.summary()] if self.head.unproved else [self.summary()]
+        if self.head.unproved:
+            return [UNPROVED + how, self.summary()]
+        return [SETS_UNPROVED, self.summary()] if self.counts.are_read else [self.summary()]
 
     def cut_off_lines(self) -> List[str]:
         """Lines that were still pending where their last window ended."""
@@ -221,24 +229,22 @@ class Report:
 
     def group_lines(self, group: Group, second: Optional[SecondCrash] = None) -> List[str]:
         """The lines of an entry. second says where the second crash was, if there was one."""
-        from textwrap import wrap
-
         states = self.states_text(group, f'{second.state}/' if second else '')
         cause = cut(printable(group.cause), max(CAUSE_WIDTH, WIDTH - len(states) - 3))
         lines = [f'  {cause:<{CAUSE_WIDTH}} {states}']
         details = self.details(group)
         if second is not None:
             details = [f'state {second.state}, then a crash {second.place}', *group.advice.lines()]
-        for line in details:
-            lines += wrap(
-                printable(line),
-                WIDTH,
-                initial_indent='    ',
-                subsequent_indent='      ',
-                break_long_words=False,
-                break_on_hyphens=False,
-            )
-        return lines
+        return lines + folded(details, '    ')
+
+    def sentences(self, group: Group) -> List[str]:
+        """Which lines of the trace an entry is about, without what to do."""
+        return [line.rstrip(':') for line in [*group.advice.text, *self.needed(group)]]
+
+    def needed(self, group: Group) -> List[str]:
+        """What must be lost too."""
+        lines = ', '.join(map(self.shown_line, group.needed_lines))
+        return [f'it fails only if this is lost too: {lines}'] if lines else []
 
     @staticmethod
     def states_text(group: Group, first: str = '') -> str:
@@ -254,9 +260,12 @@ class Report:
         lines += group.advice.lines()
         for sync in group.other_syncs[:SHOWN_LINES] if group.advice.syncs else []:
             lines.append(f'line {sync.number} is {sync.text}, which is not enough')
-        if group.needed_lines:
-            needed = ', '.join(map(self.shown_line, group.needed_lines))
-            lines.append(f'it fails only if this is lost too: {needed}')
+        lines += self.needed(group)
+        if 0 < len(group.explained) < group.count:
+            lines.append(
+                f'{len(group.explained):,} of these states lack the first of the two lines and '
+                'have the second'
+            )
         named = {group.lost.number if group.lost else 0, *group.needed_lines}
         lost = [number for number in group.lost_lines if number not in named]
         if lost and not group.is_span:
@@ -264,6 +273,8 @@ class Report:
             more = len(lost) - SHOWN_LINES
             also = f' and {number_of(more, "more line")}' if more > 0 else ''
             lines.append(f'state {group.example.number} also lacks {shown}{also}')
+        if group.under:
+            lines.append(profiles_text(group, self.counts.has_every))
         if self.sightings is not None:
             lines.append(self.sightings.sentence([state.number for state in group.states]))
         return lines
@@ -313,6 +324,8 @@ class Report:
             'cause': group.cause,
             'states': [state.number for state in group.states],
             'different': group.count,
+            'under': {name: len(states) for name, states in group.under.items()},
+            'explained': len(group.explained),
             'covered': group.is_covered,
             'example': group.example.number,
             'lines': group.places,
@@ -327,6 +340,24 @@ class Report:
     def shown_line(self, number: int) -> str:
         line = self.head.lines.get(number, TraceLine(number, ''))
         return f'line {number} ({line.text})'
+
+
+def folded(lines: Iterable[str], indent: str) -> List[str]:
+    """Lines, folded where they are too long."""
+    from textwrap import wrap
+
+    return [
+        part
+        for line in lines
+        for part in wrap(
+            printable(line),
+            WIDTH,
+            initial_indent=indent,
+            subsequent_indent=f'{indent}  ',
+            break_long_words=False,
+            break_on_hyphens=False,
+        )
+    ]
 
 
 def packed(text: str) -> bytes:

@@ -7,7 +7,14 @@ import json
 from typing import Any, Callable, Dict, List, Tuple, TypeVar
 
 from crashfs_tools.checker.options import Shard
-from crashfs_tools.checker.states.plan import MicroOperation, Needs, Plan, State
+from crashfs_tools.checker.states.plan import (
+    AllStates,
+    MicroOperation,
+    Needs,
+    Plan,
+    SetProfiles,
+    State,
+)
 from crashfs_tools.common.command import Refused
 from crashfs_tools.common.trace_lines import TraceLine
 
@@ -86,7 +93,27 @@ def plan_of(fields: Dict[str, Any]) -> Plan:
         not 0 <= mask < 2 << place for place, mask in enumerate(masks)
     ):
         raise ValueError('needs are of micro-operations, and of earlier ones')
-    return Plan(operations, listed, Needs(masks), first)
+    known = fields.get('all_states')
+    all_states = None if known is None else all_states_of(known)
+    profiles = profiles_of(fields.get('profiles', [[], [], '']), len(listed))
+    return Plan(operations, listed, Needs(masks), first, all_states, profiles)
+
+
+def profiles_of(value: Any, count: int) -> SetProfiles:
+    """The profiles of so many states."""
+    names, of_sets, wanted = row(value, items, items, text)
+    names = tuple(map(text, names))
+    allowed = tuple(integer(one, (1 << len(names)) - 1) for one in of_sets)
+    if len(allowed) not in (0, count) or wanted not in ('', *names):
+        raise ValueError('no profiles of the states')
+    return SetProfiles(names, allowed, wanted)
+
+
+def all_states_of(value: Any) -> AllStates:
+    sets, are_listed, are_read = row(value, lambda one: one, is_true, is_true)
+    if sets is not None and (type(sets) is not int or sets < 0):
+        raise ValueError('no number')
+    return AllStates(sets, are_listed, are_read)
 
 
 def state(value: Any, number: int, count: int) -> State:

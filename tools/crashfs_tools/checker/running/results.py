@@ -99,6 +99,8 @@ class Results:
     def fields(self) -> Dict[str, Any]:
         return {
             'first': self.plan.first,
+            'all_states': self.plan.all_states and list(self.plan.all_states),
+            'profiles': list(self.plan.profiles),
             'outcomes': {str(state): list(one) for state, one in sorted(self.outcomes.items())},
             'reruns': {str(state): list(one) for state, one in sorted(self.reruns.items())},
             'known': {str(state): other for state, other in self.known.items()},

@@ -75,16 +75,16 @@ class Trying:
         return Mounts(self.options.serve, uname, self.guard.directory, self.guard.environment)
 
     def tree(self, number: int) -> Entries:
-        words = [*self.planned.words, '--state', str(self.planned.local(number))]
-        return self.program.tree_of(words, self.guard.environment)
+        return self.trees([number])[0]
 
     def trees(self, numbers: Sequence[int]) -> List[Entries]:
-        """The trees of these states, by one start of the program."""
-        words = [*self.planned.words, '--states', self.planned.list_of(set(numbers))]
-        found = dict(self.program.trees(words, self.guard.environment))
-        for tree in found.values():
-            tree.pop('/', None)
-        return [found[self.planned.local(number)] for number in numbers]
+        """The trees of these states, without their roots."""
+        found = {}
+        for request in self.planned.requests(numbers):
+            for own, tree in self.program.trees(request.words, self.guard.environment):
+                tree.pop('/', None)
+                found[own + request.lead] = tree
+        return [found[number] for number in numbers]
 
     def try_one(self, state: State) -> Outcome:
         found: Dict[int, Outcome] = {}

@@ -88,6 +88,7 @@ class Workers:
         self.jobs = jobs
         self.on_outcome = on_outcome
         self.fail_fast = fail_fast
+        self.has_failed = False
         self.ending = False
         self.workers: List[Worker] = []
         self.life, self.alive = os.pipe()
@@ -173,8 +174,12 @@ class Workers:
         if 'state' not in said:
             raise as_fault(said)
         outcome = Outcome(*said['outcome'])
-        self.on_outcome(said['state'], outcome)
-        self.ending = self.ending or self.fail_fast and outcome.result == BAD
+        is_last = self.fail_fast and outcome.result == BAD
+        # Others may find a failing state before they hear of the first one.
+        if not (is_last and self.has_failed):
+            self.on_outcome(said['state'], outcome)
+        self.has_failed = self.has_failed or is_last
+        self.ending = self.ending or is_last
 
     def reap(self, worker: Worker) -> None:
         status = os.waitstatus_to_exitcode(os.waitpid(worker.process, 0)[1])

@@ -21,7 +21,8 @@ class KeptLayout(Archive):
         self, program: Crashfs, planned: Planned, folder: str, environment: Dict[str, str]
     ) -> None:
         super().__init__(program, planned, folder, environment)
-        with program.archive([*planned.words, '--state', '0'], environment) as members:
+        words = [*planned.parts[0].words, '--state', '0']
+        with program.archive(words, environment) as members:
             self.start: Entries = dict(members)
         self.kept: Optional[KeptTree] = None
 
@@ -42,11 +43,12 @@ class KeptLayout(Archive):
 
     def trees(self, wanted: Set[int]) -> Iterator[Tuple[int, Entries]]:
         left = set(wanted)
-        words = [*self.planned.words, '--states', self.planned.list_of(wanted), '--changes']
-        with self.program.archive(words, self.environment) as members:
-            for changes in read_changes(members):
-                number = changes.number + self.planned.plan.first
-                left.discard(number)
-                yield number, changes.applied(self.start)
+        for request in self.planned.requests(wanted):
+            words = [*request.words, '--changes']
+            with self.program.archive(words, self.environment) as members:
+                for changes in read_changes(members):
+                    number = changes.number + request.lead
+                    left.discard(number)
+                    yield number, changes.applied(self.start)
         if left:
             raise ProgramFault(0, f'crashfs tar wrote no state {min(left)}'.encode())

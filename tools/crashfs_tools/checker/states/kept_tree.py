@@ -12,13 +12,14 @@ from __future__ import annotations
 import os
 import stat
 import time
-from typing import Dict, List, Mapping, NamedTuple, Optional, Set, Tuple, Union
+from typing import Dict, Iterator, List, Mapping, NamedTuple, Optional, Set, Tuple, Union
 
 from crashfs_tools.common.entry import Entry
+from crashfs_tools.common.file_bytes import file_bytes
 from crashfs_tools.common.mount_table import MountTable
-from crashfs_tools.common.removal import FOLDER, LEFT, remove_tree
+from crashfs_tools.common.removal import FOLDER, LEFT, remove_tree, set_folder_mode
 
-from .layout import FILLED_MODE, NEW_FILE, unused, write_all
+from .layout import FILLED_MODE, NEW_FILE, Bytes, make_links, unused, write_all
 from .rewriting import rewrite
 
 # File systems that change a file's times with the first store through a new mapping.
@@ -103,6 +104,8 @@ class KeptTree:
                 for path, one in tree.items():
                     if path not in self.there:
                         self.put(at, path, one)
+                # Until now no symbolic link is there: nothing was made or changed through one.
+                make_links(links_of(tree), at)
                 self.set_modes(at, tree)
             finally:
                 os.close(at)
@@ -110,7 +113,8 @@ class KeptTree:
             os.umask(umask)
 
     def clear(self, at: int, path: str, tree: Mapping[str, Entry]) -> None:
-        """Removes what isn't in the tree, or isn't as it was, below a directory."""
+        """Removes what isn't in the tree, or isn't as it was, below a directory; and every symbolic
+        link."""
         if attributes_of(at) != self.attributes:
             raise Unchangeable
         with os.scandir(at) as entries:
@@ -127,7 +131,7 @@ class KeptTree:
                     self.there.add(name)
                 else:
                     os.unlink(entry.name, dir_fd=at)
-            elif wanted is None or wanted.data is not None:
+            elif wanted is None or not wanted.is_directory:
                 if not remove_tree(entry.name, at, self.directory + LEFT):
                     raise Unchangeable
             else:
@@ -148,7 +152,7 @@ class KeptTree:
         """Gives a directory the rights that changes need."""
         mode = stat.S_IMODE(status.st_mode)
         if mode & FILLED_MODE != FILLED_MODE:
-            os.chmod(name, FILLED_MODE, dir_fd=at)
+            set_folder_mode(name, FILLED_MODE, at)
             mode = FILLED_MODE
         self.modes[path] = mode
 
@@ -179,18 +183,21 @@ class KeptTree:
             file = os.open(path.rpartition('/')[2], CHANGED_FILE, dir_fd=at)
         except OSError:
             return False
-        with open(file, 'r+b', buffering=0) as stream:
+        try:
             if attributes_of(file) != laid.attributes:
                 return False
-            before = laid.entry.data if self.is_as_laid(laid, status) else stream.read()
+            before = laid.entry.data if self.is_as_laid(laid, status) else file_bytes(file)
             rewrite(file, before or b'', wanted.data or b'')
             self.files[path] = Laid(wanted, signature_of(os.fstat(file)), laid.attributes)
+        finally:
+            os.close(file)
         return True
 
     def put(self, at: int, path: str, one: Entry) -> None:
         if one.data is None:
-            os.mkdir(path, FILLED_MODE, dir_fd=at)
-            self.modes[path] = FILLED_MODE
+            if one.is_directory:
+                os.mkdir(path, FILLED_MODE, dir_fd=at)
+                self.modes[path] = FILLED_MODE
             return
         file = os.open(path, NEW_FILE, one.mode, dir_fd=at)
         try:
@@ -204,7 +211,14 @@ class KeptTree:
         """Inner directories before outer ones: modes may forbid what is done below."""
         changed = [path for path, mode in self.modes.items() if tree[path].mode != mode]
         for path in sorted(changed, reverse=True):
-            os.chmod(path or '.', tree[path].mode, dir_fd=at)
+            set_folder_mode(path or '.', tree[path].mode, at)
+
+
+def links_of(tree: Mapping[str, Entry]) -> Iterator[Tuple[str, str]]:
+    """The symbolic links with their targets."""
+    for path, one in tree.items():
+        if one.link is not None:
+            yield path, one.link
 
 
 def is_large(entry: Entry) -> bool:
@@ -224,10 +238,12 @@ def signature_of(status: os.stat_result) -> Signature:
     )
 
 
-def bytes_of(at: int, name: str) -> bytes:
+def bytes_of(at: int, name: str) -> Bytes:
     file = os.open(name, os.O_RDONLY | os.O_NOFOLLOW | os.O_CLOEXEC, dir_fd=at)
-    with open(file, 'rb', buffering=0) as stream:
-        return stream.read()
+    try:
+        return file_bytes(file)
+    finally:
+        os.close(file)
 
 
 def attributes_of(directory: Union[str, int]) -> List[str]:

@@ -6,19 +6,21 @@ import os
 from abc import ABC, abstractmethod
 from contextlib import contextmanager
 from itertools import groupby
-from typing import ContextManager, Dict, Iterable, Iterator, List, Set, Tuple
+from typing import ContextManager, Dict, Iterable, Iterator, List, Set, Tuple, Union
 
 from crashfs_tools.common.archive import Member
 from crashfs_tools.common.entry import Entry
-from crashfs_tools.common.removal import remove_tree
+from crashfs_tools.common.removal import FOLDER, remove_tree, set_folder_mode
 from crashfs_tools.common.program import Crashfs, ProgramFault, top_of
+from crashfs_tools.common.sparse import SparseBytes
 
 from .plan import Planned
 from .rewriting import PIECE_BYTES, has_bytes, write_at
 
-NEW_FILE = os.O_WRONLY | os.O_CREAT | os.O_EXCL | os.O_CLOEXEC
+NEW_FILE = os.O_WRONLY | os.O_CREAT | os.O_EXCL | os.O_NOFOLLOW | os.O_CLOEXEC
 # A directory's mode while it is filled.
 FILLED_MODE = 0o700
+Bytes = Union[bytes, bytearray, SparseBytes]
 
 
 class Layout(ABC):
@@ -51,20 +53,23 @@ class Archive(Layout):
         remove_tree(directory)
 
     def states(self, wanted: Set[int]) -> Iterator[Tuple[int, str]]:
-        """One archive is read, as fast as the states are taken: each has its tree already."""
-        words = [*self.planned.words, '--states', self.planned.list_of(wanted)]
+        """An archive is read as fast as the states are taken: each has its tree already."""
         left = set(wanted)
-        with self.program.archive(words, self.environment) as members:
-            for top, tree in groupby(members, top_of):
-                number = int(top) + self.planned.plan.first
-                if number not in left:
-                    continue
-                left.remove(number)
-                directory = unused(os.path.join(self.folder, str(number)))
-                lay_out(directory, ((path[len(top) + 1 :], entry) for path, entry in tree))
-                yield number, directory
+        for request in self.planned.requests(wanted):
+            with self.program.archive(request.words, self.environment) as members:
+                for top, tree in groupby(members, top_of):
+                    number = int(top) + request.lead
+                    if number in left:
+                        left.remove(number)
+                        yield number, self.directory_of(number, top, tree)
         if left:
             raise ProgramFault(0, f'crashfs tar wrote no state {min(left)}'.encode())
+
+    def directory_of(self, number: int, top: str, tree: Iterable[Member]) -> str:
+        """Lays out a state, whose paths in the archive begin with a name."""
+        directory = unused(os.path.join(self.folder, str(number)))
+        lay_out(directory, ((path[len(top) + 1 :], entry) for path, entry in tree))
+        return directory
 
 
 def unused(path: str) -> str:
@@ -73,20 +78,25 @@ def unused(path: str) -> str:
 
 
 def lay_out(directory: str, tree: Iterable[Member]) -> None:
-    """Makes a directory that has the tree. Directories get their modes last, and inner ones before
-    outer ones, since modes may forbid what is done below."""
+    """Makes a directory that has the tree. Symbolic links are made when all else is there, so that
+    nothing is made through one. Directories get their modes last, and inner ones before outer ones,
+    since modes may forbid what is done below."""
     os.mkdir(directory, FILLED_MODE)
     umask = os.umask(0)
     try:
-        at = os.open(directory, os.O_RDONLY | os.O_DIRECTORY)
+        at = os.open(directory, FOLDER)
         try:
             modes: List[Tuple[str, int]] = []
+            links: List[Tuple[str, str]] = []
             for path, entry in tree:
-                if entry.is_directory:
+                if entry.link is not None:
+                    links.append((path, entry.link))
+                elif entry.is_directory:
                     modes.append((path, entry.mode))
                 put(path, entry, at)
+            make_links(links, at)
             for path, mode in reversed(modes):
-                os.chmod(path or '.', mode, dir_fd=at)
+                set_folder_mode(path or '.', mode, at)
         finally:
             os.close(at)
     finally:
@@ -94,13 +104,21 @@ def lay_out(directory: str, tree: Iterable[Member]) -> None:
 
 
 def put(path: str, entry: Entry, at: int) -> None:
+    """Makes a file or directory."""
     if entry.data is not None:
         write_file(path, entry.mode, entry.data, at)
-    elif path:
+    elif path and entry.is_directory:
         os.mkdir(path, FILLED_MODE, dir_fd=at)
 
 
-def write_file(path: str, mode: int, data: bytes, at: int) -> None:
+def make_links(links: Iterable[Tuple[str, str]], at: int) -> None:
+    """Makes symbolic links, each path with its target: inner paths first, since none may be made
+    through another."""
+    for path, link in sorted(links, reverse=True):
+        os.symlink(os.fsencode(link), path, dir_fd=at)
+
+
+def write_file(path: str, mode: int, data: Bytes, at: int) -> None:
     file = os.open(path, NEW_FILE, mode, dir_fd=at)
     try:
         write_all(file, data)
@@ -108,13 +126,17 @@ def write_file(path: str, mode: int, data: bytes, at: int) -> None:
         os.close(file)
 
 
-def write_all(file: int, data: bytes) -> None:
+def write_all(file: int, data: Bytes) -> None:
     """Writes a new file's bytes; large runs of zeros become holes, as of a file that was grown."""
-    if len(data) <= PIECE_BYTES:
+    if isinstance(data, SparseBytes):
+        for place, run in data.runs():
+            write_at(file, place, run)
+    elif len(data) <= PIECE_BYTES:
         write_at(file, 0, data)
         return
-    for place in range(0, len(data), PIECE_BYTES):
-        piece = data[place : place + PIECE_BYTES]
-        if has_bytes(piece):
-            write_at(file, place, piece)
+    else:
+        for place in range(0, len(data), PIECE_BYTES):
+            piece = data[place : place + PIECE_BYTES]
+            if has_bytes(piece):
+                write_at(file, place, piece)
     os.ftruncate(file, len(data))

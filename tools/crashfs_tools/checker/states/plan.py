@@ -4,10 +4,10 @@ from __future__ import annotations
 
 import json
 from dataclasses import dataclass
-from typing import Any, Dict, Iterable, Iterator, List, NamedTuple, Sequence, Tuple
+from typing import Any, Dict, Iterable, Iterator, List, NamedTuple, Optional, Sequence, Tuple
 
 # The fields of a micro-operation that its text has after its kind and path, in this order.
-DETAILS = ('to', 'block', 'at', 'count', 'length', 'node', 'mode', 'owner', 'group')
+DETAILS = ('to', 'block', 'at', 'count', 'length', 'node', 'target', 'mode', 'owner', 'group')
 
 
 class PlanError(Exception):
@@ -68,6 +68,16 @@ class Before(NamedTuple):
         return {own[line]: value for line, value in values.items() if line in own}
 
 
+class AllStates(NamedTuple):
+    """What is known of all crash states of a trace: how many sets its rules allow, None if they are
+    too many to be counted; whether the plan has each different state; whether the second reading
+    found the sets."""
+
+    sets: Optional[int]
+    are_listed: bool
+    are_read: bool = False
+
+
 class Needs:
     """Which micro-operations each one needs, by any chain, itself among them. Sets of places are
     numbers whose bits are the places."""
@@ -87,6 +97,11 @@ class Needs:
             )
         return self.needed_by[place]
 
+    @property
+    def holes(self) -> int:
+        """How many holes a plan has."""
+        return sum(place + 1 - count(mask) for place, mask in enumerate(self.masks))
+
     def has_hole(self, kept: int) -> bool:
         """Whether a set is a prefix, or one without a micro-operation and all that need it."""
         lacking = (1 << kept.bit_length()) - 1 & ~kept
@@ -98,20 +113,63 @@ class Needs:
         return all(self.masks[place] & ~kept == 0 for place in places_of(kept))
 
 
+class SetProfiles(NamedTuple):
+    """The names of the profiles that a trace has, and of each listed state, in the order of their
+    numbers, those under whose rules its set is allowed: bits of a number. If one is wanted, only
+    states that it allows are tried."""
+
+    names: Tuple[str, ...] = ()
+    of_sets: Tuple[int, ...] = ()
+    wanted: str = ''
+
+
 class Plan:
     """The micro-operations, the states of crashes, and what each state keeps. first is the number
-    of the first state."""
+    of the first state. all_states is None if only families of states were asked for."""
 
     def __init__(
-        self, operations: List[MicroOperation], listed: List[State], needs: Needs, first: int = 0
+        self,
+        operations: List[MicroOperation],
+        listed: List[State],
+        needs: Needs,
+        first: int = 0,
+        all_states: Optional[AllStates] = None,
+        profiles: SetProfiles = SetProfiles(),
     ) -> None:
+        self.all_states = all_states
+        self.profiles = profiles
         self.operations = operations
         self.listed = listed
         self.needs = needs
         self.first = first
         self.says = set_of(at for at, one in enumerate(operations) if one.kind == 'say')
         self.kept = {state.number: self.kept_by(state) for state in listed}
-        self.states = [state for state in listed if self.may_be(self.kept[state.number])]
+        self.under = self.profiles_of_trials()
+        self.states = [
+            state
+            for state in listed
+            if self.may_be(self.kept[state.number])
+            and profiles.wanted in ('', *self.profiles_of(state))
+        ]
+
+    def profiles_of_trials(self) -> Dict[Trial, int]:
+        """A trial is allowed under a profile if one of the sets that leave it is."""
+        found: Dict[Trial, int] = {}
+        for state, profiles in zip(self.listed, self.profiles.of_sets):
+            trial = Trial(state.same, state.says)
+            found[trial] = found.get(trial, 0) | profiles
+        return found
+
+    def profiles_of(self, state: State) -> List[str]:
+        """The profiles under whose rules a crash may leave what a state leaves."""
+        bits = self.under.get(Trial(state.same, state.says), 0)
+        return [name for place, name in enumerate(self.profiles.names) if bits >> place & 1]
+
+    def with_states(
+        self, listed: List[State], all_states: Optional[AllStates], profiles: SetProfiles
+    ) -> Plan:
+        """The same plan with these states, and what is known of them."""
+        return Plan(self.operations, listed, self.needs, self.first, all_states, profiles)
 
     @property
     def begin(self) -> int:
@@ -149,13 +207,32 @@ class Plan:
         return (1 << kept.bit_length()) - 1 & ~kept
 
 
+class Part(NamedTuple):
+    """The states of a plan from one number to before another: the options that name them for the
+    program, which gives the first of them the number `own`."""
+
+    words: List[str]
+    first: int
+    end: int
+    own: int
+
+
+class Request(NamedTuple):
+    """States that the program gives at once: the options that name them. The program's numbers are
+    those of the plan without `lead`."""
+
+    words: List[str]
+    lead: int
+
+
 @dataclass
 class Planned:
-    """A trace that the program takes: the options that name its plan, and the plan. before says
-    what of the session comes before it, and is_last whether nothing comes after it."""
+    """A trace that the program takes: the options that name its plan, in one part or several, and
+    the plan. Each part has the prefixes. before says what of the session comes before it, and
+    is_last whether nothing comes after it."""
 
     trace: str
-    words: List[str]
+    parts: List[Part]
     plan: Plan
     before: Before = Before()
     is_last: bool = True
@@ -167,21 +244,31 @@ class Planned:
             return ''
         return f'micro-operations {begin:,} to {begin + len(self.plan.operations) - 1:,}: '
 
-    def local(self, number: int) -> int:
-        """The program's number of a state."""
-        return number - self.plan.first
+    def files(self) -> List[str]:
+        """The files that it is made from: the trace, and the picks of its parts."""
+        pairs = (pair for part in self.parts for pair in zip(part.words, part.words[1:]))
+        return [self.trace, *(path for option, path in pairs if option == '--picks')]
 
-    def list_of(self, numbers: Iterable[int]) -> str:
-        """States as `tar --states` takes them: numbers and ranges, ascending."""
-        ranges: List[List[int]] = []
-        for number in sorted(map(self.local, numbers)):
-            if ranges and ranges[-1][1] == number - 1:
-                ranges[-1][1] = number
-            else:
-                ranges.append([number, number])
-        return ','.join(
-            str(first) if first == last else f'{first}-{last}' for first, last in ranges
-        )
+    def requests(self, numbers: Iterable[int]) -> Iterator[Request]:
+        """The states of these numbers, for `tar`."""
+        wanted = set(numbers)
+        for part in self.parts:
+            own = {one for one in wanted if part.first <= one < part.end}
+            if own:
+                lead = part.first - part.own
+                listed = list_of(one - lead for one in own)
+                yield Request([*part.words, '--states', listed], lead)
+
+
+def list_of(numbers: Iterable[int]) -> str:
+    """Numbers as `tar --states` takes them: one by one and in ranges, ascending."""
+    ranges: List[List[int]] = []
+    for number in sorted(numbers):
+        if ranges and ranges[-1][1] == number - 1:
+            ranges[-1][1] = number
+        else:
+            ranges.append([number, number])
+    return ','.join(str(first) if first == last else f'{first}-{last}' for first, last in ranges)
 
 
 def set_of(places: Iterable[int]) -> int:
@@ -200,22 +287,58 @@ def places_of(mask: int) -> Iterator[int]:
         mask ^= lowest
 
 
-def read_plan(listed: str, before: Before = Before()) -> Plan:
-    """The plan that the program printed, with numbers, places and lines of the whole session."""
-    operations: List[MicroOperation] = []
-    states: List[State] = []
-    masks: List[int] = []
-    for line in listed.rstrip('\n').split('\n'):
-        try:
-            fields = json.loads(line)
-            if 'op' in fields:
-                operations.append(operation_of(fields, before))
-                masks.append(set_of(fields['needs']))
-            else:
-                states.append(state_of(fields, before))
-        except (ValueError, KeyError, TypeError, AttributeError) as error:
-            raise PlanError(f'crashfs list printed: {line}') from error
-    return Plan(operations, states, Needs(masks), before.states)
+def read_plan(listed: str, before: Before = Before(), more: Sequence[str] = ()) -> Plan:
+    """The plan that the program printed, with numbers, places and lines of the whole session. more
+    has what it printed of further parts, of which the picks are taken."""
+    read = Listed(before)
+    for part in (listed, *more):
+        read.begin()
+        for line in part.rstrip('\n').split('\n'):
+            try:
+                read.take(json.loads(line))
+            except (ValueError, KeyError, TypeError, AttributeError) as error:
+                raise PlanError(f'crashfs list printed: {line}') from error
+    needs = Needs(read.masks)
+    return Plan(read.operations, read.states, needs, before.states, profiles=read.profiles())
+
+
+class Listed:
+    """What `crashfs list` printed of the parts of a plan."""
+
+    def __init__(self, before: Before) -> None:
+        self.before = before
+        self.operations: List[MicroOperation] = []
+        self.states: List[State] = []
+        self.masks: List[int] = []
+        self.allowed: List[List[str]] = []
+
+    def profiles(self) -> SetProfiles:
+        """What it printed of profiles. The first state, of which nothing is kept, has all."""
+        names = tuple(self.allowed[0]) if self.allowed else ()
+        return SetProfiles(names, tuple(set_of(map(names.index, one)) for one in self.allowed))
+
+    def begin(self) -> None:
+        """Begins the next part: the program numbers its picks from the same number on."""
+        self.is_first = not self.states
+        self.lead = 0 if self.is_first else len(self.states) - len(self.operations) - 1
+
+    def take(self, fields: Dict[str, Any]) -> None:
+        if 'op' not in fields:
+            self.take_state(fields)
+        elif self.is_first:
+            self.operations.append(operation_of(fields, self.before))
+            self.masks.append(set_of(fields['needs']))
+
+    def take_state(self, fields: Dict[str, Any]) -> None:
+        if not self.is_first:
+            if fields['kind'] != 'pick':
+                return
+            fields['state'] += self.lead
+            # A prefix has the same number in each part.
+            fields['same'] += self.lead if fields['same'] > len(self.operations) else 0
+        self.states.append(state_of(fields, self.before))
+        if 'profiles' in fields:
+            self.allowed.append(fields['profiles'])
 
 
 def operation_of(fields: Dict[str, Any], before: Before) -> MicroOperation:

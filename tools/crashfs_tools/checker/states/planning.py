@@ -4,14 +4,30 @@ from __future__ import annotations
 
 import json
 import os
-from typing import Iterable, Iterator, List
+from functools import reduce
+from operator import and_
+from typing import Iterable, List, Optional, Sequence
 
 from crashfs_tools.checker.options import Options
+from crashfs_tools.common import limits
 from crashfs_tools.common.command import Refused
 from crashfs_tools.common.guard import Guard
 from crashfs_tools.common.program import Crashfs, ProgramFault, is_too_large
 
-from .plan import Before, Needs, Plan, Planned, places_of, read_plan, set_of
+from .all_sets import AllSets, ReadSets, all_sets
+from .joining import joined
+from .plan import (
+    AllStates,
+    Before,
+    Needs,
+    Part,
+    Plan,
+    Planned,
+    SetProfiles,
+    places_of,
+    read_plan,
+    set_of,
+)
 
 
 class TooLarge(Refused):
@@ -19,7 +35,7 @@ class TooLarge(Refused):
 
 
 class Planner:
-    """One program, and the families of states that are asked for."""
+    """One program, and the states that are asked for."""
 
     def __init__(self, options: Options, program: Crashfs, guard: Guard) -> None:
         self.options = options
@@ -27,46 +43,85 @@ class Planner:
         self.guard = guard
 
     def plan(self, trace: str, before: Before = Before()) -> Planned:
-        words = ['--trace', trace, *self.families(trace)]
-        return Planned(
-            trace, words, read_plan(self.ask(['list', *words, '--json']), before), before
-        )
+        """The families that are asked for; and all crash states, if they are asked for and not too
+        many."""
+        options = self.options
+        if not (options.has_lost or options.has_files or options.has_every):
+            return self.planned(trace, before, [])
+        needs = self.prefixes(trace).needs
+        families = self.families(trace, needs)
+        if not options.has_every:
+            return self.planned(trace, before, [families])
+        read = ReadSets(trace)
+        sets = all_sets(self.program, self.guard.environment, read)
+        found = every_set(sets, read, options.most_states)
+        more = [one for one in found or [] if not self.is_listed(needs, one)]
+        picks = list(dict.fromkeys([*families, *more]))
+        planned = self.planned(trace, before, in_parts(picks, self.room(needs), len(needs.masks)))
+        every = AllStates(sets.count(), found is not None, sets.is_read)
+        planned.plan = self.with_profiles(planned.plan, read, every)
+        return planned
+
+    def with_profiles(self, plan: Plan, read: ReadSets, every: AllStates) -> Plan:
+        """The plan with the profiles of its sets: by the program if it has printed them."""
+        names, of_sets = tuple(read.orders), plan.profiles.of_sets
+        if not of_sets:
+            of_sets = tuple(read.profiles_of(plan.kept[one.number] for one in plan.listed))
+        wanted = self.options.profile or ''
+        if wanted not in ('', *names):
+            known = ', '.join(names)
+            raise Refused(f'--in {wanted}: the profiles of this trace are {known}')
+        return plan.with_states(plan.listed, every, SetProfiles(names, of_sets, wanted))
+
+    def room(self, needs: Needs) -> int:
+        """How many picks the program takes besides the prefixes, and besides the holes if these are
+        listed."""
+        return limits.STATES - 1 - len(needs.masks) - (0 if self.options.prefixes else needs.holes)
+
+    def planned(self, trace: str, before: Before, picks: Sequence[Sequence[int]]) -> Planned:
+        """A plan in as many parts as there are lists of picks; the first has the holes too."""
+        words = ['--trace', trace, *([] if self.options.prefixes else ['--holes'])]
+        ways = [words] if not any(picks) else []
+        for number, sets in enumerate(picks if any(picks) else []):
+            path = self.picks_path(trace, number)
+            write_sets(path, sets)
+            ways.append([*(words if number == 0 else ['--trace', trace]), '--picks', path])
+        listed = [self.ask(['list', *way, '--json']) for way in ways]
+        plan = read_plan(listed[0], before, listed[1:])
+        if len(ways) > 1:
+            plan = plan.with_states(joined(trace, plan), None, plan.profiles)
+        return Planned(trace, parts_of(plan, ways, [len(sets) for sets in picks]), plan, before)
 
     def plan_of_sets(self, planned: Planned, sets: Iterable[int]) -> Planned:
         """A plan of the same trace that has the prefixes and these sets of micro-operations."""
         path = os.path.join(self.guard.directory, os.path.basename(planned.trace) + '.sets')
-        with open(path, 'w', encoding='ascii') as file:
-            file.writelines(f'{json.dumps(list(places_of(one)))}\n' for one in dict.fromkeys(sets))
+        write_sets(path, dict.fromkeys(sets))
         words = ['--trace', planned.trace, '--picks', path]
-        listed = self.ask(['list', *words, '--json'])
-        return Planned(planned.trace, words, read_plan(listed, planned.before), planned.before)
+        plan = read_plan(self.ask(['list', *words, '--json']), planned.before)
+        return Planned(planned.trace, parts_of(plan, [words], []), plan, planned.before)
 
     def prefixes(self, trace: str) -> Plan:
         """The plan of the prefixes only: it has no limit but that of the micro-operations."""
         return read_plan(self.ask(['list', '--trace', trace, '--json']))
 
-    def families(self, trace: str) -> List[str]:
-        """The options of the families; a set of more than one of them is in the plan once."""
-        words = [] if self.options.prefixes else ['--holes']
-        if not (self.options.has_lost or self.options.has_files):
-            return words
-        needs = self.prefixes(trace).needs
-        lines = list(lost_family(needs)) if self.options.has_lost else []
-        lines = lines + (self.files_family(trace) if self.options.has_files else [])
-        if not self.options.prefixes and self.options.serve is None:
-            lines = [line for line in lines if not needs.has_hole(set_of(json.loads(line)))]
-        if not lines:
-            return words
-        path = self.picks_path(trace)
-        with open(path, 'w', encoding='ascii') as file:
-            file.writelines(f'{line}\n' for line in dict.fromkeys(lines))
-        return words + ['--picks', path]
+    def families(self, trace: str, needs: Needs) -> List[int]:
+        """The sets of the families that the plan doesn't list without being asked."""
+        sets = list(needs.masks) if self.options.has_lost else []
+        if self.options.has_files:
+            lines = self.ask(['picks', '--trace', trace, '--files']).splitlines()
+            sets += [set_of(json.loads(line)) for line in lines]
+        return [one for one in dict.fromkeys(sets) if not self.is_listed(needs, one)]
 
-    def picks_path(self, trace: str) -> str:
-        return os.path.join(self.guard.directory, os.path.basename(trace) + '.picks')
+    def is_listed(self, needs: Needs, kept: int) -> bool:
+        """Whether a set is listed without being asked for: as a prefix, or as a hole. A server has
+        all families as picks."""
+        if self.options.prefixes or self.options.serve is not None:
+            return False
+        return needs.has_hole(kept)
 
-    def files_family(self, trace: str) -> List[str]:
-        return self.ask(['picks', '--trace', trace, '--files']).splitlines()
+    def picks_path(self, trace: str, number: int = 0) -> str:
+        name = f'{os.path.basename(trace)}.picks{number or ""}'
+        return os.path.join(self.guard.directory, name)
 
     def ask(self, words: List[str]) -> str:
         """What the program prints; an option that it lacks is reported as such."""
@@ -87,7 +142,37 @@ class Planner:
         return Refused(str(fault))
 
 
-def lost_family(needs: Needs) -> Iterator[str]:
-    """The picks of --lost: for each micro-operation the least set that has it."""
-    for mask in needs.masks:
-        yield json.dumps(list(places_of(mask)), separators=(',', ':'))
+def every_set(sets: AllSets, read: ReadSets, most: int) -> Optional[List[int]]:
+    """A set of each different state, and one for each profile that allows a set of it; None if they
+    are too many."""
+    found = sets.different(most)
+    if found is None:
+        return None
+    of_all = reduce(and_, read.profiles_of(found))
+    others = [name for place, name in enumerate(read.orders) if not of_all >> place & 1]
+    return found + [one for name in others for one in sets.different(most, name) or []]
+
+
+def write_sets(path: str, sets: Iterable[int]) -> None:
+    with open(path, 'w', encoding='ascii') as file:
+        file.writelines(f'{json.dumps(list(places_of(one)))}\n' for one in sets)
+
+
+def in_parts(picks: List[int], room: int, operations: int) -> List[List[int]]:
+    """Picks for the parts of a plan: the first has so much room, each other one that which the
+    prefixes leave."""
+    size = limits.STATES - 1 - operations
+    first, rest = picks[: max(0, room)], picks[max(0, room) :]
+    return [first, *(rest[at : at + size] for at in range(0, len(rest), size))]
+
+
+def parts_of(plan: Plan, ways: List[List[str]], sizes: List[int]) -> List[Part]:
+    """The parts of a plan: so many picks are in each, and all else in the first."""
+    end = plan.first + len(plan.listed)
+    firsts = [end - sum(sizes[number:]) for number in range(1, len(ways))]
+    ends = [*firsts, end]
+    own = len(plan.operations) + 1
+    return [
+        Part(way, plan.first if number == 0 else ends[number - 1], ends[number], number and own)
+        for number, way in enumerate(ways)
+    ]

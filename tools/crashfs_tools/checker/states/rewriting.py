@@ -3,13 +3,17 @@
 from __future__ import annotations
 
 import os
+from typing import Iterable, Union
+
+from crashfs_tools.common.sparse import PAGE_BYTES, SparseBytes
 
 PIECE_BYTES = 1 << 14
+Bytes = Union[bytes, bytearray, SparseBytes]
 
 
-def rewrite(file: int, before: bytes, wanted: bytes) -> None:
+def rewrite(file: int, before: Bytes, wanted: Bytes) -> None:
     """Makes an open file that has the bytes `before` have others."""
-    for at in range(0, len(wanted), PIECE_BYTES):
+    for at in places(before, wanted):
         piece = wanted[at : at + PIECE_BYTES]
         if before[at : at + PIECE_BYTES] != piece and (at < len(before) or has_bytes(piece)):
             write_at(file, at, piece)
@@ -17,12 +21,21 @@ def rewrite(file: int, before: bytes, wanted: bytes) -> None:
         os.ftruncate(file, len(wanted))
 
 
-def has_bytes(piece: bytes) -> bool:
+def places(before: Bytes, wanted: Bytes) -> Iterable[int]:
+    """Where pieces begin that may differ."""
+    if isinstance(before, SparseBytes) and isinstance(wanted, SparseBytes):
+        pages = before.pages.keys() | wanted.pages.keys()
+        starts = {page * PAGE_BYTES // PIECE_BYTES * PIECE_BYTES for page in pages}
+        return sorted(start for start in starts if start < len(wanted))
+    return range(0, len(wanted), PIECE_BYTES)
+
+
+def has_bytes(piece: Union[bytes, bytearray]) -> bool:
     """Whether a piece has other bytes than zeros."""
     return piece.count(0) != len(piece)
 
 
-def write_at(file: int, at: int, data: bytes) -> None:
+def write_at(file: int, at: int, data: Union[bytes, bytearray]) -> None:
     while data:
         count = os.pwrite(file, data, at)
         at, data = at + count, data[count:]

@@ -9,8 +9,8 @@ from typing import Iterator, List, Tuple
 from crashfs_tools.common.command import Refused
 from crashfs_tools.common.entry import Entries
 from crashfs_tools.common.trace import Operation, Say, Trace, Truncate, Write
-from crashfs_tools.common.trace_read import read_numbered
-from crashfs_tools.common.tree import Tree, start_lines
+from crashfs_tools.common.trace_read import read_numbered, tree_of
+from crashfs_tools.common.tree import Tree, grows_past_page, page_end, start_lines
 
 # A longer write is several steps, so that a window can end in it.
 PIECE_BLOCKS = 64
@@ -61,8 +61,7 @@ class Session:
 
 
 def start_tree(trace: Trace) -> Tree:
-    header = trace.header
-    tree = Tree(header.owner, header.group, header.mode, trace.block)
+    tree = tree_of(trace)
     for entry in trace.start:
         tree.start(entry)
     return tree
@@ -74,16 +73,25 @@ def pieces(operation: Operation, tree: Tree) -> Iterator[Operation]:
     if not isinstance(operation, Write) or len(operation.data) <= PIECE_BLOCKS * tree.block:
         yield operation
         return
-    data = tree.entries[operation.path].data
     end = operation.offset + len(operation.data)
-    if data is not None and end > len(data):
-        yield Truncate(operation.path, end)
+    for length in sizes(tree, operation.path, end):
+        yield Truncate(operation.path, length)
     at = operation.offset
     while at < end:
         stop = min(end, (at // tree.block + PIECE_BLOCKS) * tree.block)
         part = operation.data[at - operation.offset : stop - operation.offset]
         yield Write(operation.path, at, part)
         at = stop
+
+
+def sizes(tree: Tree, path: str, end: int) -> Iterator[int]:
+    """The lengths that a write up to a place gives a file, one after the other: in version 4 it
+    grows to the end of its last page first."""
+    size = len(tree.entries[path].data or b'')
+    if tree.version >= 4 and grows_past_page(size, end):
+        yield page_end(size)
+    if end > size:
+        yield end
 
 
 class Steps:

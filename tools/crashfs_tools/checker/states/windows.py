@@ -68,14 +68,8 @@ class Windows:
             yield window.planned
             states += len(window.planned.plan.listed)
             last, window = window, self.next(steps, window, states)
-            self.remove_files(last.planned.trace)
+            remove_files(last.planned)
         yield window.planned
-
-    def remove_files(self, trace: str) -> None:
-        """Removes what a window had: its start tree may be large, and there may be many."""
-        for path in (trace, self.planner.picks_path(trace)):
-            if os.path.exists(path):
-                os.unlink(path)
 
     def next(self, steps: Steps, last: PlannedWindow, states: int) -> PlannedWindow:
         """The window after one; if what still was pending leaves it no room, it begins at the
@@ -166,7 +160,7 @@ class Windows:
     def go_to(self, steps: Steps, last: PlannedWindow, step: int) -> None:
         """Goes to a step, with the tree that the program gives of its moment."""
         prefix = self.session.places[step] - last.planned.before.operations
-        words = [*last.planned.words, '--state', str(prefix)]
+        words = [*last.planned.parts[0].words, '--state', str(prefix)]
         start = self.planner.program.whole_tree(words, self.planner.guard.environment)
         steps.go_to(step, start)
         if start != steps.tree.entries:
@@ -185,6 +179,12 @@ class Windows:
 
 def windows_of(planner: Planner, options: Options, text: str) -> Windows:
     return Windows(planner, Session(options.trace or '', text), options.window or LARGEST)
+
+
+def remove_files(planned: Planned) -> None:
+    """Removes what a window had: its start tree may be large, and there may be many."""
+    for path in planned.files():
+        os.unlink(path)
 
 
 def with_probe(text: str) -> str:

@@ -152,7 +152,7 @@ def on_fallocate(files: LiveFiles, process: Process, call: Call) -> None:
         files.drop_bytes(node, f'fallocate with {mode}')
     elif 'PUNCH' in mode or 'ZERO' in mode:
         end = min(end, node.size) if 'KEEP_SIZE' in mode else end
-        files.write_by_call(node, offset, bytes(max(0, end - offset)))
+        files.zero_by_call(node, offset, end)
     elif 'KEEP_SIZE' not in mode and end > node.size:
         files.set_length(node, end)
 

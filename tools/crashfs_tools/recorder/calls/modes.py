@@ -45,7 +45,7 @@ def set_mode(files: LiveFiles, node: Optional[Node], word: str) -> None:
 
 
 def on_chown(files: LiveFiles, process: Process, call: Call) -> None:
-    node = files.node_argument(process, call, 0)
+    node = files.node_argument(process, call, 0, not call.name.startswith('l'))
     set_owner(files, node, call.word(1), call.word(2))
 
 
@@ -55,7 +55,8 @@ def on_fchown(files: LiveFiles, process: Process, call: Call) -> None:
 
 
 def on_fchownat(files: LiveFiles, process: Process, call: Call) -> None:
-    node = files.node_argument_at(process, call, 0)
+    follows = 'AT_SYMLINK_NOFOLLOW' not in call.word(4)
+    node = files.node_argument_at(process, call, 0, follows)
     set_owner(files, node, call.word(2), call.word(3))
 
 
@@ -93,7 +94,7 @@ def on_attribute(files: LiveFiles, process: Process, call: Call) -> None:
 def attribute_node(files: LiveFiles, process: Process, call: Call) -> Optional[Node]:
     """The file whose attributes a call changes."""
     if not call.name.startswith('f'):
-        return files.node_argument(process, call, 0)
+        return files.node_argument(process, call, 0, not call.name.startswith('l'))
     file = files.open_file(process, call)
     return file.node if file else None
 

@@ -6,10 +6,13 @@ from typing import Optional
 
 from crashfs_tools.common.entry import parent_of
 from crashfs_tools.common.trace import Link, Rename, Rmdir, Unlink
+from crashfs_tools.recorder import arguments
 from crashfs_tools.recorder.arguments import octal
+from crashfs_tools.recorder.directory import target_fault
 from crashfs_tools.recorder.live_tree import Node
 from crashfs_tools.recorder.processes import Process
 from crashfs_tools.recorder.live_files import LiveFiles
+from crashfs_tools.recorder.recording import renamed_directory
 from crashfs_tools.recorder.strace_log import Call
 
 
@@ -160,7 +163,8 @@ def rename_file(files: LiveFiles, source: str, target: str, node: Node) -> None:
         replace_name(files, files.tree.remove(target), target)
     files.tree.move(source, target)
     if node.is_directory:
-        rename_directory(files, source, target)
+        files.move_directories(source, target)
+        rename_directory(files, node, source, target)
     elif source in node.traced_paths:
         rename_traced(files, node, source, target)
     elif not node.traced_paths:
@@ -175,7 +179,12 @@ def replace_name(files: LiveFiles, node: Node, path: str) -> None:
             files.report('a file was replaced that has another name by a link', path)
 
 
-def rename_directory(files: LiveFiles, source: str, target: str) -> None:
+def rename_directory(files: LiveFiles, node: Node, source: str, target: str) -> None:
+    """Renames a directory in the trace, if its version may have that."""
+    if source in node.traced_paths and files.recording.may_have(renamed_directory(source)):
+        if files.recording.add(Rename(source, target)):
+            files.tree.move_traced(source, target)
+            return
     files.report(
         f'a directory was renamed to {target}: no trace can say it; what is done '
         'below it is left out',
@@ -187,13 +196,13 @@ def rename_directory(files: LiveFiles, source: str, target: str) -> None:
 
 
 def on_link(files: LiveFiles, process: Process, call: Call) -> None:
-    add_link(files, files.node_argument(process, call, 0), files.path_argument(process, call, 1))
+    node = files.node_argument(process, call, 0, follows=False)
+    add_link(files, node, files.path_argument(process, call, 1))
 
 
 def on_linkat(files: LiveFiles, process: Process, call: Call) -> None:
-    add_link(
-        files, files.node_argument_at(process, call, 0), files.path_argument_at(process, call, 2)
-    )
+    node = files.node_argument_at(process, call, 0, 'AT_SYMLINK_FOLLOW' in call.word(4))
+    add_link(files, node, files.path_argument_at(process, call, 2))
 
 
 def add_link(files: LiveFiles, node: Optional[Node], target: Optional[str]) -> None:
@@ -227,11 +236,21 @@ def name_temporary_file(files: LiveFiles, node: Node, path: str) -> None:
 
 
 def on_symlink(files: LiveFiles, process: Process, call: Call) -> None:
-    add_untraceable(files, files.path_argument(process, call, 1), 'a symbolic link was made')
+    make_link(files, files.path_argument(process, call, 1), call.word(0))
 
 
 def on_symlinkat(files: LiveFiles, process: Process, call: Call) -> None:
-    add_untraceable(files, files.path_argument_at(process, call, 1), 'a symbolic link was made')
+    make_link(files, files.path_argument_at(process, call, 1), call.word(0))
+
+
+def make_link(files: LiveFiles, path: Optional[str], word: str) -> None:
+    """Makes a symbolic link."""
+    target = arguments.path(word) or ''
+    fault = target_fault(target)
+    if fault:
+        add_untraceable(files, path, f'{fault} was made')
+    elif path is not None:
+        files.add_new(path, Node.symbolic_link(target))
 
 
 def on_mknod(files: LiveFiles, process: Process, call: Call) -> None:

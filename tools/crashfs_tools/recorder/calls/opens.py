@@ -13,25 +13,30 @@ from crashfs_tools.recorder.strace_log import Call
 
 
 def on_open(files: LiveFiles, process: Process, call: Call) -> None:
-    path = files.path_argument(process, call, 0)
+    path = files.path_argument(process, call, 0, follows(call.word(1)))
     open_path(files, process, call, call.word(0), path, call.word(1), call.word(2))
 
 
 def on_openat(files: LiveFiles, process: Process, call: Call) -> None:
-    path = files.path_argument_at(process, call, 0)
+    path = files.path_argument_at(process, call, 0, follows(call.word(2)))
     open_path(files, process, call, call.word(1), path, call.word(2), call.word(3))
 
 
 def on_openat2(files: LiveFiles, process: Process, call: Call) -> None:
     how = call.word(2)
     mode = re.search(r'mode=(0[0-7]*)', how)
-    path = files.path_argument_at(process, call, 0)
+    path = files.path_argument_at(process, call, 0, follows(how))
     open_path(files, process, call, call.word(1), path, how, mode[1] if mode else '')
 
 
 def on_creat(files: LiveFiles, process: Process, call: Call) -> None:
-    path = files.path_argument(process, call, 0)
+    path = files.path_argument(process, call, 0, True)
     open_path(files, process, call, call.word(0), path, 'O_WRONLY|O_CREAT|O_TRUNC', call.word(1))
+
+
+def follows(flags: str) -> bool:
+    """Whether an open follows a symbolic link at its path's end."""
+    return 'O_NOFOLLOW' not in flags and 'O_EXCL' not in flags
 
 
 def open_path(

@@ -23,7 +23,8 @@ def on_chdir(files: LiveFiles, process: Process, call: Call) -> None:
     path = arguments.path(call.word(0))
     if path is not None:
         place = process.paths
-        place.directory = os.path.normpath(os.path.join(place.directory, path))
+        full = os.path.join(place.directory, path)
+        place.directory = files.resolver.resolved(full, True) or os.path.normpath(full)
 
 
 def on_fchdir(files: LiveFiles, process: Process, call: Call) -> None:

@@ -283,6 +283,126 @@ static void link_temporary(void) {
 }
 static void symlink_(void) { must(CALL(SYS_symlink, "a", "l")); }
 static void symlinkat_(void) { must(CALL(SYS_symlinkat, "a", AT_FDCWD, "l")); }
+static void readlink_(void) {
+  char target[9];
+  must(CALL(SYS_symlink, "a", "l"));
+  must(CALL(SYS_readlink, "l", target, sizeof target));
+  must(CALL(SYS_readlinkat, AT_FDCWD, "l", target, sizeof target));
+}
+static void lock_by_symlink(void) {
+  must(CALL(SYS_symlink, "host:17", "lock"));
+  if (CALL(SYS_symlink, "host:18", "lock") >= 0) failed = 1;
+  new_file("a");
+  must(CALL(SYS_unlink, "lock"));
+  must(CALL(SYS_symlink, "host:18", "lock"));
+  must(CALL(SYS_unlinkat, AT_FDCWD, "lock", 0));
+}
+static void switch_symlink(void) {
+  must(CALL(SYS_symlink, "a", "l"));
+  must(CALL(SYS_symlink, "b", "m"));
+  must(CALL(SYS_rename, "m", "l"));
+  new_file("f");
+  must(CALL(SYS_rename, "l", "f"));
+  new_file("g");
+  must(CALL(SYS_renameat2, AT_FDCWD, "g", AT_FDCWD, "f", 0));
+}
+static void names_through_symlink(void) {
+  int d;
+  must(CALL(SYS_mkdir, "s", 0755));
+  must(CALL(SYS_symlink, "s", "l"));
+  must(CALL(SYS_symlink, "./l/", "m"));
+  must(CALL(SYS_mkdir, "m/t", 0755));
+  must(CALL(SYS_mkdir, "m/../u", 0755));
+  put(must(CALL(SYS_open, "l/a", O_WRONLY | O_CREAT, 0644)), "x");
+  must(CALL(SYS_rename, "l/a", "m/t/b"));
+  must(CALL(SYS_link, "s/t/b", "l/c"));
+  must(CALL(SYS_symlink, "c", "l/n"));
+  d = must(CALL(SYS_open, "l", O_RDONLY | O_DIRECTORY));
+  must(CALL(SYS_mkdirat, d, "v", 0755));
+  must(CALL(SYS_unlink, "m/c"));
+  must(CALL(SYS_unlink, "l"));
+  must(CALL(SYS_symlink, "u", "l"));
+  must(CALL(SYS_mkdir, "m/w", 0755));
+  must(CALL(SYS_rmdir, "l/w"));
+}
+static void file_through_symlink(void) {
+  int f;
+  must(CALL(SYS_symlink, "a", "l"));
+  f = must(CALL(SYS_open, "l", O_WRONLY | O_CREAT, 0644));
+  put(f, "xyz");
+  must(CALL(SYS_truncate, "l", 2));
+  must(CALL(SYS_chmod, "l", 0600));
+  must(CALL(SYS_fchmodat, AT_FDCWD, "l", 0640));
+  if (CALL(SYS_open, "l", O_WRONLY | O_NOFOLLOW) >= 0) failed = 1;
+  must(CALL(SYS_open, "l", O_PATH | O_NOFOLLOW));
+  must(CALL(SYS_openat, AT_FDCWD, "l", O_WRONLY | O_TRUNC));
+  must(CALL(SYS_rename, "l", "m"));
+  must(CALL(SYS_unlink, "m"));
+}
+static void chdir_through_symlink(void) {
+  must(CALL(SYS_mkdir, "s", 0755));
+  must(CALL(SYS_mkdir, "s/t", 0755));
+  must(CALL(SYS_symlink, "s/t", "l"));
+  must(CALL(SYS_chdir, "l"));
+  must(CALL(SYS_unlink, "../../l"));
+  must(CALL(SYS_mkdir, "u", 0755));
+  must(CALL(SYS_mkdir, "../v", 0755));
+  must(CALL(SYS_chdir, "../.."));
+}
+static void link_of_symlink(void) {
+  new_file("a");
+  must(CALL(SYS_symlink, "a", "l"));
+  must(CALL(SYS_linkat, AT_FDCWD, "l", AT_FDCWD, "b", AT_SYMLINK_FOLLOW));
+  must(CALL(SYS_link, "l", "c"));
+}
+static void chown_symlink(void) {
+  new_file("a");
+  must(CALL(SYS_symlink, "a", "l"));
+  must(CALL(SYS_lchown, "l", 54321, -1));
+  must(CALL(SYS_fchownat, AT_FDCWD, "l", 54322, -1, AT_SYMLINK_NOFOLLOW));
+  must(CALL(SYS_chown, "l", 54323, -1));
+  must(CALL(SYS_fchownat, AT_FDCWD, "l", -1, 54324, 0));
+}
+static void rename_directory(void) {
+  int f, d;
+  must(CALL(SYS_mkdir, "s", 0755));
+  must(CALL(SYS_mkdir, "s/t", 0755));
+  f = must(CALL(SYS_open, "s/t/a", O_WRONLY | O_CREAT, 0644));
+  must(CALL(SYS_rename, "s", "u"));
+  put(f, "x");
+  must(CALL(SYS_fdatasync, f));
+  d = must(CALL(SYS_open, "u/t", O_RDONLY | O_DIRECTORY));
+  must(CALL(SYS_renameat, AT_FDCWD, "u/t", AT_FDCWD, "v"));
+  must(CALL(SYS_mkdirat, d, "w", 0755));
+  must(CALL(SYS_fsync, d));
+  must(CALL(SYS_renameat2, AT_FDCWD, "v", AT_FDCWD, "u/x", RENAME_NOREPLACE));
+  must(CALL(SYS_unlink, "u/x/a"));
+}
+static void rename_over_directory(void) {
+  must(CALL(SYS_mkdir, "s", 0755));
+  must(CALL(SYS_mkdir, "s/t", 0755));
+  must(CALL(SYS_mkdir, "e", 0700));
+  must(CALL(SYS_rename, "s", "e"));
+  must(CALL(SYS_rmdir, "e/t"));
+  if (CALL(SYS_rename, "e", "e/f") >= 0) failed = 1;
+}
+static void rename_working_directory(void) {
+  must(CALL(SYS_mkdir, "s", 0755));
+  must(CALL(SYS_mkdir, "s/t", 0755));
+  must(CALL(SYS_chdir, "s/t"));
+  must(CALL(SYS_rename, "../../s", "../../u"));
+  must(CALL(SYS_mkdir, "v", 0755));
+  must(CALL(SYS_open, "../a", O_WRONLY | O_CREAT, 0644));
+  must(CALL(SYS_chdir, "../.."));
+}
+static void large_file(void) {
+  int f = new_file("a");
+  must(CALL(SYS_ftruncate, f, 20000000));
+  must(CALL(SYS_pwrite64, f, "x", 1, 18000000));
+  must(CALL(SYS_fallocate, f, 0, 0, 30000000));
+  must(CALL(SYS_fallocate, f, FALLOC_FL_PUNCH_HOLE | FALLOC_FL_KEEP_SIZE, 0, 18000001));
+  must(CALL(SYS_fallocate, f, FALLOC_FL_ZERO_RANGE, 0, 40000000));
+}
 static void mknod_(void) {
   must(CALL(SYS_mknod, "a", S_IFREG | 0640, 0));
   must(CALL(SYS_mknodat, AT_FDCWD, "b", S_IFREG | 0600, 0));
@@ -462,7 +582,11 @@ static const struct {
     CASE(fallocate_hole), CASE(fallocate_zero), CASE(fallocate_collapse), CASE(fallocate_insert),
     CASE(sendfile_), CASE(copy_file_range_), CASE(splice_), CASE(tee_), CASE(io_uring_setup_),
     CASE(io_submit_), CASE(unlink_), CASE(rmdir_), CASE(rename_), CASE(exchange), CASE(link_),
-    CASE(link_temporary), CASE(symlink_), CASE(symlinkat_), CASE(mknod_), CASE(mknod_pipe),
+    CASE(link_temporary), CASE(symlink_), CASE(symlinkat_), CASE(readlink_),
+    CASE(lock_by_symlink), CASE(switch_symlink), CASE(names_through_symlink),
+    CASE(file_through_symlink), CASE(chdir_through_symlink), CASE(link_of_symlink),
+    CASE(chown_symlink), CASE(rename_directory), CASE(rename_over_directory),
+    CASE(rename_working_directory), CASE(large_file), CASE(mknod_), CASE(mknod_pipe),
     CASE(mknodat_pipe), CASE(bind_), CASE(fsync_), CASE(fdatasync_), CASE(sync_), CASE(syncfs_),
     CASE(syncfs_elsewhere), CASE(sync_file_range_), CASE(mmap_), CASE(mprotect_), CASE(msync_),
     CASE(munmap_), CASE(mremap_), CASE(chmod_), CASE(chown_), CASE(setxattr_), CASE(lsetxattr_),

@@ -1,0 +1,3 @@
+module crashstates
+
+go 1.19

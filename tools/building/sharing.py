@@ -1,0 +1,30 @@
+"""Gives proved libraries from one copy of the repository to another."""
+
+from __future__ import annotations
+
+import shutil
+from pathlib import Path
+
+
+def library_of(top: Path, name: str) -> Path:
+    return top / 'crates' / name / 'out' / 'rlib'
+
+
+def stamp_of(library: Path) -> bytes:
+    """What `rt` writes once the library is whole: a sum of all texts that it was made from."""
+    stamp = library / 'stamp'
+    return stamp.read_bytes() if stamp.is_file() else b''
+
+
+def give(source: Path, target: Path, name: str) -> None:
+    """Copies a proved library, so that `rt` doesn't prove it again in the target. It is never seen
+    half copied."""
+    proved, library = library_of(source, name), library_of(target, name)
+    if stamp_of(proved) == stamp_of(library):
+        return
+    part = library.with_name('rlib.part')
+    for folder in (part, library):
+        shutil.rmtree(folder, ignore_errors=True)
+    part.parent.mkdir(parents=True, exist_ok=True)
+    shutil.copytree(proved, part, symlinks=True)
+    part.rename(library)

@@ -1,0 +1,24 @@
+"""Equal states of several parts of a plan: the program compares only those of one part."""
+
+from __future__ import annotations
+
+from typing import Dict, List
+
+from .plan import Plan, State
+
+
+def joined(trace: str, plan: Plan) -> List[State]:
+    """The states of a plan, of which each has the first equal one of all parts, by the second
+    reading."""
+    from crashfs_tools.reading import read
+    from crashfs_tools.reading.states import Digest, States
+
+    with open(trace, 'rb') as file:
+        trees = States(read(file.read()))
+    numbers: Dict[Digest, int] = {}
+    first_of: Dict[int, int] = {}
+    for state in plan.listed:
+        if state.same == state.number:
+            digest = trees.digest(plan.kept[state.number])
+            first_of[state.number] = numbers.setdefault(digest, state.number)
+    return [state._replace(same=first_of[state.same]) for state in plan.listed]

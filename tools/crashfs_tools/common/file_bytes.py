@@ -1,0 +1,52 @@
+"""Reads files from a disk, without their holes."""
+
+from __future__ import annotations
+
+import errno
+import os
+from typing import Iterator, Tuple, Union
+
+from .sparse import LARGE_BYTES, SparseBytes
+
+PIECE_BYTES = 1 << 20
+Bytes = Union[bytes, SparseBytes]
+
+
+def file_bytes(file: int) -> Bytes:
+    """The bytes of an open file: of a large one those that aren't zeros."""
+    size = os.fstat(file).st_size
+    if size < LARGE_BYTES:
+        return b''.join(pieces(file, 0, size))
+    found = SparseBytes(size)
+    for begin, end in data_ranges(file, size):
+        for piece in pieces(file, begin, end):
+            found.write(begin, piece)
+            begin += len(piece)
+    return found
+
+
+def pieces(file: int, begin: int, end: int) -> Iterator[bytes]:
+    """The bytes from a place to another; fewer if the file has become shorter."""
+    while begin < end:
+        piece = os.pread(file, min(PIECE_BYTES, end - begin), begin)
+        if not piece:
+            return
+        yield piece
+        begin += len(piece)
+
+
+def data_ranges(file: int, size: int) -> Iterator[Tuple[int, int]]:
+    """Where a file has no hole, as far as its file system says so."""
+    end = 0
+    while end < size:
+        try:
+            begin = os.lseek(file, end, os.SEEK_DATA)
+        except OSError as error:
+            if error.errno == errno.ENXIO:
+                return
+            begin = end
+        try:
+            end = min(os.lseek(file, begin, os.SEEK_HOLE), size)
+        except OSError:
+            end = size
+        yield begin, end

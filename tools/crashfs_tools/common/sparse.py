@@ -1,0 +1,196 @@
+"""The bytes of a file, in memory for what isn't zero: a file of 1 GiB of zeros takes none."""
+
+from __future__ import annotations
+
+import re
+from typing import Dict, Iterable, Iterator, List, Tuple, Union
+
+PAGE_BYTES = 4_096
+ZEROS = bytes(PAGE_BYTES)
+# Zeros inside a part that are fewer stay in it: a part of its own takes more room in a trace.
+GAP_BYTES = 32
+GAP = re.compile(b'\0{%d,}' % GAP_BYTES)
+# A part has no more bytes, so that no line is made from one huge text.
+PART_BYTES = 1 << 20
+# Smaller files are kept whole.
+LARGE_BYTES = 1 << 16
+
+Part = Tuple[int, bytes]
+Content = Union[bytes, bytearray, 'SparseBytes']
+
+
+class SparseBytes:
+    """Bytes that are changed in place. pages has those that may have other bytes than zeros, by
+    their numbers, each of PAGE_BYTES."""
+
+    __slots__ = ('length', 'pages')
+
+    def __init__(self, length: int = 0, parts: Iterable[Part] = ()) -> None:
+        self.length = length
+        self.pages: Dict[int, bytearray] = {}
+        for at, data in parts:
+            self.write(at, data)
+
+    @staticmethod
+    def of(data: Content) -> SparseBytes:
+        """A copy of bytes."""
+        if isinstance(data, SparseBytes):
+            return data.copy()
+        return SparseBytes(len(data), [(0, bytes(data))])
+
+    def copy(self) -> SparseBytes:
+        made = SparseBytes(self.length)
+        made.pages = {number: page.copy() for number, page in self.pages.items()}
+        return made
+
+    def __len__(self) -> int:
+        return self.length
+
+    def __bytes__(self) -> bytes:
+        return self.read(0, self.length)
+
+    def __getitem__(self, part: slice) -> bytes:
+        begin, end, _ = part.indices(self.length)
+        return self.read(begin, end - begin)
+
+    def __eq__(self, other: object) -> bool:
+        if isinstance(other, SparseBytes):
+            return self.length == other.length and dict(self.data_pages()) == dict(
+                other.data_pages()
+            )
+        if isinstance(other, (bytes, bytearray)):
+            return self.length == len(other) and self == SparseBytes.of(other)
+        return NotImplemented
+
+    __hash__ = None  # type: ignore[assignment]  # its bytes change
+
+    def data_pages(self) -> Iterator[Tuple[int, bytes]]:
+        """The pages that aren't all zeros, in no order."""
+        for number, page in self.pages.items():
+            if page != ZEROS:
+                yield number, bytes(page)
+
+    def read(self, at: int, count: int) -> bytes:
+        """The bytes from a place on, up to the end."""
+        end = min(at + count, self.length)
+        found = []
+        while at < end:
+            number, first = divmod(at, PAGE_BYTES)
+            stop = min(PAGE_BYTES, first + end - at)
+            found.append(self.pages.get(number, ZEROS)[first:stop])
+            at += stop - first
+        return b''.join(found)
+
+    def write(self, at: int, data: Union[bytes, bytearray]) -> None:
+        """Puts bytes at a place, beyond the end too."""
+        self.length = max(self.length, at + len(data))
+        begin = 0
+        while begin < len(data):
+            number, first = divmod(at + begin, PAGE_BYTES)
+            piece = data[begin : begin + PAGE_BYTES - first]
+            begin += len(piece)
+            if number in self.pages:
+                self.pages[number][first : first + len(piece)] = piece
+            elif piece.count(0) != len(piece):
+                self.pages[number] = bytearray(PAGE_BYTES)
+                self.pages[number][first : first + len(piece)] = piece
+
+    def clear(self, begin: int, end: int) -> None:
+        """Makes the bytes of a range zeros; whole pages take no memory from then on."""
+        end = min(end, self.length)
+        first, last = begin // PAGE_BYTES, -(-end // PAGE_BYTES)
+        numbers: Iterable[int] = range(first, last)
+        if last - first > len(self.pages):
+            numbers = [number for number in self.pages if first <= number < last]
+        for number in numbers:
+            page = self.pages.get(number)
+            start, stop = max(begin, number * PAGE_BYTES), min(end, (number + 1) * PAGE_BYTES)
+            if page is None:
+                continue
+            if stop - start == PAGE_BYTES:
+                del self.pages[number]
+            elif start < stop:
+                base = number * PAGE_BYTES
+                page[start - base : stop - base] = bytes(stop - start)
+
+    def data_ranges(self, begin: int, end: int) -> List[Tuple[int, int]]:
+        """The parts of a range, by their ends, whose pages aren't all zeros."""
+        found = []
+        for at, run in list(self.runs()):
+            first, last = max(begin, at), min(end, at + len(run))
+            if first < last:
+                found.append((first, last))
+        return found
+
+    def resize(self, length: int) -> None:
+        """Cuts the bytes, or adds zeros."""
+        if length < self.length:
+            self.clear(length, self.length + PAGE_BYTES)
+        self.length = length
+
+    def parts(self) -> List[Part]:
+        """What isn't zero, ascending: parts begin and end with other bytes than zeros, and have
+        no long run of zeros."""
+        return [part for begin, run in self.runs() for part in parts_of(begin, run)]
+
+    def runs(self) -> Iterator[Part]:
+        """The pages that aren't zeros, joined as far as they touch."""
+        begin = 0
+        pages: List[bytes] = []
+        for number, page in sorted(self.data_pages()):
+            at = number * PAGE_BYTES
+            size = len(pages) * PAGE_BYTES
+            if pages and (at != begin + size or size >= PART_BYTES):
+                yield begin, b''.join(pages)
+                pages = []
+            begin = begin if pages else at
+            pages.append(page[: self.length - at])
+        if pages:
+            yield begin, b''.join(pages)
+
+
+def parts_of(begin: int, data: bytes) -> Iterator[Part]:
+    """The parts of some bytes that are at a place."""
+    at = 0
+    for gap in GAP.finditer(data):
+        yield from stripped(begin + at, data[at : gap.start()])
+        at = gap.end()
+    yield from stripped(begin + at, data[at:])
+
+
+def stripped(at: int, data: bytes) -> Iterator[Part]:
+    """A part without zeros at its edges, if anything is left."""
+    left = data.lstrip(b'\0')
+    if left:
+        yield at + len(data) - len(left), left.rstrip(b'\0')
+
+
+def first_difference(one: Content, other: Content) -> int:
+    """Where bytes begin to differ: at the end of the shorter ones if these are the beginning of the
+    others."""
+    length = min(len(one), len(other))
+    for begin in pages_to_compare(one, other, length):
+        pieces = [bytes(data[begin : min(begin + PAGE_BYTES, length)]) for data in (one, other)]
+        if pieces[0] != pieces[1]:
+            pairs = enumerate(zip(*pieces))
+            return begin + next(at for at, (left, right) in pairs if left != right)
+    return length
+
+
+def pages_to_compare(one: Content, other: Content, length: int) -> Iterable[int]:
+    """Where pages begin, up to a length, of which one may have other bytes than zeros."""
+    if isinstance(one, SparseBytes) and isinstance(other, SparseBytes):
+        begins = (page * PAGE_BYTES for page in sorted(one.pages.keys() | other.pages.keys()))
+        return (begin for begin in begins if begin < length)
+    return range(0, length, PAGE_BYTES)
+
+
+def has_many_zeros(data: Union[bytes, bytearray]) -> bool:
+    """Whether at least half of the pages of a large file are zeros."""
+    if len(data) < LARGE_BYTES:
+        return False
+    pages = range(0, len(data), PAGE_BYTES)
+    zeros = sum(
+        data[at : at + PAGE_BYTES].count(0) == len(data[at : at + PAGE_BYTES]) for at in pages
+    )
+    return 2 * zeros >= len(pages)

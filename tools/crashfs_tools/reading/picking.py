@@ -1,0 +1,97 @@
+"""The command `picks`: families of sets, all allowed sets, how many they are, and sets drawn."""
+
+from __future__ import annotations
+
+import json
+from itertools import islice
+from typing import Dict, Iterator, List, Union
+
+from .classes import Classes
+from .every import count_sets, every_set, sample
+from .faults import ReadingFault
+from .lines import PROFILES
+from .order import Order, bits
+from .plan import StateList, different, file_sets, lost_sets
+from .profiles import order_in
+from .trace import Reading
+
+MOST = 1_000_000
+LARGEST = {'--most': 16_777_216, '--sample': 16_384, '--seed': 2**64 - 1}
+LEAST = {'--most': 1, '--sample': 1, '--seed': 0}
+
+Options = Dict[str, Union[str, bool]]
+
+
+class Usage(Exception):
+    """A command line that is refused."""
+
+
+def judge(options: Options) -> None:
+    """Usage for options that don't go together, or a value that is out of range."""
+    families = [it for it in ('--every', '--sample') if it in options]
+    families += ['--lost'] if {'--lost', '--files'} & options.keys() else []
+    if len(families) != 1:
+        raise Usage('one of --every, --sample, --lost and --files is needed')
+    for option in ('--different', '--most', '--count', '--profile'):
+        if option in options and '--every' not in options:
+            raise Usage(f'{option} goes with --every')
+    for option in ('--different', '--most', '--profile'):
+        if option in options and '--count' in options:
+            raise Usage(f"{option} doesn't go with --count")
+    if ('--seed' in options) != ('--sample' in options):
+        raise Usage('--sample and --seed go together')
+    if options.get('--profile', PROFILES[0]) not in PROFILES:
+        raise Usage(f"invalid value '{options['--profile']}' for '--profile <F>'")
+    for option in LARGEST:
+        number_of(options, option)
+
+
+def number_of(options: Options, option: str, default: int = MOST) -> int:
+    """The number that an option has."""
+    if option not in options:
+        return default
+    text = str(options[option])
+    is_number = text.isascii() and text.isdigit() and len(text) <= 20
+    if not is_number or not LEAST[option] <= int(text) <= LARGEST[option]:
+        raise Usage(f"invalid value '{text}' for '{option} <N>'")
+    return int(text)
+
+
+def lines_of(reading: Reading, options: Options) -> Iterator[str]:
+    """What `picks` prints; ReadingFault if it is refused, before the first line."""
+    if '--count' in options:
+        yield f'{shown_count(count_sets(Order(reading)))}\n'
+        return
+    for places in sets_of(reading, options):
+        yield json.dumps(places, separators=(',', ':')) + '\n'
+
+
+def shown_count(count: int) -> str:
+    largest = 2**64 - 1
+    return str(count) if count <= largest else f'more than {largest}'
+
+
+def sets_of(reading: Reading, options: Options) -> Iterator[List[int]]:
+    if '--every' in options:
+        return every_members(reading, options)
+    if '--sample' in options:
+        seed = number_of(options, '--seed')
+        drawn = sample(Order(reading), number_of(options, '--sample'), seed)
+        return (list(bits(places)) for places in drawn)
+    plan = StateList(reading)
+    families = [lost_sets(plan)] if '--lost' in options else []
+    families += [file_sets(plan)] if '--files' in options else []
+    return different(it for family in families for it in family)
+
+
+def every_members(reading: Reading, options: Options) -> Iterator[List[int]]:
+    """The members of --every, none if there are more than --most."""
+    profile = options.get('--profile')
+    order = Order(reading) if profile is None else order_in(reading, str(profile))
+    is_different = '--different' in options
+    members = Classes(reading, order).different() if is_different else every_set(order)
+    most = number_of(options, '--most')
+    found = list(islice(members, most + 1))
+    if len(found) > most:
+        raise ReadingFault(f'more than {most} sets')
+    return (list(bits(places)) for places in found)

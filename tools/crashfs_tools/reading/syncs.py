@@ -1,0 +1,97 @@
+"""Sync points: what each of them makes durable, and whether it writes the log of a file system that
+has one."""
+
+from __future__ import annotations
+
+from typing import List
+
+from .micro import ChangeSize, CreateEntry, Micro, SetRights, WriteBlock
+from .names import DIRECTORY, Inode
+
+
+class SyncPoint:
+    """A sync point of everything, before the micro-operation at its place."""
+
+    def __init__(self, at: int) -> None:
+        self.at = at
+
+    def covers(self, operation: Micro) -> bool:
+        """Whether it makes an earlier micro-operation durable."""
+        return True
+
+    def is_fresh(self, since: List[Micro]) -> bool:
+        """Whether it writes the log, by the micro-operations since the sync point before it."""
+        return True
+
+
+class FileSync(SyncPoint):
+    """An fsync of a file."""
+
+    def __init__(self, at: int, file: int) -> None:
+        super().__init__(at)
+        self.file = file
+
+    def covers(self, operation: Micro) -> bool:
+        return operation.file == self.file
+
+    def is_fresh(self, since: List[Micro]) -> bool:
+        return any(
+            one.file == self.file or any(is_file(node, self.file) for node in one.handled)
+            for one in since
+        )
+
+
+class DataSync(FileSync):
+    """An fdatasync: of a file's sizes and blocks. Only a new size, or a new file, makes it write
+    the log."""
+
+    def covers(self, operation: Micro) -> bool:
+        return super().covers(operation) and not isinstance(operation, SetRights)
+
+    def is_fresh(self, since: List[Micro]) -> bool:
+        return any(
+            isinstance(one, ChangeSize)
+            and one.file == self.file
+            or isinstance(one, CreateEntry)
+            and is_file(one.node, self.file)
+            for one in since
+        )
+
+
+class RangeSync(DataSync):
+    """Of a file's sizes, and of writes all of whose bytes lie in the range."""
+
+    def __init__(self, at: int, file: int, offset: int, length: int) -> None:
+        super().__init__(at, file)
+        self.offset = offset
+        self.end = offset + length
+
+    def covers(self, operation: Micro) -> bool:
+        if not super().covers(operation):
+            return False
+        if isinstance(operation, WriteBlock):
+            end = operation.begin + len(operation.data)
+            return self.offset <= operation.begin and end <= self.end
+        return True
+
+
+class DirectorySync(SyncPoint):
+    """An fsync of a directory: of its entries, and of its rights."""
+
+    def __init__(self, at: int, directory: int) -> None:
+        super().__init__(at)
+        self.directory = directory
+
+    def covers(self, operation: Micro) -> bool:
+        return operation.directory == self.directory or any(
+            directory == self.directory for directory, _ in operation.entries
+        )
+
+    def is_fresh(self, since: List[Micro]) -> bool:
+        own = Inode(DIRECTORY, self.directory)
+        return any(self.covers(one) or own in one.handled for one in since)
+
+
+def is_file(node: Inode, file: int) -> bool:
+    """Whether it is the file or symbolic link of a number."""
+    return node.kind != DIRECTORY and node.number == file

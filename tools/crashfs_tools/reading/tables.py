@@ -1,0 +1,57 @@
+"""What each directory holds after some micro-operations, and which paths that gives."""
+
+from __future__ import annotations
+
+from typing import Dict, Iterable, Iterator, List, Tuple
+
+from .micro import CreateEntry, DeleteEntry, LinkEntry, Micro, MoveEntry, Rights, SetRights
+from .names import DIRECTORY, ROOT, Entry, Inode
+from .trace import Reading
+
+
+class Table:
+    """Two plain maps: an entry to what it holds, and a directory's number to its rights."""
+
+    def __init__(self, reading: Reading) -> None:
+        self.entries: Dict[Entry, Inode] = dict(reading.start)
+        self.rights: Dict[int, Rights] = dict(reading.start_rights)
+
+    def change(self, operation: Micro) -> None:
+        change_entries(self.entries, operation)
+        change_rights(self.rights, operation)
+
+    def paths(self) -> Iterator[Tuple[str, Inode]]:
+        """What is reached from the root, which is first, in no order."""
+        return reached(self.entries.items())
+
+
+def change_entries(entries: Dict[Entry, Inode], operation: Micro) -> None:
+    if isinstance(operation, (CreateEntry, LinkEntry)):
+        entries[operation.entries[0]] = operation.node
+    elif isinstance(operation, DeleteEntry):
+        del entries[operation.entries[0]]
+    elif isinstance(operation, MoveEntry):
+        entries[operation.entries[1]] = entries.pop(operation.entries[0])
+
+
+def change_rights(rights: Dict[int, Rights], operation: Micro) -> None:
+    if isinstance(operation, CreateEntry) and operation.made_directory is not None:
+        rights[operation.made_directory] = operation.rights
+    elif isinstance(operation, SetRights) and operation.directory is not None:
+        rights[operation.directory] = operation.rights
+
+
+def reached(entries: Iterable[Tuple[Entry, Inode]]) -> Iterator[Tuple[str, Inode]]:
+    """The paths that lead from the root to what entries hold."""
+    children: Dict[int, List[Tuple[str, Inode]]] = {}
+    for (directory, name), node in entries:
+        children.setdefault(directory, []).append((name, node))
+    yield '/', Inode(DIRECTORY, ROOT)
+    waiting = [('', ROOT)]
+    while waiting:
+        above, directory = waiting.pop()
+        for name, node in children.get(directory, []):
+            path = f'{above}/{name}'
+            yield path, node
+            if node.kind == DIRECTORY:
+                waiting.append((path, node.number))

@@ -1,0 +1,68 @@
+"""Paths through symbolic links, as they are when a call follows them."""
+
+from __future__ import annotations
+
+import os.path
+from typing import Callable, List, Optional
+
+# So many links the system follows in one path.
+MOST_LINKS = 40
+
+LinkOf = Callable[[str], Optional[str]]
+
+
+class Resolver:
+    """Resolves paths. inside gives the targets of symbolic links below the directory, by their
+    paths there; outside those of all others, by their whole paths."""
+
+    def __init__(self, top: str, inside: LinkOf, outside: LinkOf) -> None:
+        self.top = top
+        self.inside, self.outside = inside, outside
+        self.known: dict[str, Optional[str]] = {}
+
+    def below(self, path: Optional[str]) -> Optional[str]:
+        """The part of a whole path below the directory, `/` for itself; None for one outside."""
+        if path is None or path == self.top:
+            return None if path is None else '/'
+        prefix = self.top.rstrip('/')
+        return path[len(prefix) :] if path.startswith(prefix + '/') else None
+
+    def resolved(self, path: str, follows: bool) -> Optional[str]:
+        """A whole path without symbolic links; None if there are too many. A link at its end is
+        left if it isn't to be followed."""
+        follows = follows or path.endswith('/')
+        here, left = '/', names_of(path)
+        # The directory's own path has none.
+        if path.startswith(self.top + '/'):
+            here, left = self.top, names_of(path[len(self.top) :])
+        links = 0
+        while left:
+            name = left.pop()
+            if name == '..':
+                here = os.path.dirname(here)
+                continue
+            found = os.path.join(here, name)
+            target = self.link_of(found) if left or follows else None
+            if target is None:
+                here = found
+                continue
+            links += 1
+            if links > MOST_LINKS:
+                return None
+            here = '/' if target.startswith('/') else here
+            left += names_of(target)
+        return here
+
+    def link_of(self, path: str) -> Optional[str]:
+        """The target of the symbolic link at a whole path; None if there is none."""
+        below = self.below(path)
+        if below is not None:
+            return None if below == '/' else self.inside(below)
+        if path not in self.known:
+            self.known[path] = self.outside(path)
+        return self.known[path]
+
+
+def names_of(path: str) -> List[str]:
+    """The names of a path, the first one last."""
+    return [name for name in reversed(path.split('/')) if name not in ('', '.')]

@@ -1,0 +1,221 @@
+"""Checks of all crash states: what is listed, in one part or several, and what the report says."""
+
+from __future__ import annotations
+
+import json
+from types import SimpleNamespace
+from typing import Any, Dict, List, Set, Tuple
+from unittest import mock
+
+from crashfs_tools.checker.states.plan import Planned, Trial
+from crashfs_tools.checker.states.planning import Planner
+from crashfs_tools.common import limits
+from crashfs_tools.common.program import Crashfs
+from crashfs_tools.reading import ReadingFault, StateList, plan_of, read
+from crashfs_tools.reading.every import every_set
+from crashfs_tools.reading.order import Order
+
+from .random_traces import RandomTrace
+from .support import EXAMPLES, FAKE, TOOLS, InFolder
+from .test_windows import HEADER, Reader, creat, said, sync, write
+
+OPTIONS = {'prefixes': False, 'has_lost': True, 'has_files': True, 'serve': None}
+TREES = Dict[int, Any]
+
+
+def trace_texts() -> List[Tuple[str, str]]:
+    """Traces of the examples, and random ones of each version, of not too many sets."""
+    paths = [path for path in EXAMPLES.glob('**/*.trace') if path.parent.name != 'sqlite']
+    found = [(path.name, path.read_text('utf-8')) for path in sorted(paths)]
+    for version in (1, 2, 3):
+        for seed in range(40, 48):
+            text = RandomTrace(version, seed).text()
+            try:
+                if Order(read(text.encode())).count < 13:
+                    found.append((f'{version} {seed}', text))
+            except ReadingFault:
+                continue  # Its last line has a fault.
+    return found
+
+
+def wanted_trials(text: str) -> Set[Tuple[object, int]]:
+    """The trees of all sets that have all acknowledged lines before their members, with how many
+    lines are acknowledged."""
+    reading = read(text.encode())
+    order = Order(reading).acknowledged_first(reading)
+    trees = StateList(reading).trees
+    return {(trees.digest(one), trees.count_says(one)) for one in every_set(order)}
+
+
+class AllListed(InFolder):
+    def planner(self, program: Any, most: int = 20_000) -> Planner:
+        options: Any = SimpleNamespace(**OPTIONS, has_every=True, most_states=most, profile=None)
+        guard: Any = SimpleNamespace(directory=self.temporary, environment=None)
+        return Planner(options, program, guard)
+
+    def planned(self, text: str, most: int = 20_000, program: str = '') -> Planned:
+        found: Any = Crashfs(program) if program else Reader()
+        return self.planner(found, most).plan(self.write('a.trace', text))
+
+    def trials(self, text: str, planned: Planned) -> List[Tuple[object, int]]:
+        """What is tried of a plan, once for each trial."""
+        trees = StateList(read(text.encode())).trees
+        firsts: Dict[Trial, int] = {}
+        for state in planned.plan.states:
+            firsts.setdefault(Trial(state.same, state.says), state.number)
+        kept = [planned.plan.kept[number] for number in firsts.values()]
+        return [(trees.digest(one), trees.count_says(one)) for one in kept]
+
+    def test_each_crash_state_is_tried_once(self) -> None:
+        for name, text in trace_texts():
+            with self.subTest(name):
+                planned = self.planned(text)
+                tried = self.trials(text, planned)
+                self.assertEqual(len(tried), len(set(tried)))
+                self.assertEqual(set(tried), wanted_trials(text))
+                assert planned.plan.all_states is not None
+                self.assertTrue(planned.plan.all_states.are_listed)
+
+    def test_a_plan_in_parts_has_the_same_states_as_in_one(self) -> None:
+        for name, text in trace_texts():
+            whole = self.planned(text)
+            size = len(whole.plan.operations) + 4
+            holes = whole.plan.needs.holes
+            with self.subTest(name), mock.patch.object(limits, 'STATES', size + holes):
+                parts = self.planned(text)
+                self.assertEqual(parts.plan.listed, whole.plan.listed)
+                self.assertEqual(parts.plan.kept, whole.plan.kept)
+
+    def test_the_program_gives_each_state_of_each_part_the_tree_of_its_set(self) -> None:
+        text = (EXAMPLES / 'rights.trace').read_text('utf-8')
+        planned = self.planned(text)
+        size = len(planned.plan.operations) + 4 + planned.plan.needs.holes
+        with mock.patch.object(limits, 'STATES', size):
+            planned = self.planned(text)
+        self.assertGreater(len(planned.parts), 1)
+        program, trees = Crashfs(FAKE, unproved=True), StateList(read(text.encode())).trees
+        found = {}
+        for request in planned.requests(one.number for one in planned.plan.listed):
+            for own, tree in program.trees(request.words):
+                found[own + request.lead] = {path: entry.data for path, entry in tree.items()}
+        for number, kept in planned.plan.kept.items():
+            wanted = {path: item.content for path, item in trees.tree(kept).items()}
+            self.assertEqual(found[number], wanted, number)
+
+    def test_a_program_that_lists_all_is_asked(self) -> None:
+        text = HEADER + creat('/a') + write('/a', 9) + sync('/a') + said('1') + write('/a', 3, 9)
+        for program, is_read in ((FAKE, False), (self.without_every(), True)):
+            planned = self.planned(text, program=program)
+            assert planned.plan.all_states is not None
+            self.assertEqual(planned.plan.all_states.are_read, is_read)
+            self.assertEqual(set(self.trials(text, planned)), wanted_trials(text))
+
+    def without_every(self) -> str:
+        """A program that has no `picks --every`."""
+        lines = '#!/bin/sh\ncase "$*" in *--every*|picks*--help*) echo "error: no" >&2; exit 2;; '
+        return self.write('crashfs', f'{lines}esac\nexec python3 -S {FAKE} "$@"\n', 0o755)
+
+    def test_too_many_states_leave_the_families(self) -> None:
+        text = HEADER + ''.join(creat(f'/{number}') for number in range(8))
+        for most, are_listed in ((256, True), (255, False)):
+            plan = self.planned(text, most).plan
+            assert plan.all_states is not None
+            self.assertEqual(plan.all_states, (256, are_listed, True))
+            families = plan_of(read(text.encode()), holes=True)
+            self.assertEqual(len(plan.listed) > len(families.states) + 30, are_listed)
+
+    def test_more_states_than_a_plan_takes_are_laid_out(self) -> None:
+        """In several picks files, and by the program's own limits."""
+        text = HEADER + ''.join(creat(f'/{number:02}') for number in range(14))
+        log, trace = self.path('log'), self.write('many.trace', text)
+        show = f'echo $CRASHFS_STATE $(ls | tr "\\n" " ") >> {log}'
+        ran = self.run_tool(
+            'crashfs-check', '--every', '--shard', '1/64', trace, '--', 'sh', '-c', show
+        )
+        self.assertEqual(ran.returncode, 0, ran.stderr)
+        self.assertIn('16,384 crash states (16,384 sets): none of the 256 tried', ran.stdout)
+        lines = self.read('log').splitlines()
+        # The tree at the end, which is tried first, isn't in this shard.
+        self.assertEqual(len({tuple(line.split()[1:]) for line in lines}), 257)
+
+
+class Reported(InFolder):
+    def check(self, *words: str, command: str = 'true') -> List[str]:
+        trace = str(EXAMPLES / 'store.trace')
+        ran = self.run_tool('crashfs-check', *words, trace, '--', 'sh', '-c', command)
+        self.assertEqual(ran.stderr, '')
+        return ran.stdout.splitlines()
+
+    def test_the_first_line_counts_all_crash_states(self) -> None:
+        first = 'store.trace: 11 micro-operations, '
+        for words, line in [
+            (['--every'], 'all 13 crash states (21 sets): none fails'),
+            (['--every', '13'], 'all 13 crash states (21 sets): none fails'),
+            (['--every', '12'], '20 states, 13 different: none fails'),
+            (['--families'], '20 states, 13 different: none fails'),
+        ]:
+            self.assertEqual(self.check('--crashfs', FAKE, *words), [first + line])
+        shard = self.check('--crashfs', FAKE, '--every', '--shard', '1/2')
+        self.assertEqual(
+            shard, [first + '13 crash states (21 sets): none of the 7 tried by shard 1/2 fails']
+        )
+
+    def test_the_report_says_who_found_the_states(self) -> None:
+        program = self.write(
+            'crashfs',
+            '#!/bin/sh\ncase "$1 $2" in "picks --help") exit 0;; esac\n'
+            f'exec python3 -S {FAKE} "$@"\n',
+            0o755,
+        )
+        for words, line in [
+            (['--unproved'], 'unproved: a Python program computed these states, not crashfs'),
+            (['--crashfs', program], 'unproved: a Python program found which states there are, '),
+        ]:
+            self.assertIn(line, self.check('--every', *words)[0])
+            self.assertEqual(len(self.check('--every', *words)), 2)
+
+    def test_shards_of_all_states_are_merged(self) -> None:
+        files = [self.path(f'{part}.json') for part in (1, 2)]
+        for part, path in zip(('1/2', '2/2'), files):
+            self.check('--crashfs', FAKE, '--every', '--shard', part, '--json', path)
+        ran = self.run_tool('crashfs-check', '--merge', *files)
+        self.assertEqual(
+            ran.stdout,
+            'store.trace: 11 micro-operations, all 13 crash states (21 sets): none fails\n',
+        )
+
+
+# As LevelDB opens: by the manifest that CURRENT names. The old one names the old log.
+LEVELDB = """#!/bin/sh
+manifest=$(cat CURRENT)
+test -e "$manifest" || { echo "corrupt: CURRENT names no file"; exit 1; }
+test $manifest = MANIFEST-000004 || test -e 000003.log || { echo "lost: a row"; exit 1; }
+"""
+
+
+class TwoLosses(InFolder):
+    def test_a_failure_that_needs_two_losses_is_an_entry_with_both_calls(self) -> None:
+        trace = str(TOOLS / 'tests' / 'data' / 'leveldb.trace')
+        recover = self.write('recover.sh', LEVELDB, 0o755)
+        words = ['--crashfs', FAKE, '--json', self.path('r.json')]
+        ran = self.run_tool('crashfs-check', '--every', *words, trace, '--', recover)
+        lines = ran.stdout.splitlines()
+        self.assertIn('all 190 crash states (297 sets): 78 fail: 52 corrupt, 26 lost', lines[0])
+        self.assertIn('    tried: with that sync 0 of these 52 states are left', ran.stdout)
+        self.assertIn('    lost: a row  ', ran.stdout)
+        corrupt, lost = json.loads(self.read('r.json'))['groups']
+        self.assertEqual(corrupt['lines'], [[19, 20]])
+        self.assertEqual((lost['lines'], lost['lost']), ([[19, 21]], [19, 20]))
+        self.assertEqual((corrupt['explained'], lost['explained']), (52, 26))
+        self.assertTrue(lost['covered'])
+        shown = ' '.join(ran.stdout.split())
+        self.assertIn(
+            'line 19 (rename /000004.dbtmp to /CURRENT) was not durable when line 21', shown
+        )
+        self.assertIn('it fails only if this is lost too: line 20 (unlink /MANIFEST-000002)', shown)
+
+
+if __name__ == '__main__':
+    import unittest
+
+    unittest.main()

@@ -1,0 +1,163 @@
+"""Under which profiles a crash may leave a state: one of the sets that leave it is allowed."""
+
+from __future__ import annotations
+
+import json
+import unittest
+from types import SimpleNamespace
+from typing import Any, Dict, List, Set, Tuple
+
+from crashfs_tools.checker.report.profiles import profiles_text
+from crashfs_tools.checker.states.plan import Planned
+from crashfs_tools.checker.states.planning import Planner
+from crashfs_tools.common.command import Refused
+from crashfs_tools.reading import StateList, read
+from crashfs_tools.reading.every import every_set
+from crashfs_tools.reading.profiles import orders_in
+
+from .support import FAKE, InFolder
+from .test_all_states import OPTIONS, trace_texts
+from .test_windows import HEADER, Reader, creat, said, write
+
+UNLINK = '{"op":"unlink","path":"/a"}\n'
+# A crash may leave /b alone by the rules of ordered too: if /a was made and removed.
+REMOVED = HEADER + creat('/a') + UNLINK + creat('/b') + said('1')
+# The same, of a file that is torn in two places: no family has the sets of ordered that leave it.
+TORN = HEADER + creat('/a') + UNLINK + creat('/b') + write('/b', 3 * 4096)
+# Fails if /b is there, and /a isn't.
+WITHOUT_A = 'test -e a -o ! -e b || { echo lost: a; exit 1; }'
+TreeAndCount = Tuple[object, int]
+
+
+def allowed_trees(text: str) -> Dict[TreeAndCount, Set[str]]:
+    """The profiles of each tree and number of lines, by all sets."""
+    reading = read(text.encode())
+    trees = StateList(reading).trees
+    found: Dict[TreeAndCount, Set[str]] = {}
+    for name, order in orders_in(reading).items():
+        if reading.version < 3:
+            order = order.acknowledged_first(reading)
+        for one in every_set(order):
+            found.setdefault((trees.digest(one), trees.count_says(one)), set()).add(name)
+    return found
+
+
+class Planning(InFolder):
+    def planned(self, text: str, profile: str = '', program: Any = None) -> Planned:
+        options: Any = SimpleNamespace(
+            **OPTIONS, has_every=True, most_states=20_000, profile=profile
+        )
+        guard: Any = SimpleNamespace(directory=self.temporary, environment=None)
+        return Planner(options, program or Reader(), guard).plan(self.write('a.trace', text))
+
+    def trees_of(self, text: str, planned: Planned) -> Dict[TreeAndCount, Set[str]]:
+        trees, plan = StateList(read(text.encode())).trees, planned.plan
+        return {
+            (trees.digest(plan.kept[one.number]), one.says): set(plan.profiles_of(one))
+            for one in plan.states
+        }
+
+    def test_a_state_has_the_profiles_of_all_sets_that_leave_it(self) -> None:
+        for name, text in [*trace_texts(), ('torn', TORN)]:
+            with self.subTest(name):
+                self.assertEqual(self.trees_of(text, self.planned(text)), allowed_trees(text))
+
+    def test_a_state_that_another_set_leaves_in_order(self) -> None:
+        planned = self.planned(REMOVED)
+        firsts = {one.same for one in planned.plan.states if planned.plan.kept[one.number] == 0b100}
+        (first,) = (one for one in planned.plan.states if one.number in firsts and not one.says)
+        self.assertEqual(planned.plan.profiles_of(first), ['blocks', 'ordered'])
+
+    def test_only_the_states_of_a_profile_are_tried(self) -> None:
+        for name, text in [*trace_texts(), ('torn', TORN)]:
+            for profile in ('blocks', 'ordered'):
+                with self.subTest(f'{name} {profile}'):
+                    wanted = {one for one, names in allowed_trees(text).items() if profile in names}
+                    found = self.trees_of(text, self.planned(text, profile))
+                    self.assertEqual(set(found), wanted)
+
+    def test_a_profile_that_a_trace_lacks_is_refused(self) -> None:
+        with self.assertRaisesRegex(Refused, 'the profiles of this trace are blocks, ordered'):
+            self.planned(REMOVED, 'journal')
+
+    def test_profiles_that_the_program_prints_are_taken(self) -> None:
+        planned = self.planned(REMOVED, program=Printing())
+        self.assertEqual(planned.plan.profiles.names, ('blocks', 'ordered'))
+        self.assertEqual(set(planned.plan.profiles.of_sets), {0b11, 0b01})
+        kept = [planned.plan.kept[one.number] for one in planned.plan.listed]
+        wanted = tuple(0b01 if one == 0b1 else 0b11 for one in kept)
+        self.assertEqual(planned.plan.profiles.of_sets, wanted)
+
+
+class Printing(Reader):
+    """A program that prints profiles: it says that the set of the first place is no ordered one."""
+
+    def text(self, words: List[str], _environment: Any = None) -> str:
+        lines = super().text(words).splitlines()
+        if words[0] != 'list':
+            return '\n'.join(lines)
+        found = []
+        for fields in map(json.loads, lines):
+            if 'state' in fields:
+                is_first = fields.get('end', 0) == 1 or fields.get('places') == [0]
+                is_first = is_first and fields['kind'] != 'hole'
+                fields['profiles'] = ['blocks'] if is_first else ['blocks', 'ordered']
+            found.append(json.dumps(fields))
+        return '\n'.join(found)
+
+
+class Reports(InFolder):
+    def check(self, *words: str) -> List[str]:
+        trace = self.write('a.trace', HEADER + creat('/a') + creat('/b') + said('1'))
+        ran = self.run_tool(
+            *('crashfs-check', '--crashfs', FAKE, '--every', *words, trace, '--'),
+            *('sh', '-c', WITHOUT_A),
+        )
+        self.assertEqual(ran.stderr, '')
+        return ran.stdout.splitlines()
+
+    def test_an_entry_names_the_profiles(self) -> None:
+        path = self.path('a.json')
+        lines = self.check('--json', path)
+        self.assertIn('all 8 crash states (8 sets): 2 fail: 2 lost', lines[0])
+        self.assertEqual(lines[-1], '    under blocks; not under ordered')
+        (group,) = json.loads(self.read('a.json'))['groups']
+        self.assertEqual(group['under'], {'blocks': 2, 'ordered': 0})
+        merged = self.run_tool('crashfs-check', '--merge', path)
+        self.assertEqual(merged.stdout.splitlines()[-1], lines[-1])
+
+    def test_what_a_profile_does_not_allow_is_no_failure_in_it(self) -> None:
+        self.assertEqual(
+            self.check('--in', 'ordered'),
+            ['a.trace: 3 micro-operations, all 6 crash states under ordered: none fails'],
+        )
+        shards = [self.path(f'{part}.json') for part in (1, 2)]
+        for part, path in enumerate(shards, 1):
+            self.check('--in', 'ordered', '--shard', f'{part}/2', '--json', path)
+        merged = self.run_tool('crashfs-check', '--merge', *shards)
+        self.assertIn('all 6 crash states under ordered: none fails', merged.stdout)
+
+    def test_the_text_counts_where_not_all_are_allowed(self) -> None:
+        def text(are_all: bool = True, **under: int) -> str:
+            sets = {name: frozenset((it,) for it in range(count)) for name, count in under.items()}
+            group = SimpleNamespace(under=sets, count=max(under.values()))
+            found: Any = group
+            return profiles_text(found, are_all)
+
+        self.assertEqual(text(blocks=3, ordered=3), 'under blocks and ordered')
+        self.assertEqual(
+            text(blocks=3, ordered=2, journal=0),
+            'under blocks: 3 and ordered: 2; not under journal (ext4, XFS)',
+        )
+        self.assertEqual(
+            text(blocks=3, ordered=0, journal=0),
+            'under blocks; not under ordered or journal (ext4, XFS)',
+        )
+        self.assertEqual(
+            text(False, blocks=3, ordered=0),
+            'under blocks; by the sets that were tried not under ordered',
+        )
+
+
+if __name__ == '__main__':
+    unittest.main()
