@@ -72,7 +72,8 @@ module _ (order : List (List Bool)) (back : places.IsBackward (needs_in order)) 
       (Contains-append_right (prefixes (length order)) (holes_of (needs_in order) (length order)) (Hole i (k + 1))
       (contains_flat (holes_at (needs_in order)) (places_below (length order)) k (Hole i (k + 1)) (contains_below (length order) k high)
       (contains_map (λ i. Hole i (k + 1)) (filter (λ i. is_kept (needs_in order) i k) (places_below k)) i
-      (has_contains (filter (λ i. is_kept (needs_in order) i k) (places_below k)) i (chosen_has (λ i. is_kept (needs_in order) i k) k i low ∙ kept)))))
+      (has_contains (filter (λ i. is_kept (needs_in order) i k) (places_below k)) i
+          (chosen_has (λ i. is_kept (needs_in order) i k) k i low ∙ kept)))))
 
   of_sets : (i k : ℕ) (set : List ℕ) → Loses i k set → sets.Loses i k set
   of_sets i k set loses = record {
@@ -92,7 +93,8 @@ module _ (order : List (List Bool)) (back : places.IsBackward (needs_in order)) 
   stays : (i k : ℕ) (set : List ℕ) → IsAllowedIn order set → Loses i k set → is_kept (needs_in order) i k ≡ true
   stays i k set is loses =
       kept_same (needs_in order) i k
-      ∙ lost_is_kept (needs_in order) back (length order) i k set (allowed_same (needs_in order) (length order) set is) (of_sets i k set loses)
+      ∙ lost_is_kept (needs_in order) back (length order) i k set (allowed_same (needs_in order) (length order) set is)
+          (of_sets i k set loses)
 
   below_end : (k : ℕ) (set : List ℕ) → IsAllowedIn order set → Contains set k → k < length order
   below_end k set is here =
@@ -103,7 +105,8 @@ module _ (order : List (List Bool)) (back : places.IsBackward (needs_in order)) 
       let kept = stays i k set is loses in
       (subst (λ (v : List Recipe). Contains v (Hole i (k + 1))) (sym e) (listed picks i k low (below_end k set is loses.has_later) kept),
       subst (Loses i k) (sym (hole_same (needs_in order) i (k + 1)))
-      (to_sets i k (sets.hole (needs_in order) i (k + 1)) (hole_loses (needs_in order) back i k low (sym (kept_same (needs_in order) i k) ∙ kept))))
+      (to_sets i k (sets.hole (needs_in order) i (k + 1)) (hole_loses (needs_in order) back i k low
+          (sym (kept_same (needs_in order) i k) ∙ kept))))
 
   lacks : (i k : ℕ) (set : List ℕ) → IsAllowedIn order set → LosesOne (needs_in order) i k set → sets.LacksOne (needs_in order) i k set
   lacks i k set is one = record {
@@ -112,7 +115,8 @@ module _ (order : List (List Bool)) (back : places.IsBackward (needs_in order)) 
         contains_has set j (there j low t) ∙ sym (sym (kept_same (needs_in order) i j) ∙ t))
         (λ (f : is_kept (needs_in order) i j ≡ false). ⊎_elim
         (λ (m : is_member set j ≡ true).
-        absurd (false≢true (sym f ∙ stays i j set is (record { has_later = has_contains set j m; lacks_earlier = one.loses.lacks_earlier }))))
+        absurd (false≢true (sym f ∙ stays i j set is (record { has_later = has_contains set j m; lacks_earlier = one.loses.lacks_earlier
+            }))))
         (λ (m : is_member set j ≡ false). m ∙ sym (sym (kept_same (needs_in order) i j) ∙ f))
         (cases_Bool (is_member set j)))
         (cases_Bool (is_kept (needs_in order) i j));
@@ -132,5 +136,6 @@ module _ (order : List (List Bool)) (back : places.IsBackward (needs_in order)) 
   has_singles plan picks e i k set low is one =
       let high = below_end k set is one.loses.has_later in
       (subst (λ (v : List Recipe). Contains v (Hole i (k + 1))) (sym e) (listed picks i k low high (stays i k set is one.loses)),
-      lacks_is_hole (needs_in order) back (length order) i k set high (allowed_same (needs_in order) (length order) set is) (lacks i k set is one)
+      lacks_is_hole (needs_in order) back (length order) i k set high (allowed_same (needs_in order) (length order) set is)
+          (lacks i k set is one)
       ∙ sym (hole_same (needs_in order) i (k + 1)))

@@ -11,7 +11,8 @@ use Rattle.cs_picks.specs.declared.sets.PickSets.{PickSets}
 use Rattle.cs_picks.specs.declared.sets.PickSets.TheVariants.{Of, Every, Count, Sample}
 use Rattle.std.proofs.Common.{length}
 
-writes_kept : (s : Scene) (sets : PickSets) (old mid new : Option (List ℕ)) → WritesSets s sets old mid → Keeps mid new → WritesSets s sets old new
+writes_kept : (s : Scene) (sets : PickSets) (old mid new : Option (List ℕ)) → WritesSets s sets old mid → Keeps mid new
+    → WritesSets s sets old new
 writes_kept s (Of family) old mid new written kept = Appends-kept old mid new (picks_text (family_in s family)) written kept
 writes_kept s (Every most) old mid new written kept = (written.0, Appends-kept old mid new (picks_text (every_in s)) written.1 kept)
 writes_kept s Count old mid new written kept = Appends-kept old mid new (count_text (length (every_in s))) written kept

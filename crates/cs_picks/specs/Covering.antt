@@ -19,7 +19,8 @@ pub record LosesOne (needs : ℕ → ℕ → Bool) (i k : ℕ) (places : List �
 
 -- a state of the plan has k and lacks the earlier place i, if an allowed set does
 abbrev pub HasPairs : List (List Bool) → List Recipe → Type 0
-HasPairs order plan = (i k : ℕ) (places : List ℕ) → i < k → IsAllowedIn order places → Loses i k places
+HasPairs order plan = (i k : ℕ) (places : List ℕ) → i < k → IsAllowedIn order places
+    → Loses i k places
     → Contains plan (Hole i (k + 1)) × Loses i k (set_in order (Hole i (k + 1)))
 
 -- each allowed set that loses just one place before its last, and what needs it, is in the plan

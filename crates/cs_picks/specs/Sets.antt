@@ -22,7 +22,8 @@ every_in s = every (needs_in (order_in s)) (length (order_in s))
 -- known bytes grow by what is asked for of a scene's sets
 abbrev pub WritesSets : Scene → PickSets → Option (List ℕ) → Option (List ℕ) → Type 0
 WritesSets s (Of family) old new = Appends old new (picks_text (family_in s family))
-WritesSets s (Every most) old new = (length (every_in s) ≤ most) × Appends old new (picks_text (every_in s))
+WritesSets s (Every most) old new = (length (every_in s) ≤ most)
+    × Appends old new (picks_text (every_in s))
 WritesSets s Count old new = Appends old new (count_text (length (every_in s)))
 WritesSets s (Sample seed count) old new = WritesSample (every_in s) count old new
 
@@ -38,4 +39,5 @@ IsRefused s (Every most) TooMany = ⊥
 IsRefused s (Every most) Memory = Unit {0}
 IsRefused s (Every most) Output = Unit {0}
 IsRefused s Count fault = IsUncounted (needs_in (order_in s)) (length (order_in s)) fault
-IsRefused s (Sample seed count) fault = IsUndrawn (needs_in (order_in s)) (length (order_in s)) fault
+IsRefused s (Sample seed count) fault = IsUndrawn (needs_in (order_in s)) (length (order_in s))
+    fault

@@ -97,7 +97,8 @@ module _ (rows : List Row) (old now : ℕ → Bool) (place : ℕ) (low : 0 < pla
     last = λ k from to. none k (omega (arith, from, low)) to;
   }
 
-  pub added : (new : ℕ → Bool) → now (place - 1) ≡ false → ((k : ℕ) → new k ≡ (k == place - 1 || now k)) → (i : ℕ) → new i ≡ cut_with old (place - 1) i
+  pub added : (new : ℕ → Bool) → now (place - 1) ≡ false → ((k : ℕ) → new k ≡ (k == place - 1 || now k)) → (i : ℕ) → new i
+      ≡ cut_with old (place - 1) i
   added new f is i = is i ∙ ap (λ b. i == place - 1 || b) (cut_same old now place low cut f i)
 
 -- ---- what comes after a set
@@ -151,7 +152,8 @@ step_set needs back n old new is false w = record {
   closed = λ i j under t s. absurd (false≢true (sym (w.1 j) ∙ t));
 }
 
-pub last_empty : (needs : ℕ → ℕ → Bool) (n : ℕ) (old : ℕ → Bool) (new : Row) (more : Bool) → IsAdded needs n old (has_place new) more → more ≡ false
+pub last_empty : (needs : ℕ → ℕ → Bool) (n : ℕ) (old : ℕ → Bool) (new : Row) (more : Bool) → IsAdded needs n old (has_place new) more → more
+    ≡ false
     → places_of new ≡ []
 last_empty needs n old new true w e = absurd (false≢true (sym e))
 last_empty needs n old new false w e = none_read new w.1

@@ -52,7 +52,8 @@ same_bits a b same m i low =
     let j = m * 64 + i in
     let at : j / 64 ≡ m = omega (arith, low) in
     let bit : j % 64 ≡ i = omega (arith, low) in
-    same_bit (bit_at (get_or a.words m 0) i) (bit_at (get_or b.words m 0) i) (bit_at-lt (get_or a.words m 0) i) (bit_at-lt (get_or b.words m 0) i)
+    same_bit (bit_at (get_or a.words m 0) i) (bit_at (get_or b.words m 0) i) (bit_at-lt (get_or a.words m 0) i)
+        (bit_at-lt (get_or b.words m 0) i)
     (sym (ap (λ v. bit_at (get_or a.words v 0) (j % 64) == 1) at ∙ ap (λ v. bit_at (get_or a.words m 0) v == 1) bit)
     ∙ same j
     ∙ (ap (λ v. bit_at (get_or b.words v 0) (j % 64) == 1) at ∙ ap (λ v. bit_at (get_or b.words m 0) v == 1) bit))
@@ -60,7 +61,8 @@ same_bits a b same m i low =
 pub same_words : (a b : Row) → IsSound a → IsSound b → ((j : ℕ) → has_place a j ≡ has_place b j) → a.words ≡ b.words
 same_words a b one other same =
     ext_get_or 0 a.words b.words (one.long ∙ sym other.long)
-    (λ m l. same_from_bits_below 64 (get_or a.words m 0) (get_or b.words m 0) (one.words m (few m l)) (other.words m (few m l)) (same_bits a b same m))
+    (λ m l. same_from_bits_below 64 (get_or a.words m 0) (get_or b.words m 0) (one.words m (few m l)) (other.words m (few m l))
+        (same_bits a b same m))
   where
     few : (m : ℕ) → m < length a.words → m < 16
     few m l = omega (arith, l, one.long)
@@ -197,7 +199,8 @@ module _ (needs : ℕ → ℕ → Bool) (n k : ℕ) (low : k < n) (left : Row) (
     future = λ j high few. is j ∙ other_place (lacking needs k (has_place left) j) j k high
         ∙ future_without needs n k at.places (has_place left) at.below at.future j high few;
     none = λ j few. is j ∙ ⊎_elim
-        (λ (e : j ≡ k). ap (λ b. lacking needs k (has_place left) j && not b) (eq-eqb j k e) ∙ and_false (lacking needs k (has_place left) j))
+        (λ (e : j ≡ k). ap (λ b. lacking needs k (has_place left) j && not b) (eq-eqb j k e)
+            ∙ and_false (lacking needs k (has_place left) j))
         (λ (ne : j ≡ k → ⊥). ap (λ b. (b && not (needs k j)) && not (j == k)) (at.none j (omega (arith, few, ne))))
         (cases_eq j k);
     within = λ j high. is j ∙ ap (λ b. (b && not (needs k j)) && not (j == k)) (at.within j high);
@@ -281,7 +284,8 @@ rises_more rows last row so_far not_less other =
       rising = ordered_append Before rows (row ∷ []) so_far.rising (All-nil (Before row), tt)
           (All-weaker (λ a. Before a row) (λ a. All (Before a) (row ∷ []))
           (λ a h. All-cons (Before a) row [] h (All-nil (Before a))) rows all);
-      upto = All-push (λ a. Before a row ⊎ (a ≡ row)) rows row (All-weaker (λ a. Before a row) (λ a. Before a row ⊎ (a ≡ row)) (λ a h. inl h) rows all)
+      upto = All-push (λ a. Before a row ⊎ (a ≡ row)) rows row (All-weaker (λ a. Before a row) (λ a. Before a row ⊎ (a ≡ row))
+          (λ a h. inl h) rows all)
           (inr refl);
       some = omega (arith, length-append rows (row ∷ []));
       ends = λ d. get_or_push rows row d (length (rows ++ row ∷ []) - 1) (omega (arith, length-append rows (row ∷ [])));
@@ -394,6 +398,7 @@ module _ (needs : ℕ → ℕ → Bool) (back : IsBackward needs) (n most : ℕ)
         inside = is.inside;
         sets = is.sets;
         many = is.many;
-        allowed = All-weaker (Contains (every (by_chain needs) is.place)) (IsAllowed needs is.place) (member_allowed is.place) is.sets is.members;
+        allowed = All-weaker (Contains (every (by_chain needs) is.place)) (IsAllowed needs is.place) (member_allowed is.place) is.sets
+            is.members;
         apart = is.apart;
       }

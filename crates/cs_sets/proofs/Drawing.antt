@@ -61,7 +61,8 @@ lacks_none needs k has end none i l u = ap (λ b. b && not (needs k i)) (none i 
 
 module _ (needs : ℕ → ℕ → Bool) (chained : IsTransitive needs) (n most : ℕ) (some : 0 < most) where
   -- nothing is left: only the set itself
-  pub one_left : (left : Row) (first : ℕ) → HasNone (has_place left) 0 first → HasNone (has_place left) first n → IsCount needs n most left 1
+  pub one_left : (left : Row) (first : ℕ) → HasNone (has_place left) 0 first → HasNone (has_place left) first n
+      → IsCount needs n most left 1
   one_left left first low high k places inside none at =
       let all = none_joined (has_place left) first n low high in
       let e = ap length (ends needs chained n k places (has_place left) inside at (λ i l u. all i (omega arith) u)) in
@@ -91,14 +92,16 @@ module _ (needs : ℕ → ℕ → Bool) (chained : IsTransitive needs) (n most :
 
     module _ (without : Row) (out : (i : ℕ) → has_place without i ≡ (lacking needs place (has_place left) i && not (i == place))) where
       pub none_without : HasNone (has_place without) 0 (place + 1)
-      none_without = none_after (lacking needs place (has_place left)) (has_place without) place (lacks_none needs place (has_place left) place before) out
+      none_without = none_after (lacking needs place (has_place left)) (has_place without) place
+          (lacks_none needs place (has_place left) place before) out
 
       pub fewer_is : (fewer : ℕ) → IsCount needs n most without fewer → (k : ℕ) (places : List ℕ) → HasNone (has_place left) 0 k
           → IsAt needs n k places (has_place left) → fewer ≡ min (length (extending needs (n - (place + 1)) (place + 1) places)) most
       fewer_is fewer count k places under at =
           let to = next.before_end in
           count (place + 1) places (omega (arith, to)) none_without
-          (still_at needs n place places (lacking needs place (has_place left)) (has_place without) out (step_from k places under at).without)
+          (still_at needs n place places (lacking needs place (has_place left)) (has_place without) out
+              (step_from k places under at).without)
 
     module _ (kept : Row) (within : (i : ℕ) → has_place kept i ≡ (has_place left i && not (i == place))) where
       pub none_kept : HasNone (has_place kept) 0 (place + 1)
@@ -115,7 +118,8 @@ module _ (needs : ℕ → ℕ → Bool) (chained : IsTransitive needs) (n most :
     -- those without the place, and those with it
     pub both_counted : (without : Row) → ((i : ℕ) → has_place without i ≡ (lacking needs place (has_place left) i && not (i == place)))
         → (kept : Row) → ((i : ℕ) → has_place kept i ≡ (has_place left i && not (i == place))) → (fewer more count : ℕ)
-        → IsCount needs n most without fewer → IsCount needs n most kept more → count ≡ min (fewer + more) most → IsCount needs n most left count
+        → IsCount needs n most without fewer → IsCount needs n most kept more → count ≡ min (fewer + more) most
+            → IsCount needs n most left count
     both_counted without out kept within fewer more count f m e k places inside under at =
         let one = extending needs (n - (place + 1)) (place + 1) places in
         let two = extending needs (n - (place + 1)) (place + 1) (places ++ place ∷ []) in
@@ -126,7 +130,8 @@ module _ (needs : ℕ → ℕ → Bool) (chained : IsTransitive needs) (n most :
 
 -- one count more is known
 pub count_known : (needs : ℕ → ℕ → Bool) (n most : ℕ) (known now : Row → Option ℕ) (left : Row) (count : ℕ) → AreCounts needs n most known
-    → IsCount needs n most left count → ((q : Row) → now q ≡ cond (is_at (row_cmp left) q) (Some count) (known q)) → AreCounts needs n most now
+    → IsCount needs n most left count → ((q : Row) → now q ≡ cond (is_at (row_cmp left) q) (Some count) (known q))
+        → AreCounts needs n most now
 count_known needs n most known now left count all is updated q = ⊎_elim
     (λ (t : is_at (row_cmp left) q ≡ true).
     subst (λ o. IfSome o (IsCount needs n most q)) (sym (updated q ∙ ap (λ b. cond b (Some count) (known q)) t))
@@ -202,7 +207,8 @@ module _ (needs : ℕ → ℕ → Bool) (chained : IsTransitive needs) (n most n
         let s : place + 1 ≡ suc place = omega arith in
         let e : place ≡ old.first + (place - old.first) = omega (arith, from) in
         ap (chosen (has_place members)) s
-        ∙ chosen_with (has_place members) place (added place ∙ or_left (place == place) (has_place old.members place) (eq-eqb place place refl))
+        ∙ chosen_with (has_place members) place (added place ∙ or_left (place == place) (has_place old.members place)
+            (eq-eqb place place refl))
         ∙ ap (λ v. v ++ place ∷ [])
         (chosen_same (has_place members) (has_place old.members) place
         (λ i low. added i ∙ ap (λ b. b || has_place old.members i) (ne_eqb i place (λ q. omega (arith, low, q))))

@@ -28,7 +28,8 @@ abbrev pub leave_alike : {S : Type 0} → (S → S → Bool) → (S → ℕ → 
 leave_alike like act start a b = like (state_of act start a) (state_of act start b)
 
 -- the members that leave what no earlier one leaves
-abbrev pub different : {S : Type 0} → (S → S → Bool) → (S → ℕ → S) → S → (ℕ → ℕ → Bool) → ℕ → List (List ℕ)
+abbrev pub different : {S : Type 0} → (S → S → Bool) → (S → ℕ → S) → S → (ℕ → ℕ → Bool) → ℕ
+    → List (List ℕ)
 different like act start needs n = firsts (leave_alike like act start) (every needs n)
 
 -- the places from k on that may follow are the same
@@ -37,12 +38,14 @@ same_future needs n k a b =
     list_all (λ j. same_answer (may needs k a j) (may needs k b j)) (range_with_len k (n - k))
 
 -- two sets of places below k are of one class: equal states, and equal futures
-abbrev pub one_class : {S : Type 0} → (S → S → Bool) → (S → ℕ → S) → S → (ℕ → ℕ → Bool) → ℕ → ℕ → List ℕ → List ℕ → Bool
+abbrev pub one_class : {S : Type 0} → (S → S → Bool) → (S → ℕ → S) → S → (ℕ → ℕ → Bool) → ℕ → ℕ
+    → List ℕ → List ℕ → Bool
 one_class same act start needs n k a b =
     same (state_of act start a) (state_of act start b) && same_future needs n k a b
 
 -- the first set of each class of sets of places below k, found place by place
-abbrev pub classes : {S : Type 0} → (S → S → Bool) → (S → ℕ → S) → S → (ℕ → ℕ → Bool) → ℕ → ℕ → List (List ℕ)
+abbrev pub classes : {S : Type 0} → (S → S → Bool) → (S → ℕ → S) → S → (ℕ → ℕ → Bool) → ℕ → ℕ
+    → List (List ℕ)
 classes same act start needs n zero = [] ∷ []
 classes same act start needs n (suc k) =
     firsts (one_class same act start needs n (suc k))

@@ -20,7 +20,8 @@ row_cmp a b = slice_cmp nat_cmp a.words b.words
 -- so many sets extend each set with this future, or more than are told apart
 abbrev pub IsCount : (ℕ → ℕ → Bool) → ℕ → ℕ → Row → ℕ → Type 0
 IsCount needs n most left count = (k : ℕ) (places : List ℕ) → k ≤ n → HasNone (has_place left) 0 k
-    → IsAt needs n k places (has_place left) → count ≡ min (length (extending needs (n - k) k places)) most
+    → IsAt needs n k places (has_place left) → count
+        ≡ min (length (extending needs (n - k) k places)) most
 
 -- a table of futures has their counts
 abbrev pub AreCounts : (ℕ → ℕ → Bool) → ℕ → ℕ → (Row → Option ℕ) → Type 0
@@ -30,12 +31,16 @@ AreCounts needs n most known = (left : Row) → IfSome (known left) (IsCount nee
 pub record IsDraw (needs : ℕ → ℕ → Bool) (n most number : ℕ) (draw : Draw) : Type 0 where
   pub inside : draw.first ≤ n
   pub none : HasNone (has_place draw.left) 0 draw.first
-  pub at : IsAt needs n draw.first (chosen (has_place draw.members) draw.first) (has_place draw.left)
+  pub at : IsAt needs n draw.first (chosen (has_place draw.members) draw.first)
+      (has_place draw.left)
   pub within : IsWithin draw.first draw.members
-  pub few : length (extending needs (n - draw.first) draw.first (chosen (has_place draw.members) draw.first)) < most
-  pub low : draw.rest < length (extending needs (n - draw.first) draw.first (chosen (has_place draw.members) draw.first))
+  pub few : length (extending needs (n - draw.first) draw.first
+      (chosen (has_place draw.members) draw.first)) < most
+  pub low : draw.rest < length (extending needs (n - draw.first) draw.first
+      (chosen (has_place draw.members) draw.first))
   pub is : slice_index_or (every needs n) number []
-      ≡ slice_index_or (extending needs (n - draw.first) draw.first (chosen (has_place draw.members) draw.first)) draw.rest []
+      ≡ slice_index_or (extending needs (n - draw.first) draw.first
+          (chosen (has_place draw.members) draw.first)) draw.rest []
 
 -- all is counted, and a table has counts by futures
 pub record IsTable (needs : ℕ → ℕ → Bool) (n count : ℕ) (known : Row → Option ℕ) : Type 0 where

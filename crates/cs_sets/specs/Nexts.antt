@@ -8,7 +8,8 @@ use Rattle.cs_sets.specs.Places.{IsSet, places_of}
 -- the last place that can be added is, and nothing is beyond it; or there is none, and nothing is
 -- left
 abbrev pub IsAdded : (ℕ → ℕ → Bool) → ℕ → (ℕ → Bool) → (ℕ → Bool) → Bool → Type 0
-IsAdded needs n old new true = (k : ℕ) × (IsLastFree needs old n k × ((i : ℕ) → new i ≡ cut_with old k i))
+IsAdded needs n old new true = (k : ℕ) × (IsLastFree needs old n k
+    × ((i : ℕ) → new i ≡ cut_with old k i))
 IsAdded needs n old new false = HasNoneFree needs old 0 n × ((i : ℕ) → new i ≡ false)
 
 -- the members from a set on, if there is one

@@ -20,7 +20,8 @@ AreReach rows reach n = (k i : ℕ) → k < n → bit_in reach i k ≡ by_chain 
 -- rows of what needs a place, of rows of what a place needs
 pub record AreColumns (rows columns : List Row) : Type 0 where
   pub long : length columns ≡ length rows
-  pub each : (i j : ℕ) → i < length rows → needed_in columns i j ≡ (nat_lt j (length rows) && bit_in rows i j)
+  pub each : (i j : ℕ) → i < length rows → needed_in columns i j
+      ≡ (nat_lt j (length rows) && bit_in rows i j)
 
 pub record IsOrder (rows reach : List Row) : Type 0 where
   pub few : length rows ≤ 1024

@@ -11,7 +11,8 @@ use std::alloc::{AllocError, Global};
 fn needed_row(rows: &[Row], place: usize) -> Row
     requires few { length rows.now ≤ MICRO_OPERATIONS }
     requires inside { place < length rows.now }
-    ensures { (j : ℕ) → has_place result j ≡ (nat_lt j (length rows.now) && bit_in rows.now place j) }
+    ensures { (j : ℕ)
+        → has_place result j ≡ (nat_lt j (length rows.now) && bit_in rows.now place j) }
 {
     let mut needed = Row::empty();
     for j in 0..rows.len() {

@@ -83,7 +83,8 @@ any_at p m k low is =
     (let e : get_or (range_with_len 0 k) m 0 ≡ m =
     omega (arith, get_or-range_with_len 0 k m 0 low) in ap p e ∙ is)
 
-pub any_in : (p : ℕ → Bool) (a k : ℕ) → list_any p (range_with_len a k) ≡ true → (m : ℕ) × (p m ≡ true)
+pub any_in : (p : ℕ → Bool) (a k : ℕ) → list_any p (range_with_len a k) ≡ true → (m : ℕ)
+    × (p m ≡ true)
 any_in p a zero is = absurd (false≢true is)
 any_in p a (suc k) is =
     ⊎_elim (λ (t : p a ≡ true). (a, t))

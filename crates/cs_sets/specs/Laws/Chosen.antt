@@ -8,7 +8,8 @@ use Rattle.cs_sets.specs.Places.{IsWithin, places_of}
 use Rattle.cs_sets.specs.Laws.Following.{chosen_on, chosen_same, chosen_with}
 
 -- what passes below k, and k, as a list
-pub cut_chosen : (has : ℕ → Bool) (n k : ℕ) → k < n → chosen (cut_with has k) n ≡ chosen has k ++ k ∷ []
+pub cut_chosen : (has : ℕ → Bool) (n k : ℕ) → k < n → chosen (cut_with has k) n
+    ≡ chosen has k ++ k ∷ []
 cut_chosen has n k low =
     let e : n ≡ suc k + (n - suc k) = omega (arith, low) in
     ap (chosen (cut_with has k)) e
@@ -24,11 +25,13 @@ cut_chosen has n k low =
     refl_k : k ≡ k
     refl_k = omega arith
 
-pub places_read : (row : Row) (n : ℕ) → n ≤ 1024 → IsWithin n row → places_of row ≡ chosen (has_place row) n
+pub places_read : (row : Row) (n : ℕ) → n ≤ 1024 → IsWithin n row → places_of row
+    ≡ chosen (has_place row) n
 unfolding places_of
 places_read row n few within =
     let e : 1024 ≡ n + (1024 - n) = omega (arith, few) in
-    ap (chosen (has_place row)) e ∙ chosen_on (has_place row) n (1024 - n) (λ i low high. within i low)
+    ap (chosen (has_place row)) e ∙ chosen_on (has_place row) n (1024 - n)
+        (λ i low high. within i low)
 
 pub none_read : (row : Row) → ((k : ℕ) → has_place row k ≡ false) → places_of row ≡ []
 none_read row none = places_read row 0 (omega arith) (λ k low. none k)

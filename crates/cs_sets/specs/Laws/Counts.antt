@@ -10,7 +10,8 @@ use Rattle.cs_sets.specs.Laws.Lists.{flat_twice, flat_single}
 use Rattle.cs_sets.specs.Laws.Members.{IsBelow, may_without, may_with, member_push}
 
 -- the members are those that extend the members of the first k places
-pub every_extends : (needs : ℕ → ℕ → Bool) (m k : ℕ) → every needs (k + m) ≡ flat_map (extending needs m k) (every needs k)
+pub every_extends : (needs : ℕ → ℕ → Bool) (m k : ℕ) → every needs (k + m)
+    ≡ flat_map (extending needs m k) (every needs k)
 every_extends needs zero k =
     let e : k + 0 ≡ k = omega arith in ap (every needs) e ∙ sym (flat_single (every needs k))
 every_extends needs (suc m) k =
@@ -26,13 +27,17 @@ every_is needs n =
     ap (every needs) e ∙ every_extends needs n 0 ∙ append-nil (extending needs n 0 [])
 
 -- a step of the walk, by whether the set may have k
-pub extending_with : (needs : ℕ → ℕ → Bool) (m k : ℕ) (places : List ℕ) → may needs k places k ≡ true
-    → extending needs (suc m) k places ≡ extending needs m (k + 1) places ++ extending needs m (k + 1) (places ++ k ∷ [])
+pub extending_with : (needs : ℕ → ℕ → Bool) (m k : ℕ) (places : List ℕ) → may needs k places k
+    ≡ true
+    → extending needs (suc m) k places ≡ extending needs m (k + 1) places ++ extending needs m
+        (k + 1) (places ++ k ∷ [])
 extending_with needs m k places t =
     ap (λ b. flat_map (extending needs m (k + 1)) (places ∷ cond b ((places ++ k ∷ []) ∷ []) [])) t
-    ∙ ap (λ v. extending needs m (k + 1) places ++ v) (append-nil (extending needs m (k + 1) (places ++ k ∷ [])))
+    ∙ ap (λ v. extending needs m (k + 1) places ++ v)
+        (append-nil (extending needs m (k + 1) (places ++ k ∷ [])))
 
-pub extending_without : (needs : ℕ → ℕ → Bool) (m k : ℕ) (places : List ℕ) → may needs k places k ≡ false
+pub extending_without : (needs : ℕ → ℕ → Bool) (m k : ℕ) (places : List ℕ) → may needs k places k
+    ≡ false
     → extending needs (suc m) k places ≡ extending needs m (k + 1) places
 extending_without needs m k places f =
     ap (λ b. flat_map (extending needs m (k + 1)) (places ∷ cond b ((places ++ k ∷ []) ∷ []) [])) f
@@ -40,14 +45,18 @@ extending_without needs m k places f =
 
 -- ---- futures
 
-pub future_without : (needs : ℕ → ℕ → Bool) (n k : ℕ) (places : List ℕ) (has : ℕ → Bool) → IsBelow k places → IsFuture needs n k places has
+pub future_without : (needs : ℕ → ℕ → Bool) (n k : ℕ) (places : List ℕ) (has : ℕ → Bool)
+    → IsBelow k places → IsFuture needs n k places has
     → IsFuture needs n (k + 1) places (lacking needs k has)
 future_without needs n k places has below is j high low =
-    ap (λ b. b && not (needs k j)) (is j (omega (arith, high)) low) ∙ sym (may_without needs k places j below)
+    ap (λ b. b && not (needs k j)) (is j (omega (arith, high)) low)
+        ∙ sym (may_without needs k places j below)
 
-pub future_with : (needs : ℕ → ℕ → Bool) (n k : ℕ) (places : List ℕ) (has : ℕ → Bool) → IsFuture needs n k places has
+pub future_with : (needs : ℕ → ℕ → Bool) (n k : ℕ) (places : List ℕ) (has : ℕ → Bool)
+    → IsFuture needs n k places has
     → IsFuture needs n (k + 1) (places ++ k ∷ []) has
-future_with needs n k places has is j high low = is j (omega (arith, high)) low ∙ sym (may_with needs k places j)
+future_with needs n k places has is j high low = is j (omega (arith, high)) low
+    ∙ sym (may_with needs k places j)
 
 pub below_more : (k : ℕ) (places : List ℕ) → IsBelow k places → IsBelow (k + 1) places
 below_more k places below i t = (let l = below i t in omega (arith, l))
@@ -59,41 +68,50 @@ below_push k places below i t = ⊎_elim
     (or_cases (is_member places i) (k == i) (sym (member_push places k i) ∙ t))
 
 -- the count depends on the future alone
-pub count_is : (needs : ℕ → ℕ → Bool) (n m k : ℕ) (places : List ℕ) (has : ℕ → Bool) → k + m ≡ n → IsBelow k places
+pub count_is : (needs : ℕ → ℕ → Bool) (n m k : ℕ) (places : List ℕ) (has : ℕ → Bool) → k + m ≡ n
+    → IsBelow k places
     → IsFuture needs n k places has → length (extending needs m k places) ≡ count needs m k has
 count_is needs n zero k places has e below is = refl
 count_is needs n (suc m) k places has e below is =
-    let without = count_is needs n m (k + 1) places (lacking needs k has) (omega (arith, e)) (below_more k places below)
+    let without = count_is needs n m (k + 1) places (lacking needs k has) (omega (arith, e))
+        (below_more k places below)
     (future_without needs n k places has below is) in
     ⊎_elim
     (λ (t : may needs k places k ≡ true).
-    (let more = count_is needs n m (k + 1) (places ++ k ∷ []) has (omega (arith, e)) (below_push k places below)
+    (let more = count_is needs n m (k + 1) (places ++ k ∷ []) has (omega (arith, e))
+        (below_push k places below)
     (future_with needs n k places has is) in
     let here : has k ≡ true = is k (omega arith) (omega (arith, e)) ∙ t in
     ap length (extending_with needs m k places t)
-    ∙ length-append (extending needs m (k + 1) places) (extending needs m (k + 1) (places ++ k ∷ []))
+    ∙ length-append (extending needs m (k + 1) places)
+        (extending needs m (k + 1) (places ++ k ∷ []))
     ∙ ap (λ x. x + length (extending needs m (k + 1) (places ++ k ∷ []))) without
     ∙ ap (λ x. count needs m (k + 1) (lacking needs k has) + x) more
-    ∙ ap (λ b. count needs m (k + 1) (lacking needs k has) + cond b (count needs m (k + 1) has) 0) (sym here)))
+    ∙ ap (λ b. count needs m (k + 1) (lacking needs k has) + cond b (count needs m (k + 1) has) 0)
+        (sym here)))
     (λ (f : may needs k places k ≡ false).
     (let here : has k ≡ false = is k (omega arith) (omega (arith, e)) ∙ f in
     ap length (extending_without needs m k places f) ∙ without
     ∙ add_none (count needs m (k + 1) (lacking needs k has))
-    ∙ ap (λ b. count needs m (k + 1) (lacking needs k has) + cond b (count needs m (k + 1) has) 0) (sym here)))
+    ∙ ap (λ b. count needs m (k + 1) (lacking needs k has) + cond b (count needs m (k + 1) has) 0)
+        (sym here)))
     (cases_Bool (may needs k places k))
   where
     add_none : (x : ℕ) → x ≡ x + 0
     add_none x = omega arith
 
 -- nothing below 0 is needed, so all places are the first future
-pub all_at_first : (needs : ℕ → ℕ → Bool) (n : ℕ) (has : ℕ → Bool) → ((j : ℕ) → j < n → has j ≡ true) → IsFuture needs n 0 [] has
+pub all_at_first : (needs : ℕ → ℕ → Bool) (n : ℕ) (has : ℕ → Bool)
+    → ((j : ℕ) → j < n → has j ≡ true) → IsFuture needs n 0 [] has
 unfolding may
 all_at_first needs n has all j high low = all j low
 
 pub none_below : IsBelow 0 []
 none_below i t = absurd (false≢true t)
 
-pub every_counts : (needs : ℕ → ℕ → Bool) (n : ℕ) → length (every needs n) ≡ count needs n 0 (λ j. true)
+pub every_counts : (needs : ℕ → ℕ → Bool) (n : ℕ) → length (every needs n)
+    ≡ count needs n 0 (λ j. true)
 every_counts needs n =
     ap length (every_is needs n)
-    ∙ count_is needs n n 0 [] (λ j. true) (omega arith) none_below (all_at_first needs n (λ j. true) (λ j low. refl))
+    ∙ count_is needs n n 0 [] (λ j. true) (omega arith) none_below
+        (all_at_first needs n (λ j. true) (λ j low. refl))

@@ -13,3 +13,13 @@ pub returns-in-Files-clause-allowed : goal.returns-in-Files-clause-allowed
 returns-in-Files-clause-allowed g c =
     family_good c.args.scene.now c.args.family
     (subst (λ (order : List (List Bool)). IsBackward (needs_in order)) c.order-order.ensures.value c.len.ensures.backward)
+
+pub returns-in_err-write_lost-in-Both-clause-allowed : goal.returns-in_err-write_lost-in-Both-clause-allowed
+returns-in_err-write_lost-in-Both-clause-allowed g c =
+    family_good c.args.scene.now c.args.family
+    (subst (λ (order : List (List Bool)). IsBackward (needs_in order)) c.order-order.ensures.value c.len.ensures.backward)
+
+pub returns-in_ok-write_lost-in-Both-clause-allowed : goal.returns-in_ok-write_lost-in-Both-clause-allowed
+returns-in_ok-write_lost-in-Both-clause-allowed g c =
+    family_good c.args.scene.now c.args.family
+    (subst (λ (order : List (List Bool)). IsBackward (needs_in order)) c.order-order.ensures.value c.len.ensures.backward)

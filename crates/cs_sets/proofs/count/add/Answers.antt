@@ -40,7 +40,8 @@ returns-then-eq-clause-rises c =
     let rows : c.index-last.result.now.left ≡ c.args.future.now.left =
     ap (λ f. f.left) same ∙ ap (λ w. (let r : Row = record { words = w } in r)) words in
     λ last so_far not_less.
-    rises_same futures at (record { left = c.index-last.result.now.left; sets = c.min-sets.result }) c.args.future.now c.index-last.result.now last so_far
+    rises_same futures at (record { left = c.index-last.result.now.left; sets = c.min-sets.result }) c.args.future.now
+        c.index-last.result.now last so_far
     end low (ap (λ f. f.left) c.index-last.ensures) rows
 
 pub returns-clause-rises : goal.returns-clause-rises

@@ -8,7 +8,8 @@ use Rattle.cs_sets.proofs.count.merge.Given as goal
 
 abbrev pub invariant-loop-future : goal.invariant-loop-future
 invariant-loop-future l = record {
-  weight : (needs : ℕ → ℕ → Bool) (m k : ℕ) → Capped l.most (weigh needs m k l.merged.items) (weigh needs m k (take l.future-index l.futures));
+  weight : (needs : ℕ → ℕ → Bool) (m k : ℕ) → Capped l.most (weigh needs m k l.merged.items)
+      (weigh needs m k (take l.future-index l.futures));
   reached : (needs : ℕ → ℕ → Bool) (n k : ℕ) → AreReached needs n k l.futures → AreReached needs n k l.merged.items;
   merged : IsSortedByKey left_of row_cmp l.futures → IsMerged l.futures l.future-index l.merged.items;
 }

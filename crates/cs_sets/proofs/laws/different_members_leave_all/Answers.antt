@@ -27,8 +27,10 @@ returns c = record {
       (w.1, ((w.0, w.2, w.3), w.4));
   apart = λ act start like needs n fine.
       let leaves : List ℕ → List ℕ → Bool = λ a b. like (state_of act start a) (state_of act start b) in
-      all_pairs (λ a b. leaves a b ≡ false) (firsts leaves (every needs n)) (apart leaves (leaves_like act start like fine) (every needs n) [] tt);
+      all_pairs (λ a b. leaves a b ≡ false) (firsts leaves (every needs n))
+          (apart leaves (leaves_like act start like fine) (every needs n) [] tt);
   allowed = λ act start like needs n back fine.
       let leaves : List ℕ → List ℕ → Bool = λ a b. like (state_of act start a) (state_of act start b) in
-      kept_all leaves (leaves_like act start like fine) (IsAllowed needs n) (every needs n) [] (each_allowed needs back n) (All-nil (IsAllowed needs n));
+      kept_all leaves (leaves_like act start like fine) (IsAllowed needs n) (every needs n) [] (each_allowed needs back n)
+          (All-nil (IsAllowed needs n));
 }

@@ -17,9 +17,11 @@ returns-then-is_within c =
     let out = sym c.has_place.ensures ∙ c.if-has_place.false in (
       place - 1,
       (
-        adds rows old now place t (omega (arith, t, high)) (record { words = [] }) c.requires.backward inv.left (length rows) high inv.none out
+        adds rows old now place t (omega (arith, t, high)) (record { words = [] }) c.requires.backward inv.left (length rows) high inv.none
+            out
             (c.is_within.ensures.0 c.if-is_within.true),
-        added rows old now place t (omega (arith, t, high)) (record { words = [] }) c.requires.backward inv.left (has_place c.set.new.self) out c.set.ensures,
+        added rows old now place t (omega (arith, t, high)) (record { words = [] }) c.requires.backward inv.left (has_place c.set.new.self)
+            out c.set.ensures,
       ),
     )
 
