@@ -127,9 +127,6 @@ module _ (needs : ℕ → ℕ → Bool) (n k : ℕ) (inside : k ≤ n) where
       → future_of needs n k x.places ≢ future_of needs n k y.places
   apart_rows a b x y before e = not_before a b (same_words a b x.sound y.sound (same_places a b x y e)) before
 
-  reached : Future → Type 0
-  reached f = IsReached needs n k f.left
-
   sets_of : (futures : List Future) → AreReached needs n k futures → List (List ℕ)
   sets_of [] all = []
   sets_of (f ∷ fs) all =
@@ -333,9 +330,6 @@ last_left futures at last d so_far is =
     let long : length (lefts futures) ≡ length futures = length-map futures left_of in
     let f : length (lefts futures) - 1 ≡ at = omega (arith, long, is) in
     sym (so_far.ends d.left) ∙ ap (λ i. get_or (lefts futures) i d.left) f ∙ get_or-map left_of futures at d
-
-pub none_risen : (last : Row) → RisesTo [] last → ⊥
-none_risen last so_far = let s = so_far.some in omega (arith, s)
 
 -- what is merged so far of ascending futures
 pub record IsMerged (futures : List Future) (i : ℕ) (merged : List Future) : Type 0 where
