@@ -17,7 +17,7 @@ use Rattle.cs_plan.proofs.Orders.{length_order}
 use Rattle.cs_plan.specs.Plans.{IsAllowedIn}
 use Rattle.cs_plan.specs.Scenes.{Scene, micros_of, order_in}
 use Rattle.cs_picks.specs.declared.family.Family.{Family}
-use Rattle.cs_picks.specs.declared.family.Family.TheVariants.{Lost, Files}
+use Rattle.cs_picks.specs.declared.family.Family.TheVariants.{Both, Files, Lost}
 use Rattle.cs_picks.specs.Families.{family_in, files_sets, is_needed, least_with, lost_sets, prefix_sets, sets_without}
 use Rattle.cs_picks.specs.Left.{is_given, left_of, lost_places, stays}
 use Rattle.cs_picks.specs.Losses.{losses_of, lost_at}
@@ -101,3 +101,6 @@ files_good m order long back =
 pub family_good : (s : Scene) (family : Family) → IsBackward (needs_in (order_in s)) → All (IsAllowedIn (order_in s)) (family_in s family)
 family_good s Lost back = lost_good (order_in s) back
 family_good s Files back = files_good (micros_of s) (order_in s) (length_order (micros_of s)) back
+family_good s Both back =
+    All-append (IsAllowedIn (order_in s)) (lost_sets (order_in s)) (files_sets (micros_of s) (order_in s)) (lost_good (order_in s) back)
+    (files_good (micros_of s) (order_in s) (length_order (micros_of s)) back)

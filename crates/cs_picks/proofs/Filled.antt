@@ -1,9 +1,10 @@
 -- Rows of what each place needs, place by place.
 use Rattle.std.proofs.Common.{◌≡◌, ℕ, ◌+◌, ◌<◌, ◌≤◌, ◌==◌, ◌&&◌, ◌||◌, ltb, Bool, true, false, List, [], ◌∷◌, ◌++◌, length, get_or, Some}
 use Rattle.std.proofs.Common.{refl, sym, ap, ◌∙◌, ⊎_elim, arith, length-append}
+use Rattle.std.proofs.Math.Path.{fun_ext}
 use Rattle.std.proofs.lemmas.Bool.{cases_Bool, cases_eq, cases_lt, eq-eqb, ne_eqb, lt-ltb, le-ltb, false≢true}
-use Rattle.std.proofs.lemmas.List.{get_or_push, get_or_append_left, get_or_past}
-use Rattle.std.proofs.lemmas.Option.{slice_get-get_or, slice_get_past}
+use Rattle.std.proofs.lemmas.List.{get_or_push, get_or_append_left, get_or_default, get_or_past}
+use Rattle.std.proofs.lemmas.Option.{slice_get_past, slice_get_read}
 use Rattle.std.specs.Option.{option_map_or}
 use Rattle.cs_apm.specs.Chains.{IsBackward}
 use Rattle.cs_apm.specs.Orders.{needs_in}
@@ -54,3 +55,46 @@ filled_whole order back row j is i = ⊎_elim
 pub none_past : (order : List (List Bool)) (i j : ℕ) → length order ≤ j → needs_in order i j ≡ false
 unfolding needs_in
 none_past order i j high = ap (λ row. get_or row i false) (get_or_past order j [] high)
+
+-- ---- rows
+
+bit_read : (rows : List Row) (j i : ℕ) (x : Row) → j < length rows → x ≡ get_or rows j x → bit_in rows i j ≡ has_place x i
+unfolding bit_in
+bit_read rows j i x low is = ap (λ o. option_map_or (λ r. has_place r i) o false) (slice_get_read rows (length rows) j x refl low is)
+
+bits_past : (rows : List Row) (i j : ℕ) → length rows ≤ j → bit_in rows i j ≡ false
+unfolding bit_in
+bits_past rows i j high = ap (λ o. option_map_or (λ r. has_place r i) o false) (slice_get_past rows j high)
+
+-- one more row
+pub rows_pushed : (order : List (List Bool)) (rows new : List Row) (row : Row) (j : ℕ) → length rows ≡ j
+    → ((i k : ℕ) → k < j → bit_in rows i k ≡ needs_in order i k) → ((i : ℕ) → has_place row i ≡ needs_in order i j)
+    → new ≡ rows ++ row ∷ [] → (i k : ℕ) → k < j + 1 → bit_in new i k ≡ needs_in order i k
+rows_pushed order rows new row j long before is e i k low = ap (λ v. bit_in v i k) e ∙ ⊎_elim
+    (λ (l : k ≡ j).
+    let there : j < length (rows ++ row ∷ []) = omega (arith, long, length-append rows (row ∷ [])) in
+    ap (bit_in (rows ++ row ∷ []) i) l
+    ∙ bit_read (rows ++ row ∷ []) j i row there (sym (get_or_push rows row row j long))
+    ∙ is i ∙ ap (needs_in order i) (sym l))
+    (λ (ne : k ≡ j → ⊥).
+    let here : k < length rows = omega (arith, long, low, ne) in
+    let there : k < length (rows ++ row ∷ []) = omega (arith, here, length-append rows (row ∷ [])) in
+    let x = get_or rows k row in
+    let same : x ≡ get_or rows k x = get_or_default rows k row x here in
+    bit_read (rows ++ row ∷ []) k i x there (same ∙ sym (get_or_append_left rows (row ∷ []) x k here))
+    ∙ sym (bit_read rows k i x here same) ∙ before i k (omega (arith, low, ne)))
+    (cases_eq k j)
+
+module _ (order : List (List Bool)) (rows : List Row) (long : length rows ≡ length order)
+    (each : (i j : ℕ) → j < length order → bit_in rows i j ≡ needs_in order i j) where
+  pub rows_same : (i j : ℕ) → bit_in rows i j ≡ needs_in order i j
+  rows_same i j = ⊎_elim
+      (λ (low : j < length order). each i j low)
+      (λ (high : length order ≤ j). bits_past rows i j (omega (arith, long, high)) ∙ sym (none_past order i j high))
+      (cases_lt j (length order))
+
+  pub rows_backward : IsBackward (needs_in order) → (i k : ℕ) → bit_in rows i k ≡ true → i < k
+  rows_backward back i k t = back i k (sym (rows_same i k) ∙ t)
+
+  pub rows_are : bit_in rows ≡ needs_in order
+  rows_are = fun_ext (λ i. fun_ext (rows_same i))

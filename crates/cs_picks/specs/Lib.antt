@@ -3,3 +3,4 @@ pub mod Losses
 pub mod Left
 pub mod Families
 pub mod Sets
+pub mod Covering

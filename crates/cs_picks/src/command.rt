@@ -5,13 +5,12 @@ ghost use Rattle.cs_picks.specs.Sets.{PrintsSets};
 use crate::fault::CommandFault;
 use crate::sets::{PickSets, write_sets};
 use cs_every::EveryFault;
-use cs_inputs::{Inputs, scene_of};
+use cs_inputs::{Inputs, exit_status, scene_of};
 use std::alloc::Global;
 use std::io::Write;
 
-/// Writes what is asked for of the sets of the inputs' scene, and flushes `out`. If there are more
-/// sets than may be printed, or too many to count, nothing is written; after another fault a part
-/// may be.
+/// Writes what is asked for of the sets of the inputs' scene. If there are more sets than may be
+/// printed, or too many to count, nothing is written; after another fault a part may be.
 fn print_sets<W: Write>(
     alloc: Global,
     inputs: &Inputs,
@@ -22,15 +21,12 @@ fn print_sets<W: Write>(
 {
     let scene = scene_of(alloc, inputs)?;
     write_sets(alloc, &scene, sets, out)?;
-    match out.flush() {
-        Ok(()) => Ok(()),
-        Err(_) => Err(CommandFault::Sets(EveryFault::Output)),
-    }
+    Ok(())
 }
 
 /// The command `picks`: prints what is asked for of the sets of the inputs' scene on `out`, each
-/// set on a line as a picks file has it. Returns its status: 0, or 1 after a fault, which one line
-/// on `err` reports; some of the lines may be printed by then.
+/// set on a line as a picks file has it, and flushes it. Returns the status: 0, or 1 after a fault,
+/// which one line on `err` reports; some of the lines may be written by then.
 pub fn picks_of<W: Write, E: Write>(
     alloc: Global,
     inputs: &Inputs,
@@ -42,13 +38,7 @@ pub fn picks_of<W: Write, E: Write>(
     ensures sets { result ≡ 0
         → PrintsSets inputs.now sets (W.contents out.old) (W.contents out.new) }
 {
-    match print_sets(alloc, inputs, sets, out) {
-        Ok(()) => 0,
-        Err(fault) => {
-            // only the fault that ended the command is reported
-            let _printed = out.flush();
-            let _unheard = writeln!(err, "crashfs: {fault}");
-            1
-        }
-    }
+    let done = print_sets(alloc, inputs, sets, out);
+    let unflushed = CommandFault::Sets(EveryFault::Output);
+    exit_status(done, unflushed, out, err)
 }

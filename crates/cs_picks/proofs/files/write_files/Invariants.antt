@@ -1,7 +1,7 @@
 use Rattle.std.specs.Io.KnownBytes.{Appends}
 use Rattle.std.specs.List.{flat_map, range_with_len}
 use Rattle.cs_picks.specs.Families.{prefix_sets}
-use Rattle.cs_picks.specs.Texts.{picks_text}
+use Rattle.cs_every.specs.Texts.{picks_text}
 use Rattle.cs_picks.proofs.files.write_files.Given as goal
 
 abbrev pub invariant-loop-end : goal.invariant-loop-end
