@@ -118,7 +118,9 @@ fn with_every<'a>(alloc: Global, command: Command<'a>) -> Result<Command<'a>, Al
     let most = "The most sets that are printed, 1 to 16777216; default 1000000";
     let sample = "Sets that are drawn one after the other, 1 to 16384";
     let seed = "The number by which they are drawn";
-    let every = flag(alloc, "every", every).conflicts_with_all(&["lost", "files"])?;
+    let every = flag(alloc, "every", every)
+        .conflicts_with("lost")?
+        .conflicts_with("files")?;
     let count = flag(alloc, "count", count).requires_arg("every")?;
     let most = value_argument(alloc, "most", "N", most)
         .value_parser(value_parser!(u32).range(1..=16_777_216))
@@ -127,7 +129,9 @@ fn with_every<'a>(alloc: Global, command: Command<'a>) -> Result<Command<'a>, Al
     let sample = value_argument(alloc, "sample", "M", sample)
         .value_parser(value_parser!(u32).range(1..=16_384))
         .requires_arg("seed")?
-        .conflicts_with_all(&["lost", "files", "every"])?;
+        .conflicts_with("lost")?
+        .conflicts_with("files")?
+        .conflicts_with("every")?;
     let seed = value_argument(alloc, "seed", "S", seed)
         .value_parser(value_parser!(u64))
         .requires_arg("sample")?;

@@ -2,7 +2,6 @@
 //! world in which all states of a trace are published.
 #![tactic(auto)]
 
-mod message_lines;
 mod printing;
 mod program;
 mod publishing;
@@ -10,6 +9,5 @@ mod reading;
 mod running;
 mod script;
 
-pub use message_lines::print_exchange;
 pub use program::{script_of, script_over, script_with};
 pub use publishing::world_of;

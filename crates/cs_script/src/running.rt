@@ -9,10 +9,10 @@ ghost use Rattle.cs_script.specs.declared.script.Action.TheVariants.{HangUp, Sen
 ghost use Rattle.cs_stream.specs.Streams.{KeepsFaults, KeepsReads, Writes};
 ghost use Rattle.cs_users.specs.Reading.{users_in};
 
-use crate::message_lines::print_exchange;
 use crate::printing::{closed_text, refused_text, reloaded_text, reply_text};
 use crate::script::{Action, ScriptAct, ScriptLine};
 use cs_inputs::{ProgramFault, print};
+use cs_message_lines::print_exchange;
 use cs_stream::Stream;
 use cs_users::{Users, UsersFault};
 use cs_wire::{RMessage, decode_request};

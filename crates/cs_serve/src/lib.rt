@@ -26,13 +26,11 @@ mod slots;
 mod summary;
 mod wall_clock;
 
-// what the command is made of, and the two commands that need no socket
+// what the command is made of
 pub use cs_connection::serve_streams;
 pub use cs_inputs::{Inputs, ProgramFault};
-pub use cs_list::list_of;
 pub use cs_options::{Client, Serving};
 pub use cs_publish::{PublishAllFault, publish_all, publish_into};
-pub use cs_script::script_of;
 pub use reloading::ReadsFiles;
 pub use serving::serve_of;
 

@@ -1,7 +1,7 @@
 //! The lines that `serve` prints on standard error, each by a function of `Log`.
 
 use cs_inputs::ProgramFault;
-use cs_script::print_exchange;
+use cs_message_lines::print_exchange;
 use cs_session::ServeFault;
 use cs_wire::{
     FrameFault, RBody, RMessage, TBody, TMessage, WireFault, decode_reply, decode_request,

@@ -15,6 +15,7 @@ pub(crate) struct Site<S: ServerBrand> {
     pub(crate) server: Server<S>,
     pub(crate) entrance: Entrance,
     pub(crate) reloading: Option<Reloading>,
+    /// Under a lock of its own, which a thread takes when its connection has ended.
     passes: Mutex<GivenPasses>,
 }
 

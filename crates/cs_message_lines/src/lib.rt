@@ -1,4 +1,5 @@
 //! Requests and replies as lines of text, for people.
+#![tactic(auto)]
 
 use cs_wire::{TMessage, WireFault};
 use std::fmt;
