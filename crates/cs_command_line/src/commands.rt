@@ -111,12 +111,9 @@ pub fn tar_command<'a>(alloc: Global) -> Result<Command<'a>, AllocError> {
     with_states(alloc, tar)
 }
 
-/// The argument, which goes with none of the others.
-fn apart<'a>(mut arg: Arg<'a>, others: &[&'a str]) -> Result<Arg<'a>, AllocError> {
-    for other in others {
-        arg = arg.conflicts_with(other)?;
-    }
-    Ok(arg)
+/// The argument, which doesn't go with the families of `picks`.
+fn without_families<'a>(arg: Arg<'a>) -> Result<Arg<'a>, AllocError> {
+    arg.conflicts_with("lost")?.conflicts_with("files")
 }
 
 /// The command, to which the options of `picks` that say which sets of all are printed are added.
@@ -124,14 +121,16 @@ fn with_every<'a>(alloc: Global, command: Command<'a>) -> Result<Command<'a>, Al
     let every = "All sets that a crash may leave";
     let count = "Only how many sets there are";
     let most = "The most sets that are printed, 1 to 16777216; default 1000000";
-    let every = apart(flag(alloc, "every", every), &["lost", "files"])?;
+    let every = without_families(flag(alloc, "every", every))?;
     // what needs an option that doesn't go with another one goes with that one neither
     let count = flag(alloc, "count", count).requires_arg("every")?;
-    let count = apart(count, &["lost", "files", "sample"])?;
+    let count = without_families(count)?.conflicts_with("sample")?;
     let most = value_argument(alloc, "most", "N", most)
         .value_parser(value_parser!(u32).range(1..=16_777_216))
         .requires_arg("every")?;
-    let most = apart(most, &["count", "lost", "files", "sample"])?;
+    let most = without_families(most)?
+        .conflicts_with("sample")?
+        .conflicts_with("count")?;
     command.arg(every)?.arg(count)?.arg(most)
 }
 
@@ -142,11 +141,11 @@ fn with_sample<'a>(alloc: Global, command: Command<'a>) -> Result<Command<'a>, A
     let sample = value_argument(alloc, "sample", "M", sample)
         .value_parser(value_parser!(u32).range(1..=16_384))
         .requires_arg("seed")?;
-    let sample = apart(sample, &["lost", "files", "every"])?;
+    let sample = without_families(sample)?.conflicts_with("every")?;
     let seed = value_argument(alloc, "seed", "S", seed)
         .value_parser(value_parser!(u64))
         .requires_arg("sample")?;
-    let seed = apart(seed, &["lost", "files", "every"])?;
+    let seed = without_families(seed)?.conflicts_with("every")?;
     command.arg(sample)?.arg(seed)
 }
 
