@@ -111,36 +111,43 @@ pub fn tar_command<'a>(alloc: Global) -> Result<Command<'a>, AllocError> {
     with_states(alloc, tar)
 }
 
+/// The argument, which goes with none of the others.
+fn apart<'a>(mut arg: Arg<'a>, others: &[&'a str]) -> Result<Arg<'a>, AllocError> {
+    for other in others {
+        arg = arg.conflicts_with(other)?;
+    }
+    Ok(arg)
+}
+
 /// The command, to which the options of `picks` that say which sets of all are printed are added.
 fn with_every<'a>(alloc: Global, command: Command<'a>) -> Result<Command<'a>, AllocError> {
     let every = "All sets that a crash may leave";
     let count = "Only how many sets there are";
     let most = "The most sets that are printed, 1 to 16777216; default 1000000";
-    let sample = "Sets that are drawn one after the other, 1 to 16384";
-    let seed = "The number by which they are drawn";
-    let every = flag(alloc, "every", every)
-        .conflicts_with("lost")?
-        .conflicts_with("files")?;
+    let every = apart(flag(alloc, "every", every), &["lost", "files"])?;
+    // what needs an option that doesn't go with another one goes with that one neither
     let count = flag(alloc, "count", count).requires_arg("every")?;
+    let count = apart(count, &["lost", "files", "sample"])?;
     let most = value_argument(alloc, "most", "N", most)
         .value_parser(value_parser!(u32).range(1..=16_777_216))
-        .requires_arg("every")?
-        .conflicts_with("count")?;
+        .requires_arg("every")?;
+    let most = apart(most, &["count", "lost", "files", "sample"])?;
+    command.arg(every)?.arg(count)?.arg(most)
+}
+
+/// The command, to which the options of sets that are drawn are added.
+fn with_sample<'a>(alloc: Global, command: Command<'a>) -> Result<Command<'a>, AllocError> {
+    let sample = "Sets that are drawn one after the other, 1 to 16384";
+    let seed = "The number by which they are drawn";
     let sample = value_argument(alloc, "sample", "M", sample)
         .value_parser(value_parser!(u32).range(1..=16_384))
-        .requires_arg("seed")?
-        .conflicts_with("lost")?
-        .conflicts_with("files")?
-        .conflicts_with("every")?;
+        .requires_arg("seed")?;
+    let sample = apart(sample, &["lost", "files", "every"])?;
     let seed = value_argument(alloc, "seed", "S", seed)
         .value_parser(value_parser!(u64))
         .requires_arg("sample")?;
-    command
-        .arg(every)?
-        .arg(count)?
-        .arg(most)?
-        .arg(sample)?
-        .arg(seed)
+    let seed = apart(seed, &["lost", "files", "every"])?;
+    command.arg(sample)?.arg(seed)
 }
 
 /// The command `picks` and its options.
@@ -154,7 +161,8 @@ fn picks_command<'a>(alloc: Global) -> Result<Command<'a>, AllocError> {
         .after_help("Example: crashfs picks store.trace --lost > lost.picks")
         .arg(flag(alloc, "lost", lost))?
         .arg(flag(alloc, "files", files))?;
-    with_trace(alloc, with_every(alloc, picks)?.group(sets)?)
+    let picks = with_sample(alloc, with_every(alloc, picks)?)?;
+    with_trace(alloc, picks.group(sets)?)
 }
 
 /// The command `script` and its options.
