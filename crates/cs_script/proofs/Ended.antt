@@ -1,5 +1,5 @@
 -- What is left of what a script wrote, once its output is flushed.
-use Rattle.std.proofs.Common.{◌≡◌, ℕ, zero, suc, List, [], Option, refl, sym, inl, inr}
+use Rattle.std.proofs.Common.{◌≡◌, ℕ, zero, suc, List, [], Option, refl, sym, subst, inl, inr}
 use Rattle.std.proofs.lemmas.List.{append-nil}
 use Rattle.std.proofs.KnownBytes.{Appends-kept}
 use Rattle.std.specs.Prelude.{Result, Ok, Err}
@@ -66,3 +66,12 @@ pub ended : {E : Type 0} (inputs : Inputs) (status : ℕ) (done : Result (Unit {
     → Scripts inputs (reported status) came left old new
 ended inputs zero done came left old mid new said s kept = ran_all inputs done came left old mid new (said refl) s kept
 ended inputs (suc n) done came left old mid new said s kept = ran_some inputs n done came left old mid new s kept
+
+-- the same of the reader and the writers that a stream was made of and came apart into
+pub ended_over : {E : Type 0} (inputs : Inputs) (status : ℕ) (done : Result (Unit {0}) E)
+    (came came' left old old' mid mid' new : Option (List ℕ)) → came ≡ came' → old ≡ old' → mid' ≡ mid → (status ≡ 0 → done ≡ Ok tt)
+    → Scripts inputs done came left old mid → Keeps mid' new → Scripts inputs (reported status) came' left old' new
+ended_over inputs status done came came' left old old' mid mid' new a b m said s kept =
+    subst (λ (x : Option (List ℕ)). Scripts inputs (reported status) x left old' new) a
+    (subst (λ (x : Option (List ℕ)). Scripts inputs (reported status) came left x new) b
+    (ended inputs status done came left old mid new said s (subst (λ (x : Option (List ℕ)). Keeps x new) m kept)))
