@@ -4,7 +4,7 @@ _crashfs() {
     COMPREPLY=()
     case $previous in
         --client) words='plan9 linux' ;;
-        --picks | --trace | --state | --states | --most | --sample | --seed | --users | --listen \
+        --picks | --trace | --state | --states | --sample | --seed | --most | --users | --listen \
         | --workers | --connections) return ;;
         *)
             if ((COMP_CWORD == 1)); then
@@ -22,8 +22,8 @@ _crashfs() {
                             -h --help --changes --state --states --holes --picks --trace' ;;
                     picks)
                         words='
-                            -h --help --lost --files --trace --every --count --most --sample
-                            --seed' ;;
+                            -h --help --lost --files --sample --seed --every --count --most
+                            --trace' ;;
                     script)
                         words='
                             -h --help --verbose --users --holes --picks --trace' ;;

@@ -42,12 +42,12 @@ else
                 '(-h --help)'{-h,--help}'[Prints the help]' \
                 '--lost[For each operation the smallest disk that still has it]' \
                 '--files[For each prefix and each file, the disk without its changes that no sync covers]' \
-                '--trace[The same as TRACE]:FILE:_files' \
+                '--sample[Sets that are drawn one after the other, 1 to 16384]:M:_files' \
+                '--seed[The number by which they are drawn]:S:_files' \
                 '--every[All sets that a crash may leave]' \
                 '--count[Only how many sets there are]' \
                 '--most[The most sets that are printed, 1 to 16777216; default 1000000]:N:_files' \
-                '--sample[Sets that are drawn one after the other, 1 to 16384]:M:_files' \
-                '--seed[The number by which they are drawn]:S:_files' \
+                '--trace[The same as TRACE]:FILE:_files' \
                 '1:TRACE:_files' ;;
         script)
             _arguments \
