@@ -1,9 +1,9 @@
 //! The families of sets that options of `list` add to its plan, each set that the plan lacks once.
-ghost use Rattle.std.specs.Prelude.{◌≡◌, ◌<◌, ◌≤◌, IfErr, IfOk, length};
+ghost use Rattle.std.specs.Prelude.{◌≡◌, ◌<◌, ◌≤◌, true, IfErr, IfOk, length};
 ghost use Rattle.std.specs.List.{All};
 ghost use Rattle.cs_inputs.specs.Written.{IsOfNoStream};
 ghost use Rattle.cs_plan.specs.Plans.{IsWithin};
-ghost use Rattle.cs_list.specs.Listings.{IsListed};
+ghost use Rattle.cs_list.specs.Listings.{IsListed, asks_family};
 
 use cs_apm::Order;
 use cs_inputs::{Inputs, ProgramFault, read_picks, scene_of, scene_with};
@@ -139,9 +139,32 @@ fn missing_sets(
     Ok(missing)
 }
 
+/// Whether the options ask for a family.
+fn asks_family(options: ListOptions) -> bool
+    ensures { result ≡ asks_family options }
+{
+    options.lost || options.files
+}
+
 /// The scene of the inputs, whose plan has at its end the sets of the families that the options ask
-/// for, each that it lacks once. An error is as that of `scene_of`; PlanTooLarge may be due to the
-/// families.
+/// for, each that it lacks once. `scene` is the one without them.
+fn scene_with_sets(
+    alloc: Global,
+    inputs: &Inputs,
+    scene: &Scene,
+    options: ListOptions,
+) -> Result<Scene, ProgramFault>
+    requires { asks_family options ≡ true }
+    ensures listed { IfOk result (IsListed inputs.now options) }
+    ensures fault { IfErr result IsOfNoStream }
+{
+    let sets = sets_of_families(alloc, scene, options)?;
+    let missing = missing_sets(alloc, scene, sets)?;
+    scene_with(alloc, inputs, missing)
+}
+
+/// The scene that is listed: that of the inputs, or of `scene_with_sets` if the options ask for a
+/// family. An error is as that of `scene_of`; PlanTooLarge may be due to the families.
 pub fn scene_with_families(
     alloc: Global,
     inputs: &Inputs,
@@ -151,10 +174,8 @@ pub fn scene_with_families(
     ensures fault { IfErr result IsOfNoStream }
 {
     let scene = scene_of(alloc, inputs)?;
-    if !options.lost && !options.files {
-        return Ok(scene);
+    if asks_family(options) {
+        return scene_with_sets(alloc, inputs, &scene, options);
     }
-    let sets = sets_of_families(alloc, &scene, options)?;
-    let missing = missing_sets(alloc, &scene, sets)?;
-    scene_with(alloc, inputs, missing)
+    Ok(scene)
 }

@@ -1,18 +1,18 @@
 //! The list as JSON: a line for each micro-operation, and then one for each state. How one line is
 //! spelled is in `json`; `listing` chooses between this form and the plain one.
-ghost use Rattle.std.specs.Prelude.{◌≡◌, ◌<◌, IfErr, IfOk, length, string_bytes};
+ghost use Rattle.std.specs.Prelude.{◌≡◌, ◌<◌, ◌++◌, ℕ, IfOk, List, OnOk, Option, length};
+ghost use Rattle.std.specs.Prelude.{string_bytes};
 ghost use Rattle.std.specs.Option.{option_copied};
 ghost use Rattle.cs_apm.specs.Orders.{needs_in};
 ghost use Rattle.cs_apm.specs.Rules.{op_at};
-ghost use Rattle.cs_inputs.specs.Written.{IsOfNoStream};
 ghost use Rattle.cs_picks.specs.Families.{least_with};
 ghost use Rattle.cs_plan.specs.Scenes.{micros_of, order_in};
 ghost use Rattle.cs_list.specs.Json as spec;
+ghost use Rattle.cs_list.specs.Listings.{AreObjects, op_object, state_object, state_objects};
 
 use crate::json::{op_line, state_line};
 use crate::lines::number_at;
 use crate::paths::FilePaths;
-use cs_inputs::ProgramFault;
 use cs_names::Path;
 use cs_picks::least_with;
 use cs_plan::{Places, Scene};
@@ -43,53 +43,73 @@ fn op_line_at(
     )
 }
 
-/// Adds the line of each micro-operation to the text. `lines` has for each operation the number of
-/// the trace's line that it came from. After an error the text has the lines that were made before.
-pub fn push_op_objects(
+/// Adds the object of the micro-operation at the place to the text, and changes the paths as it
+/// does. The error is out of memory; the text may have the object then.
+fn push_op_object<'a>(
     alloc: Global,
-    scene: &Scene,
+    scene: &'a Scene,
     lines: &[usize],
+    place: usize,
+    paths: &mut FilePaths<'a>,
     text: &mut Vec<u8>,
-) -> Result<(), ProgramFault>
-    ensures { IfErr result IsOfNoStream }
+) -> Result<(), AllocError>
+    requires { place < length (micros_of scene.now).ops }
+    ensures { OnOk result ((path : Option (List (List ℕ))) × (text.new.items
+        ≡ text.old.items ++ op_object scene.now lines.now (place, path))) }
 {
-    let Ok(mut paths) = FilePaths::of(alloc, scene.micros()) else {
-        return Err(ProgramFault::Memory);
-    };
-    let ops = scene.micros().ops();
-    for place in 0..ops.len() {
-        let op = &ops[place];
-        let line = number_at(lines, place);
-        let Ok(json) = op_line_at(alloc, scene, place, paths.path_of_changed_file(op), line) else {
-            return Err(ProgramFault::Memory);
-        };
-        if text.extend_from_slice(json.as_bytes()).is_err() || paths.apply(alloc, op).is_err() {
-            return Err(ProgramFault::Memory);
-        }
-    }
-    Ok(())
+    let op = &scene.micros().ops()[place];
+    let path = paths.path_of_changed_file(op);
+    let object = op_line_at(alloc, scene, place, path, number_at(lines, place))?;
+    text.extend_from_slice(object.as_bytes())?;
+    paths.apply(alloc, op)
 }
 
-/// Adds the line of each state to the text. `firsts` has for each state the number of the first one
-/// with an equal tree. After an error the text has the lines that were made before.
+/// The objects of all micro-operations. `lines` has for each the number of the trace's line that it
+/// came from. The error is out of memory.
+pub fn op_objects(alloc: Global, scene: &Scene, lines: &[usize]) -> Result<Vec<u8>, AllocError>
+    ensures { IfOk result (λ text.
+        AreObjects scene.now lines.now (length (micros_of scene.now).ops) text.items) }
+{
+    let ops = scene.micros().ops();
+    let mut paths = FilePaths::of(alloc, scene.micros())?;
+    let mut text = Vec::new(alloc);
+    for place in 0..ops.len() {
+        push_op_object(alloc, scene, lines, place, &mut paths, &mut text)?;
+    }
+    Ok(text)
+}
+
+/// The object of the state of a number. `firsts` has for each state the number of the first one with
+/// an equal tree.
+fn state_object(
+    alloc: Global,
+    scene: &Scene,
+    firsts: &[u32],
+    number: usize,
+) -> Result<String, AllocError>
+    requires { number < length scene.now.plan }
+    ensures { IfOk result (λ text. string_bytes text ≡ state_object scene.now firsts.now number) }
+{
+    let recipe = &scene.plan().recipes()[number];
+    // the plan has the number
+    let says = scene.says(number as u32).unwrap_or(0);
+    let first = firsts.get(number).copied().unwrap_or(0);
+    state_line(alloc, number, recipe, says, first)
+}
+
+/// Appends the objects of all states to the text. `firsts` is as in `state_object`. The error is out
+/// of memory; the text may have some of the objects then.
 pub fn push_state_objects(
     alloc: Global,
     scene: &Scene,
     firsts: &[u32],
     text: &mut Vec<u8>,
-) -> Result<(), ProgramFault>
-    ensures { IfErr result IsOfNoStream }
+) -> Result<(), AllocError>
+    ensures { OnOk result (text.new.items ≡ text.old.items ++ state_objects scene.now firsts.now) }
 {
-    for (number, recipe) in scene.plan().recipes().iter().enumerate() {
-        // neither default is used: the plan has the number, and `firsts` is as long as the plan
-        let says = scene.says(number as u32).unwrap_or(0);
-        let first = firsts.get(number).copied().unwrap_or(number as u32);
-        let Ok(json) = state_line(alloc, number, recipe, says, first) else {
-            return Err(ProgramFault::Memory);
-        };
-        if text.extend_from_slice(json.as_bytes()).is_err() {
-            return Err(ProgramFault::Memory);
-        }
+    for number in 0..scene.plan().len() {
+        let object = state_object(alloc, scene, firsts, number)?;
+        text.extend_from_slice(object.as_bytes())?;
     }
     Ok(())
 }

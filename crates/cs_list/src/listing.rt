@@ -1,7 +1,7 @@
 //! The command `list`, from its inputs to what it prints. The text is made in `text`.
 ghost use Rattle.std.specs.Prelude.{◌≡◌, ◌≤◌, IfErr, IfOk};
 ghost use Rattle.cs_inputs.specs.Ended.{IsTextOf, WritesSuch, reported};
-ghost use Rattle.cs_inputs.specs.Written.{BlamesOutput};
+ghost use Rattle.cs_inputs.specs.Written.{BlamesOutput, IsOfNoStream};
 ghost use Rattle.cs_plan.specs.Lists.{list_text};
 ghost use Rattle.cs_stream.specs.Streams.{KeepsReads};
 ghost use Rattle.cs_list.specs.Listings.{IsListing};
@@ -59,12 +59,21 @@ pub fn list_with<W: Write, E: Write>(
     exit_status(done, ProgramFault::Output, out, err)
 }
 
+/// The text of the list of the inputs, without options. An error is a fault of the inputs, or out of
+/// memory.
+fn plain_listing_of(alloc: Global, inputs: &Inputs) -> Result<Vec<u8>, ProgramFault>
+    ensures text { IfOk result (λ text. IsTextOf inputs.now list_text text.items) }
+    ensures fault { IfErr result IsOfNoStream }
+{
+    let scene = scene_of(alloc, inputs)?;
+    plain_text(alloc, &scene)
+}
+
 /// Writes the list without options to a writer, as `print_list` does.
 fn print_plain<W: Write>(alloc: Global, inputs: &Inputs, out: &mut W) -> Result<(), ProgramFault>
     ensures { WritesSuch (IsTextOf inputs.now list_text) result (W.contents out.old) (W.contents out.new) }
 {
-    let scene = scene_of(alloc, inputs)?;
-    let text = plain_text(alloc, &scene)?;
+    let text = plain_listing_of(alloc, inputs)?;
     print_to(out, &text)
 }
 
@@ -91,7 +100,6 @@ pub fn list_to<S: Stream>(
     ensures fault { IfErr result (BlamesOutput (S.counts stream.old) (S.counts stream.new)) }
     ensures reads { KeepsReads (S.counts stream.old) (S.counts stream.new) }
 {
-    let scene = scene_of(alloc, inputs)?;
-    let text = plain_text(alloc, &scene)?;
+    let text = plain_listing_of(alloc, inputs)?;
     print(stream, &text)
 }

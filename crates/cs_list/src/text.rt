@@ -1,11 +1,13 @@
 //! The text of a list, by its options.
-ghost use Rattle.std.specs.Prelude.{◌≡◌, IfErr, IfOk};
+ghost use Rattle.std.specs.Prelude.{◌≡◌, ◌++◌, ℕ, IfErr, IfOk, List, length};
 ghost use Rattle.std.specs.Arc.{arc_value};
 ghost use Rattle.cs_inputs.specs.Written.{IsOfNoStream};
 ghost use Rattle.cs_plan.specs.Lists.{list_text};
-ghost use Rattle.cs_list.specs.Listings.{IsText};
+ghost use Rattle.cs_plan.specs.Scenes.{micros_of};
+ghost use Rattle.cs_list.specs.Lines.{lines_of};
+ghost use Rattle.cs_list.specs.Listings.{AreObjects, IsJson, IsText, state_objects};
 
-use crate::json_listing::{push_op_objects, push_state_objects};
+use crate::json_listing::{op_objects, push_state_objects};
 use crate::lines::lines_of;
 use crate::marked_listing::{push_op_lines, push_state_lines};
 use cs_inputs::ProgramFault;
@@ -31,12 +33,16 @@ pub fn plain_text(alloc: Global, scene: &Scene) -> Result<Vec<u8>, ProgramFault>
 /// For each micro-operation, the number of the trace's line that it came from. The error is
 /// TraceNotText if the trace isn't UTF-8 (that of a scene always is), or out of memory.
 fn lines_in(alloc: Global, trace: &[u8], scene: &Scene) -> Result<Vec<usize>, ProgramFault>
-    ensures { IfErr result IsOfNoStream }
+    ensures lines { IfOk result (λ lines. lines.items ≡ lines_of trace.now scene.now.trace) }
+    ensures fault { IfErr result IsOfNoStream }
 {
     let Ok(text) = std::str::from_utf8(trace) else {
         return Err(ProgramFault::TraceNotText);
     };
-    lines_of(alloc, text, scene.trace()).map_err(|_| ProgramFault::Memory)
+    match lines_of(alloc, text, scene.trace()) {
+        Ok(lines) => Ok(lines),
+        Err(_) => Err(ProgramFault::Memory),
+    }
 }
 
 /// For each state, the number of the first one with an equal tree, which may be its own; none if
@@ -46,13 +52,45 @@ fn firsts_in(
     scene: &Arc<Scene>,
     options: ListOptions,
 ) -> Result<Vec<u32>, AllocError> {
-    if !options.same && !options.json {
+    if !options.same {
         return Ok(Vec::new(alloc));
     }
     first_same(alloc, scene)
 }
 
-/// The text with options. The error is out of memory.
+/// The text as JSON, for these lines and first equal states. The error is out of memory.
+fn json_objects(
+    alloc: Global,
+    scene: &Scene,
+    lines: &[usize],
+    firsts: &[u32],
+) -> Result<Vec<u8>, AllocError>
+    ensures { IfOk result (λ text. (objects : List ℕ)
+        × AreObjects scene.now lines.now (length (micros_of scene.now).ops) objects
+        × (text.items ≡ objects ++ state_objects scene.now firsts.now)) }
+{
+    let mut text = op_objects(alloc, scene, lines)?;
+    push_state_objects(alloc, scene, firsts, &mut text)?;
+    Ok(text)
+}
+
+/// The text as JSON. The error is out of memory; or TraceNotText if the trace isn't UTF-8, but that
+/// of a scene always is.
+fn json_text(alloc: Global, trace: &[u8], scene: &Arc<Scene>) -> Result<Vec<u8>, ProgramFault>
+    ensures json { IfOk result (λ text. IsJson trace.now (arc_value scene.now) text.items) }
+    ensures fault { IfErr result IsOfNoStream }
+{
+    let lines = lines_in(alloc, trace, scene)?;
+    let Ok(firsts) = first_same(alloc, scene) else {
+        return Err(ProgramFault::Memory);
+    };
+    match json_objects(alloc, scene, &lines, &firsts) {
+        Ok(text) => Ok(text),
+        Err(_) => Err(ProgramFault::Memory),
+    }
+}
+
+/// The plain text with lines or equal states. The error is as that of `json_text`.
 fn marked_text(
     alloc: Global,
     trace: &[u8],
@@ -66,13 +104,8 @@ fn marked_text(
         return Err(ProgramFault::Memory);
     };
     let mut text = Vec::new(alloc);
-    if options.json {
-        push_op_objects(alloc, scene, &lines, &mut text)?;
-        push_state_objects(alloc, scene, &firsts, &mut text)?;
-    } else {
-        push_op_lines(alloc, scene, &lines, options.lines, &mut text)?;
-        push_state_lines(scene, &firsts, options.same, &mut text)?;
-    }
+    push_op_lines(alloc, scene, &lines, options.lines, &mut text)?;
+    push_state_lines(scene, &firsts, options.same, &mut text)?;
     Ok(text)
 }
 
@@ -83,10 +116,13 @@ pub fn text_of(
     scene: &Arc<Scene>,
     options: ListOptions,
 ) -> Result<Vec<u8>, ProgramFault>
-    ensures text { IfOk result (λ text. IsText options (arc_value scene.now) text.items) }
+    ensures text { IfOk result (λ text. IsText options trace.now (arc_value scene.now) text.items) }
     ensures fault { IfErr result IsOfNoStream }
 {
-    if options.lines || options.same || options.json {
+    if options.json {
+        return json_text(alloc, trace, scene);
+    }
+    if options.lines || options.same {
         return marked_text(alloc, trace, scene, options);
     }
     plain_text(alloc, scene)
