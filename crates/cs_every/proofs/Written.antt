@@ -19,7 +19,7 @@ none_in : (has : ℕ → Bool) (a m : ℕ) → HasNone has a (a + m) → filter 
 none_in has a zero none = refl
 none_in has a (suc m) none =
     ap (λ b. cond b (a ∷ filter has (range_with_len (a + 1) m)) (filter has (range_with_len (a + 1) m)))
-        (none a (omega arith) (omega arith))
+    (none a (omega arith) (omega arith))
     ∙ none_in has (a + 1) m (λ i l u. none i (omega (arith, l)) (omega (arith, u)))
 
 next_in : (has : ℕ → Bool) (d a m : ℕ) → HasNone has a (a + d) → has (a + d) ≡ true → d < m
@@ -35,7 +35,7 @@ next_in has (suc d) a (suc m) none is low =
     let e : (a + 1) + d ≡ a + suc d = omega arith in
     let f : m - (d + 1) ≡ suc m - (suc d + 1) = omega arith in
     ap (λ b. cond b (a ∷ filter has (range_with_len (a + 1) m)) (filter has (range_with_len (a + 1) m)))
-        (none a (omega arith) (omega arith))
+    (none a (omega arith) (omega arith))
     ∙ next_in has d (a + 1) m (λ i l u. none i (omega (arith, l)) (omega (arith, u, e))) (ap has e ∙ is) (omega (arith, low))
     ∙ ap (λ v. v ∷ filter has (range_with_len (v + 1) (m - (d + 1)))) e
     ∙ ap (λ v. (a + suc d) ∷ filter has (range_with_len (a + suc d + 1) v)) f
@@ -51,7 +51,7 @@ from_next has at place next =
     let e : at + (place - at) ≡ place = omega (arith, from) in
     let f : (1024 - at) - ((place - at) + 1) ≡ 1024 - (place + 1) = omega (arith, from, to) in
     next_in has (place - at) at (1024 - at) (λ i l u. next.none_before i l (omega (arith, u, e))) (ap has e ∙ next.is_there)
-        (omega (arith, from, to))
+    (omega (arith, from, to))
     ∙ ap (λ v. v ∷ filter has (range_with_len (v + 1) ((1024 - at) - ((place - at) + 1)))) e
     ∙ ap (λ v. place ∷ filter has (range_with_len (place + 1) v)) f
 

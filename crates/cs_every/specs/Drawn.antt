@@ -6,8 +6,8 @@ use Rattle.cs_every.specs.Texts.{picks_text}
 
 -- so many sets of a list are written, in some order
 pub record WritesSample (sets : List (List ℕ)) (count : ℕ) (old new : Option (List ℕ)) : Type 0
-    where
-  pub drawn : List (List ℕ)
-  pub long : length drawn ≡ count
-  pub members : All (Contains sets) drawn
-  pub written : Appends old new (picks_text drawn)
+  where
+    pub drawn : List (List ℕ)
+    pub long : length drawn ≡ count
+    pub members : All (Contains sets) drawn
+    pub written : Appends old new (picks_text drawn)

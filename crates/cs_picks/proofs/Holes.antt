@@ -46,9 +46,11 @@ allowed_same needs n set is = record { ascending = is.ascending; in_range = is.i
 -- ---- a hole is in the plan
 
 contains_map : {X Y : Type 0} (f : X → Y) (xs : List X) (x : X) → Contains xs x → Contains (map f xs) (f x)
-contains_map f xs x c =
-    (c.0, (let l = c.1 in let e = length-map xs f in omega (arith, l, e)),
-    get_or-map f xs c.0 x ∙ ap f c.2)
+contains_map f xs x c = (
+  c.0,
+  (let l = c.1 in let e = length-map xs f in omega (arith, l, e)),
+  get_or-map f xs c.0 x ∙ ap f c.2,
+)
 
 contains_below : (n k : ℕ) → k < n → Contains (places_below n) k
 contains_below n k low = has_contains (places_below n) k (ap (λ v. is_member v k) (sym (all_kept n)) ∙ chosen_has (λ j. true) n k low)
@@ -73,7 +75,7 @@ module _ (order : List (List Bool)) (back : places.IsBackward (needs_in order)) 
       (contains_flat (holes_at (needs_in order)) (places_below (length order)) k (Hole i (k + 1)) (contains_below (length order) k high)
       (contains_map (λ i. Hole i (k + 1)) (filter (λ i. is_kept (needs_in order) i k) (places_below k)) i
       (has_contains (filter (λ i. is_kept (needs_in order) i k) (places_below k)) i
-          (chosen_has (λ i. is_kept (needs_in order) i k) k i low ∙ kept)))))
+      (chosen_has (λ i. is_kept (needs_in order) i k) k i low ∙ kept)))))
 
   of_sets : (i k : ℕ) (set : List ℕ) → Loses i k set → sets.Loses i k set
   of_sets i k set loses = record {
@@ -94,7 +96,7 @@ module _ (order : List (List Bool)) (back : places.IsBackward (needs_in order)) 
   stays i k set is loses =
       kept_same (needs_in order) i k
       ∙ lost_is_kept (needs_in order) back (length order) i k set (allowed_same (needs_in order) (length order) set is)
-          (of_sets i k set loses)
+      (of_sets i k set loses)
 
   below_end : (k : ℕ) (set : List ℕ) → IsAllowedIn order set → Contains set k → k < length order
   below_end k set is here =
@@ -102,11 +104,12 @@ module _ (order : List (List Bool)) (back : places.IsBackward (needs_in order)) 
 
   pub has_pairs : (plan : List Recipe) (picks : List (List ℕ)) → plan ≡ plan_of order true picks → HasPairs order plan
   has_pairs plan picks e i k set low is loses =
-      let kept = stays i k set is loses in
-      (subst (λ (v : List Recipe). Contains v (Hole i (k + 1))) (sym e) (listed picks i k low (below_end k set is loses.has_later) kept),
-      subst (Loses i k) (sym (hole_same (needs_in order) i (k + 1)))
-      (to_sets i k (sets.hole (needs_in order) i (k + 1)) (hole_loses (needs_in order) back i k low
-          (sym (kept_same (needs_in order) i k) ∙ kept))))
+      let kept = stays i k set is loses in (
+        subst (λ (v : List Recipe). Contains v (Hole i (k + 1))) (sym e) (listed picks i k low (below_end k set is loses.has_later) kept),
+        subst (Loses i k) (sym (hole_same (needs_in order) i (k + 1)))
+            (to_sets i k (sets.hole (needs_in order) i (k + 1)) (hole_loses (needs_in order) back i k low
+            (sym (kept_same (needs_in order) i k) ∙ kept))),
+      )
 
   lacks : (i k : ℕ) (set : List ℕ) → IsAllowedIn order set → LosesOne (needs_in order) i k set → sets.LacksOne (needs_in order) i k set
   lacks i k set is one = record {
@@ -115,8 +118,10 @@ module _ (order : List (List Bool)) (back : places.IsBackward (needs_in order)) 
         contains_has set j (there j low t) ∙ sym (sym (kept_same (needs_in order) i j) ∙ t))
         (λ (f : is_kept (needs_in order) i j ≡ false). ⊎_elim
         (λ (m : is_member set j ≡ true).
-        absurd (false≢true (sym f ∙ stays i j set is (record { has_later = has_contains set j m; lacks_earlier = one.loses.lacks_earlier
-            }))))
+        absurd (false≢true (sym f ∙ stays i j set is (record {
+          has_later = has_contains set j m;
+          lacks_earlier = one.loses.lacks_earlier;
+        }))))
         (λ (m : is_member set j ≡ false). m ∙ sym (sym (kept_same (needs_in order) i j) ∙ f))
         (cases_Bool (is_member set j)))
         (cases_Bool (is_kept (needs_in order) i j));
@@ -134,8 +139,9 @@ module _ (order : List (List Bool)) (back : places.IsBackward (needs_in order)) 
 
   pub has_singles : (plan : List Recipe) (picks : List (List ℕ)) → plan ≡ plan_of order true picks → HasSingles order plan
   has_singles plan picks e i k set low is one =
-      let high = below_end k set is one.loses.has_later in
-      (subst (λ (v : List Recipe). Contains v (Hole i (k + 1))) (sym e) (listed picks i k low high (stays i k set is one.loses)),
-      lacks_is_hole (needs_in order) back (length order) i k set high (allowed_same (needs_in order) (length order) set is)
-          (lacks i k set is one)
-      ∙ sym (hole_same (needs_in order) i (k + 1)))
+      let high = below_end k set is one.loses.has_later in (
+        subst (λ (v : List Recipe). Contains v (Hole i (k + 1))) (sym e) (listed picks i k low high (stays i k set is one.loses)),
+        lacks_is_hole (needs_in order) back (length order) i k set high (allowed_same (needs_in order) (length order) set is)
+            (lacks i k set is one)
+            ∙ sym (hole_same (needs_in order) i (k + 1)),
+      )

@@ -53,7 +53,7 @@ same_bits a b same m i low =
     let at : j / 64 ≡ m = omega (arith, low) in
     let bit : j % 64 ≡ i = omega (arith, low) in
     same_bit (bit_at (get_or a.words m 0) i) (bit_at (get_or b.words m 0) i) (bit_at-lt (get_or a.words m 0) i)
-        (bit_at-lt (get_or b.words m 0) i)
+    (bit_at-lt (get_or b.words m 0) i)
     (sym (ap (λ v. bit_at (get_or a.words v 0) (j % 64) == 1) at ∙ ap (λ v. bit_at (get_or a.words m 0) v == 1) bit)
     ∙ same j
     ∙ (ap (λ v. bit_at (get_or b.words v 0) (j % 64) == 1) at ∙ ap (λ v. bit_at (get_or b.words m 0) v == 1) bit))
@@ -62,7 +62,7 @@ pub same_words : (a b : Row) → IsSound a → IsSound b → ((j : ℕ) → has_
 same_words a b one other same =
     ext_get_or 0 a.words b.words (one.long ∙ sym other.long)
     (λ m l. same_from_bits_below 64 (get_or a.words m 0) (get_or b.words m 0) (one.words m (few m l)) (other.words m (few m l))
-        (same_bits a b same m))
+    (same_bits a b same m))
   where
     few : (m : ℕ) → m < length a.words → m < 16
     few m l = omega (arith, l, one.long)
@@ -197,7 +197,7 @@ module _ (needs : ℕ → ℕ → Bool) (n k : ℕ) (low : k < n) (left : Row) (
         ∙ future_without needs n k at.places (has_place left) at.below at.future j high few;
     none = λ j few. is j ∙ ⊎_elim
         (λ (e : j ≡ k). ap (λ b. lacking needs k (has_place left) j && not b) (eq-eqb j k e)
-            ∙ and_false (lacking needs k (has_place left) j))
+        ∙ and_false (lacking needs k (has_place left) j))
         (λ (ne : j ≡ k → ⊥). ap (λ b. (b && not (needs k j)) && not (j == k)) (at.none j (omega (arith, few, ne))))
         (cases_eq j k);
     within = λ j high. is j ∙ ap (λ b. (b && not (needs k j)) && not (j == k)) (at.within j high);

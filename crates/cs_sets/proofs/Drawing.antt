@@ -101,7 +101,7 @@ module _ (needs : ℕ → ℕ → Bool) (chained : IsTransitive needs) (n most :
           let to = next.before_end in
           count (place + 1) places (omega (arith, to)) none_without
           (still_at needs n place places (lacking needs place (has_place left)) (has_place without) out
-              (step_from k places under at).without)
+          (step_from k places under at).without)
 
     module _ (kept : Row) (within : (i : ℕ) → has_place kept i ≡ (has_place left i && not (i == place))) where
       pub none_kept : HasNone (has_place kept) 0 (place + 1)
@@ -119,7 +119,7 @@ module _ (needs : ℕ → ℕ → Bool) (chained : IsTransitive needs) (n most :
     pub both_counted : (without : Row) → ((i : ℕ) → has_place without i ≡ (lacking needs place (has_place left) i && not (i == place)))
         → (kept : Row) → ((i : ℕ) → has_place kept i ≡ (has_place left i && not (i == place))) → (fewer more count : ℕ)
         → IsCount needs n most without fewer → IsCount needs n most kept more → count ≡ min (fewer + more) most
-            → IsCount needs n most left count
+        → IsCount needs n most left count
     both_counted without out kept within fewer more count f m e k places inside under at =
         let one = extending needs (n - (place + 1)) (place + 1) places in
         let two = extending needs (n - (place + 1)) (place + 1) (places ++ place ∷ []) in
@@ -131,7 +131,7 @@ module _ (needs : ℕ → ℕ → Bool) (chained : IsTransitive needs) (n most :
 -- one count more is known
 pub count_known : (needs : ℕ → ℕ → Bool) (n most : ℕ) (known now : Row → Option ℕ) (left : Row) (count : ℕ) → AreCounts needs n most known
     → IsCount needs n most left count → ((q : Row) → now q ≡ cond (is_at (row_cmp left) q) (Some count) (known q))
-        → AreCounts needs n most now
+    → AreCounts needs n most now
 count_known needs n most known now left count all is updated q = ⊎_elim
     (λ (t : is_at (row_cmp left) q ≡ true).
     subst (λ o. IfSome o (IsCount needs n most q)) (sym (updated q ∙ ap (λ b. cond b (Some count) (known q)) t))
@@ -208,7 +208,7 @@ module _ (needs : ℕ → ℕ → Bool) (chained : IsTransitive needs) (n most n
         let e : place ≡ old.first + (place - old.first) = omega (arith, from) in
         ap (chosen (has_place members)) s
         ∙ chosen_with (has_place members) place (added place ∙ or_left (place == place) (has_place old.members place)
-            (eq-eqb place place refl))
+        (eq-eqb place place refl))
         ∙ ap (λ v. v ++ place ∷ [])
         (chosen_same (has_place members) (has_place old.members) place
         (λ i low. added i ∙ ap (λ b. b || has_place old.members i) (ne_eqb i place (λ q. omega (arith, low, q))))

@@ -45,11 +45,11 @@ module _ (row : Row) (first at : ℕ) (from : first ≤ at) (bound : get_or row.
   inside =
       let t = bit_at-trailing_zeros w64 word low small in
       let one : bit_at (get_or row.words (at / 64) 0) (at % 64 + zeros) ≡ 1 = sym (shifted (get_or row.words (at / 64) 0) (at % 64) zeros)
-          ∙ t.1 in
+      ∙ t.1 in
       ⊎_elim
       (λ (l : at % 64 + zeros < 64). l)
       (λ (h : 64 ≤ at % 64 + zeros). (let z = bit_at_above (get_or row.words (at / 64) 0) 64 (at % 64 + zeros) bound h in absurd
-          (omega (arith, z, one))))
+      (omega (arith, z, one))))
       (cases_lt (at % 64 + zeros) 64)
 
   none_till : HasNone (has_place row) first (at + zeros)

@@ -41,9 +41,9 @@ pushed_two needs n k old one two future without kept low out is t e f =
     let a : Future = record { left = without; sets = future.sets } in
     let b : Future = record { left = kept; sets = future.sets } in
     let p : weigh needs (n - (k + 1)) (k + 1) two ≡ weigh needs (n - (k + 1)) (k + 1) one + w b = ap (weigh needs (n - (k + 1)) (k + 1)) f
-        ∙ sum_by_push w one b in
+    ∙ sum_by_push w one b in
     let q : weigh needs (n - (k + 1)) (k + 1) one ≡ weigh needs (n - (k + 1)) (k + 1) old + w a = ap (weigh needs (n - (k + 1)) (k + 1)) e
-        ∙ sum_by_push w old a in
+    ∙ sum_by_push w old a in
     let h : weight needs (n - k) k future ≡ w a + w b = both_halves needs n k low future without out kept is t in
     sums _ _ _ _ _ _ p q h
   where

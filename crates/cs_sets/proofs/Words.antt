@@ -53,7 +53,7 @@ set_bit ws p k long low =
 -- a place is removed
 pub drop_bit : (ws : List ℕ) (p k : ℕ) → length ws ≡ 16 → p < 1024
     → has_bit (set ws (p / 64) (bit_and (get_or ws (p / 64) 0) (bit_not w64 (1 * 2 ^ (p % 64) % 2 ^ 64)))) k
-        ≡ (has_bit ws k && not (k == p))
+    ≡ (has_bit ws k && not (k == p))
 drop_bit ws p k long low =
     let v = bit_and (get_or ws (p / 64) 0) (bit_not w64 (1 * 2 ^ (p % 64) % 2 ^ 64)) in
     let inside : p / 64 < length ws = omega arith in

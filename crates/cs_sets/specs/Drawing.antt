@@ -21,7 +21,7 @@ row_cmp a b = slice_cmp nat_cmp a.words b.words
 abbrev pub IsCount : (ℕ → ℕ → Bool) → ℕ → ℕ → Row → ℕ → Type 0
 IsCount needs n most left count = (k : ℕ) (places : List ℕ) → k ≤ n → HasNone (has_place left) 0 k
     → IsAt needs n k places (has_place left) → count
-        ≡ min (length (extending needs (n - k) k places)) most
+    ≡ min (length (extending needs (n - k) k places)) most
 
 -- a table of futures has their counts
 abbrev pub AreCounts : (ℕ → ℕ → Bool) → ℕ → ℕ → (Row → Option ℕ) → Type 0
@@ -40,7 +40,7 @@ pub record IsDraw (needs : ℕ → ℕ → Bool) (n most number : ℕ) (draw : D
       (chosen (has_place draw.members) draw.first))
   pub is : slice_index_or (every needs n) number []
       ≡ slice_index_or (extending needs (n - draw.first) draw.first
-          (chosen (has_place draw.members) draw.first)) draw.rest []
+      (chosen (has_place draw.members) draw.first)) draw.rest []
 
 -- all is counted, and a table has counts by futures
 pub record IsTable (needs : ℕ → ℕ → Bool) (n count : ℕ) (known : Row → Option ℕ) : Type 0 where

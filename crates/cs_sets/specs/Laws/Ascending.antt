@@ -61,23 +61,23 @@ all_choices P needs k places one two = All-cons P places
     (cond (may needs k places k) ((places ++ k ∷ []) ∷ []) []) one
     (⊎_elim
     (λ (t : may needs k places k ≡ true). subst (λ b. All P (cond b ((places ++ k ∷ []) ∷ []) []))
-        (sym t)
+    (sym t)
     (All-cons P (places ++ k ∷ []) [] two (All-nil P)))
     (λ (f : may needs k places k ≡ false). subst (λ b. All P (cond b ((places ++ k ∷ []) ∷ []) []))
-        (sym f) (All-nil P))
+    (sym f) (All-nil P))
     (cases_Bool (may needs k places k)))
 
 choices_ordered : (needs : ℕ → ℕ → Bool) (k : ℕ) (places : List ℕ) → IsBelow k places
     → Ordered IsBefore (choices needs k places)
 choices_ordered needs k places below = ⊎_elim
     (λ (t : may needs k places k ≡ true). subst (λ b. Ordered IsBefore
-        (places ∷ cond b ((places ++ k ∷ []) ∷ []) [])) (sym t) (
+    (places ∷ cond b ((places ++ k ∷ []) ∷ []) [])) (sym t) (
       All-cons (IsBefore places) (places ++ k ∷ []) [] (without_first k places below)
           (All-nil (IsBefore places)),
       (All-nil (IsBefore (places ++ k ∷ [])), tt),
     ))
     (λ (f : may needs k places k ≡ false). subst (λ b. Ordered IsBefore
-        (places ∷ cond b ((places ++ k ∷ []) ∷ []) [])) (sym f)
+    (places ∷ cond b ((places ++ k ∷ []) ∷ []) [])) (sym f)
     (All-nil (IsBefore places), tt))
     (cases_Bool (may needs k places k))
 
@@ -86,18 +86,18 @@ module _ (needs : ℕ → ℕ → Bool) (back : IsBackward needs) where
   every_ordered zero = (All-nil (IsBefore []), tt)
   every_ordered (suc k) =
       ordered_flat (λ a b. IsAllowed needs k a × IsAllowed needs k b × IsBefore a b) IsBefore
-          (choices needs k) (every needs k)
+      (choices needs k) (every needs k)
       (ordered_with (IsAllowed needs k) IsBefore (every needs k) (each_allowed needs back k)
-          (every_ordered k))
+      (every_ordered k))
       (All-weaker (IsAllowed needs k) (λ a. Ordered IsBefore (choices needs k a))
       (λ a h. choices_ordered needs k a (allowed_below needs k a h)) (every needs k)
-          (each_allowed needs back k))
+      (each_allowed needs back k))
       (λ a b h.
       let below = allowed_below needs k b h.1 in
       all_choices (λ u. All (IsBefore u) (choices needs k b)) needs k a
       (all_choices (IsBefore a) needs k b h.2 (before_push_right k a b below h.2))
       (all_choices (IsBefore (a ++ k ∷ [])) needs k b (before_push_left k a b below h.2)
-          (before_push_both k a b below h.2)))
+      (before_push_both k a b below h.2)))
 
   pub ascends : (n : ℕ) → AllPairs IsBefore (every needs n)
   ascends n = all_pairs IsBefore (every needs n) (every_ordered n)

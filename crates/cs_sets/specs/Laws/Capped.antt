@@ -16,5 +16,5 @@ pub capped_times : (most c d x : ℕ) → 1 ≤ x → Capped most c d → Capped
 capped_times most c d x one e = ⊎_elim
     (λ (l : c < most). (let f : c ≡ d = omega (arith, l, e) in ap (λ v. min (v * x) most) f))
     (λ (h : most ≤ c). (let p = at_least c x one in let q = at_least d x one in omega
-        (arith, h, e, p, q)))
+    (arith, h, e, p, q)))
     (cases_lt c most)

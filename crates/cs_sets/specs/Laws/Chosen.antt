@@ -31,7 +31,7 @@ unfolding places_of
 places_read row n few within =
     let e : 1024 ≡ n + (1024 - n) = omega (arith, few) in
     ap (chosen (has_place row)) e ∙ chosen_on (has_place row) n (1024 - n)
-        (λ i low high. within i low)
+    (λ i low high. within i low)
 
 pub none_read : (row : Row) → ((k : ℕ) → has_place row k ≡ false) → places_of row ≡ []
 none_read row none = places_read row 0 (omega arith) (λ k low. none k)

@@ -40,11 +40,11 @@ pub future_says : (needs : ℕ → ℕ → Bool) (n k : ℕ) (a b : List ℕ) �
 unfolding same_future
 future_says needs n k a b t j l u = answer_is (may needs k a j) (may needs k b j)
     (at_of_range (λ i. same_answer (may needs k a i) (may needs k b i)) k (n - k) j t l
-        (omega (arith, l, u)))
+    (omega (arith, l, u)))
 
 module _ {S : Type 0} (same : S → S → Bool) (act : S → ℕ → S) (start : S) (is : IsLike same)
     (acts : (s t : S) (k : ℕ) → same s t ≡ true → same (act s k) (act t k) ≡ true)
-        (needs : ℕ → ℕ → Bool) (n : ℕ) where
+    (needs : ℕ → ℕ → Bool) (n : ℕ) where
   abbrev class : ℕ → List ℕ → List ℕ → Bool
   class k = one_class same act start needs n k
 
@@ -60,9 +60,9 @@ module _ {S : Type 0} (same : S → S → Bool) (act : S → ℕ → S) (start :
         let a = and_parts (same (state x) (state y)) (same_future needs n k x y) p in
         let b = and_parts (same (state y) (state z)) (same_future needs n k y z) q in
         and_from (same (state x) (state z)) (same_future needs n k x z)
-            (is.passes_on (state x) (state y) (state z) a.0 b.0)
+        (is.passes_on (state x) (state y) (state z) a.0 b.0)
         (future_from needs n k x z (λ j l u. future_says needs n k x y a.1 j l u
-            ∙ future_says needs n k y z b.1 j l u));
+        ∙ future_says needs n k y z b.1 j l u));
   }
 
   -- two of one class are extended alike
@@ -83,9 +83,9 @@ module _ {S : Type 0} (same : S → S → Bool) (act : S → ℕ → S) (start :
       let parts = and_parts (same (state a) (state b)) (same_future needs n k a b) t in
       let e : suc k ≡ k + 1 = omega arith in
       and_from (same (state (a ++ k ∷ [])) (state (b ++ k ∷ [])))
-          (same_future needs n (suc k) (a ++ k ∷ []) (b ++ k ∷ []))
+      (same_future needs n (suc k) (a ++ k ∷ []) (b ++ k ∷ []))
       (ap (λ v. same v (state (b ++ k ∷ []))) (fold_push act start a k)
-          ∙ ap (λ v. same (act (state a) k) v) (fold_push act start b k)
+      ∙ ap (λ v. same (act (state a) k) v) (fold_push act start b k)
       ∙ acts (state a) (state b) k parts.0)
       (future_from needs n (suc k) (a ++ k ∷ []) (b ++ k ∷ []) (λ j l u.
       ap (λ v. may needs v (a ++ k ∷ []) j) e ∙ may_with needs k a j
@@ -96,9 +96,9 @@ module _ {S : Type 0} (same : S → S → Bool) (act : S → ℕ → S) (start :
       → (b ≡ z) ⊎ ((may needs k b k ≡ true) × (b ++ k ∷ [] ≡ z))
   choice_cases k b z c = ⊎_elim
       (λ (t : may needs k b k ≡ true). two t (subst (λ v. Contains
-          (b ∷ cond v ((b ++ k ∷ []) ∷ []) []) z) t c))
+      (b ∷ cond v ((b ++ k ∷ []) ∷ []) []) z) t c))
       (λ (f : may needs k b k ≡ false). one (subst (λ v. Contains
-          (b ∷ cond v ((b ++ k ∷ []) ∷ []) []) z) f c))
+      (b ∷ cond v ((b ++ k ∷ []) ∷ []) []) z) f c))
       (cases_Bool (may needs k b k))
     where
       one : Contains (b ∷ []) z → (b ≡ z) ⊎ ((may needs k b k ≡ true) × (b ++ k ∷ [] ≡ z))
@@ -116,17 +116,17 @@ module _ {S : Type 0} (same : S → S → Bool) (act : S → ℕ → S) (start :
       → list_any (λ w. class (suc k) w z) (choices needs k a) ≡ true
   follows k low a b la lb t z c = ⊎_elim
       (λ (e : b ≡ z). or_left (class (suc k) a z) (list_any (λ w. class (suc k) w z)
-          (cond (may needs k a k) ((a ++ k ∷ []) ∷ []) []))
+      (cond (may needs k a k) ((a ++ k ∷ []) ∷ []) []))
       (ap (class (suc k) a) (sym e) ∙ without_alike k a b la lb t))
       (λ (w : (may needs k b k ≡ true) × (b ++ k ∷ [] ≡ z)).
       (let parts = and_parts (same (state a) (state b)) (same_future needs n k a b) t in
       let here : may needs k a k ≡ true = future_says needs n k a b parts.1 k (omega arith) low
-          ∙ w.0 in
+      ∙ w.0 in
       or_right (class (suc k) a z) (list_any (λ v. class (suc k) v z)
-          (cond (may needs k a k) ((a ++ k ∷ []) ∷ []) []))
+      (cond (may needs k a k) ((a ++ k ∷ []) ∷ []) []))
       (ap (λ v. list_any (λ u. class (suc k) u z) (cond v ((a ++ k ∷ []) ∷ []) [])) here
       ∙ or_left (class (suc k) (a ++ k ∷ []) z) false
-          (ap (class (suc k) (a ++ k ∷ [])) (sym w.1) ∙ with_alike k a b t))))
+      (ap (class (suc k) (a ++ k ∷ [])) (sym w.1) ∙ with_alike k a b t))))
       (choice_cases k b z c)
 
   -- place by place, or of all members at the end: the same sets
@@ -135,11 +135,11 @@ module _ {S : Type 0} (same : S → S → Bool) (act : S → ℕ → S) (start :
   classes_are back zero low = refl
   classes_are back (suc k) low =
       ap (λ v. firsts (class (suc k)) (flat_map (choices needs k) v))
-          (classes_are back k (omega (arith, low)))
+      (classes_are back k (omega (arith, low)))
       ∙ pruned (IsBelow k) (class k) (class (suc k)) (class_is_like (suc k)) (choices needs k)
-          (follows k (omega (arith, low))) (every needs k)
+      (follows k (omega (arith, low))) (every needs k)
       (All-weaker (IsAllowed needs k) (IsBelow k) (allowed_below needs k) (every needs k)
-          (each_allowed needs back k))
+      (each_allowed needs back k))
 
   -- ---- the different ones, by a coarser test of what is left in the end
   module _ (like : S → S → Bool) (fine : IsLike like)
@@ -158,8 +158,8 @@ module _ {S : Type 0} (same : S → S → Bool) (act : S → ℕ → S) (start :
         → list_any (λ w. leaves w z) (a ∷ []) ≡ true
     single a b la lb t z (zero, low, e) =
         or_left (leaves a z) false (ap (leaves a) (sym e)
-            ∙ coarser (state a) (state b) (and_parts (same (state a) (state b))
-            (same_future needs n n a b) t).0)
+        ∙ coarser (state a) (state b) (and_parts (same (state a) (state b))
+        (same_future needs n n a b) t).0)
     single a b la lb t z (suc i, low, e) = absurd (omega (arith, low))
 
     pub different_are : IsBackward needs → firsts leaves (classes same act start needs n n)
@@ -169,5 +169,5 @@ module _ {S : Type 0} (same : S → S → Bool) (act : S → ℕ → S) (start :
         ∙ ap (firsts leaves) (sym (flat_single (firsts (class n) (every needs n))))
         ∙ pruned (IsBelow n) (class n) leaves leaves_is_like (λ x. x ∷ []) single (every needs n)
         (All-weaker (IsAllowed needs n) (IsBelow n) (allowed_below needs n) (every needs n)
-            (each_allowed needs back n))
+        (each_allowed needs back n))
         ∙ ap (firsts leaves) (flat_single (every needs n))

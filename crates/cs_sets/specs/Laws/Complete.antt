@@ -35,13 +35,13 @@ module _ (needs : ℕ → ℕ → Bool) (back : IsBackward needs) where
         (λ (e : b ≡ length places).
         (let l = allowed.in_range a (omega (arith, x, e)) in
         let f = get_or_push places k 0 b (sym e) in let g = get_or_append_left places (k ∷ []) 0 a
-            (omega (arith, x, e)) in
+        (omega (arith, x, e)) in
         omega (arith, l, f, g)))
         (λ (e : b ≡ length places → ⊥).
         (let low : b < length places = omega (arith, y, e, length-append places (k ∷ [])) in
         let l = allowed.ascending a b x low in
         let f = get_or_append_left places (k ∷ []) 0 b low in let g = get_or_append_left places
-            (k ∷ []) 0 a (omega (arith, x, low)) in
+        (k ∷ []) 0 a (omega (arith, x, low)) in
         omega (arith, l, f, g)))
         (cases_eq b (length places));
     in_range = λ a x. ⊎_elim
@@ -49,14 +49,14 @@ module _ (needs : ℕ → ℕ → Bool) (back : IsBackward needs) where
         (λ (e : a ≡ length places → ⊥).
         (let low : a < length places = omega (arith, x, e, length-append places (k ∷ [])) in
         let l = allowed.in_range a low in let f = get_or_append_left places (k ∷ []) 0 a low in
-            omega (arith, l, f)))
+        omega (arith, l, f)))
         (cases_eq a (length places));
     closed = λ a i x t. ⊎_elim
         (λ (e : a ≡ length places).
         (let f = get_or_push places k 0 a (sym e) in
         let s : needs i k ≡ true = sym (ap (needs i) f) ∙ t in
         Contains-append_left places (k ∷ []) i (has_contains places i
-            (may_says needs k places k i is (back i k s) s))))
+        (may_says needs k places k i is (back i k s) s))))
         (λ (e : a ≡ length places → ⊥).
         (let low : a < length places = omega (arith, x, e, length-append places (k ∷ [])) in
         let f = get_or_append_left places (k ∷ []) 0 a low in
@@ -71,11 +71,11 @@ module _ (needs : ℕ → ℕ → Bool) (back : IsBackward needs) where
       (stays k places allowed)
       (⊎_elim
       (λ (t : may needs k places k ≡ true). subst (λ b. All (IsAllowed needs (suc k))
-          (cond b ((places ++ k ∷ []) ∷ []) [])) (sym t)
+      (cond b ((places ++ k ∷ []) ∷ []) [])) (sym t)
       (All-cons (IsAllowed needs (suc k)) (places ++ k ∷ []) [] (joins k places allowed t)
-          (All-nil (IsAllowed needs (suc k)))))
+      (All-nil (IsAllowed needs (suc k)))))
       (λ (f : may needs k places k ≡ false). subst (λ b. All (IsAllowed needs (suc k))
-          (cond b ((places ++ k ∷ []) ∷ []) [])) (sym f)
+      (cond b ((places ++ k ∷ []) ∷ []) [])) (sym f)
       (All-nil (IsAllowed needs (suc k))))
       (cases_Bool (may needs k places k)))
 
@@ -84,7 +84,7 @@ module _ (needs : ℕ → ℕ → Bool) (back : IsBackward needs) where
   each_allowed (suc k) =
       all_flat (IsAllowed needs (suc k)) (choices needs k) (every needs k)
       (All-weaker (IsAllowed needs k) (λ places. All (IsAllowed needs (suc k))
-          (choices needs k places)) (grown k) (every needs k)
+      (choices needs k places)) (grown k) (every needs k)
       (each_allowed k))
 
   -- ---- each allowed set is a member
@@ -95,16 +95,16 @@ module _ (needs : ℕ → ℕ → Bool) (back : IsBackward needs) where
   lower k x places allowed ne =
       let long = length-append places (x ∷ []) in
       let last : get_or (places ++ x ∷ []) (length places) 0
-          ≡ x = get_or_push places x 0 (length places) refl in
+      ≡ x = get_or_push places x 0 (length places) refl in
       let high = allowed.in_range (length places) (omega (arith, long)) in
       record {
         ascending = allowed.ascending;
         in_range = λ a low. ⊎_elim
             (λ (e : a ≡ length places). (let f = get_or_push places x 0 a (sym e) in omega
-                (arith, f, last, high, ne)))
+            (arith, f, last, high, ne)))
             (λ (e : a ≡ length places → ⊥).
             (let l = allowed.ascending a (length places) (omega (arith, low, long, e))
-                (omega (arith, long)) in
+            (omega (arith, long)) in
             omega (arith, l, last, high)))
             (cases_eq a (length places));
         closed = allowed.closed;
@@ -116,7 +116,7 @@ module _ (needs : ℕ → ℕ → Bool) (back : IsBackward needs) where
   rest k places allowed =
       let long = length-append places (k ∷ []) in
       let last : get_or (places ++ k ∷ []) (length places) 0
-          ≡ k = get_or_push places k 0 (length places) refl in
+      ≡ k = get_or_push places k 0 (length places) refl in
       let under : (a : ℕ) → a < length places → get_or places a 0 < k = λ a low.
       (let l = allowed.ascending a (length places) low (omega (arith, long)) in
       let f = get_or_append_left places (k ∷ []) 0 a low in omega (arith, l, f, last)) in
@@ -124,7 +124,7 @@ module _ (needs : ℕ → ℕ → Bool) (back : IsBackward needs) where
         ascending = λ a b x y.
             let l = allowed.ascending a b x (omega (arith, y, long)) in
             let f = get_or_append_left places (k ∷ []) 0 b y in let g = get_or_append_left places
-                (k ∷ []) 0 a (omega (arith, x, y)) in
+            (k ∷ []) 0 a (omega (arith, x, y)) in
             omega (arith, l, f, g);
         in_range = under;
         closed = λ a i low t.
@@ -134,7 +134,7 @@ module _ (needs : ℕ → ℕ → Bool) (back : IsBackward needs) where
             (λ (c : Contains places i). c)
             (λ (e : k ≡ i). absurd (omega (arith, before, u, e)))
             (Contains-push_cases places k i (allowed.closed a i (omega (arith, low, long))
-                (ap (needs i) f ∙ t)));
+            (ap (needs i) f ∙ t)));
       }
 
   fits : (k : ℕ) (places : List ℕ) → IsAllowed needs (suc k) (places ++ k ∷ [])
@@ -142,12 +142,12 @@ module _ (needs : ℕ → ℕ → Bool) (back : IsBackward needs) where
   fits k places allowed =
       let long = length-append places (k ∷ []) in
       let last : get_or (places ++ k ∷ []) (length places) 0
-          ≡ k = get_or_push places k 0 (length places) refl in
+      ≡ k = get_or_push places k 0 (length places) refl in
       may_from needs k places k (λ i low t. ⊎_elim
       (λ (c : Contains places i). contains_has places i c)
       (λ (e : k ≡ i). absurd (omega (arith, low, e)))
       (Contains-push_cases places k i (allowed.closed (length places) i (omega (arith, long))
-          (ap (needs i) last ∙ t))))
+      (ap (needs i) last ∙ t))))
 
   first_choice : (k : ℕ) (places : List ℕ) → Contains (choices needs k places) places
   first_choice k places = (0, omega arith, refl)
@@ -156,7 +156,7 @@ module _ (needs : ℕ → ℕ → Bool) (back : IsBackward needs) where
       → Contains (choices needs k places) (places ++ k ∷ [])
   second_choice k places t =
       let P : Bool → Type 0 = λ b. Contains (places ∷ cond b ((places ++ k ∷ []) ∷ []) [])
-          (places ++ k ∷ []) in
+      (places ++ k ∷ []) in
       subst P (sym t) (1, omega arith, refl)
 
   pub none_below : (places : List ℕ) → IsAllowed needs 0 places → [] ≡ places
@@ -175,18 +175,18 @@ module _ (needs : ℕ → ℕ → Bool) (back : IsBackward needs) where
   has_more : (k : ℕ) → ((places : List ℕ) → IsAllowed needs k places
       → Contains (every needs k) places)
       → (places : List ℕ) (x : ℕ) → IsAllowed needs (suc k) (places ++ x ∷ [])
-          → Contains (every needs (suc k)) (places ++ x ∷ [])
+      → Contains (every needs (suc k)) (places ++ x ∷ [])
   has_more k before places x allowed = ⊎_elim
       (λ (e : x ≡ k).
       (let is : IsAllowed needs (suc k) (places ++ k ∷ []) = subst
-          (λ v. IsAllowed needs (suc k) (places ++ v ∷ [])) e allowed in
+      (λ v. IsAllowed needs (suc k) (places ++ v ∷ [])) e allowed in
       subst (λ v. Contains (every needs (suc k)) (places ++ v ∷ [])) (sym e)
       (contains_flat (choices needs k) (every needs k) places (places ++ k ∷ [])
-          (before places (rest k places is))
+      (before places (rest k places is))
       (second_choice k places (fits k places is)))))
       (λ (e : x ≡ k → ⊥).
       contains_flat (choices needs k) (every needs k) (places ++ x ∷ []) (places ++ x ∷ [])
-          (before (places ++ x ∷ []) (lower k x places allowed e))
+      (before (places ++ x ∷ []) (lower k x places allowed e))
       (first_choice k (places ++ x ∷ [])))
       (cases_eq x k)
 
@@ -197,7 +197,7 @@ module _ (needs : ℕ → ℕ → Bool) (back : IsBackward needs) where
       (λ (e : places ≡ []).
       subst (λ v. Contains (every needs (suc k)) v) (sym e)
       (contains_flat (choices needs k) (every needs k) [] [] (has_each k [] (empty k))
-          (first_choice k [])))
+      (first_choice k [])))
       (λ (w : (ys : List ℕ) × ((y : ℕ) × (places ≡ ys ++ y ∷ []))).
       subst (λ v. Contains (every needs (suc k)) v) (sym w.1.1)
       (has_more k (has_each k) w.0 w.1.0 (subst (IsAllowed needs (suc k)) w.1.1 allowed)))

@@ -30,11 +30,11 @@ every_is needs n =
 pub extending_with : (needs : ℕ → ℕ → Bool) (m k : ℕ) (places : List ℕ) → may needs k places k
     ≡ true
     → extending needs (suc m) k places ≡ extending needs m (k + 1) places ++ extending needs m
-        (k + 1) (places ++ k ∷ [])
+    (k + 1) (places ++ k ∷ [])
 extending_with needs m k places t =
     ap (λ b. flat_map (extending needs m (k + 1)) (places ∷ cond b ((places ++ k ∷ []) ∷ []) [])) t
     ∙ ap (λ v. extending needs m (k + 1) places ++ v)
-        (append-nil (extending needs m (k + 1) (places ++ k ∷ [])))
+    (append-nil (extending needs m (k + 1) (places ++ k ∷ [])))
 
 pub extending_without : (needs : ℕ → ℕ → Bool) (m k : ℕ) (places : List ℕ) → may needs k places k
     ≡ false
@@ -50,7 +50,7 @@ pub future_without : (needs : ℕ → ℕ → Bool) (n k : ℕ) (places : List �
     → IsFuture needs n (k + 1) places (lacking needs k has)
 future_without needs n k places has below is j high low =
     ap (λ b. b && not (needs k j)) (is j (omega (arith, high)) low)
-        ∙ sym (may_without needs k places j below)
+    ∙ sym (may_without needs k places j below)
 
 pub future_with : (needs : ℕ → ℕ → Bool) (n k : ℕ) (places : List ℕ) (has : ℕ → Bool)
     → IsFuture needs n k places has
@@ -74,27 +74,27 @@ pub count_is : (needs : ℕ → ℕ → Bool) (n m k : ℕ) (places : List ℕ) 
 count_is needs n zero k places has e below is = refl
 count_is needs n (suc m) k places has e below is =
     let without = count_is needs n m (k + 1) places (lacking needs k has) (omega (arith, e))
-        (below_more k places below)
+    (below_more k places below)
     (future_without needs n k places has below is) in
     ⊎_elim
     (λ (t : may needs k places k ≡ true).
     (let more = count_is needs n m (k + 1) (places ++ k ∷ []) has (omega (arith, e))
-        (below_push k places below)
+    (below_push k places below)
     (future_with needs n k places has is) in
     let here : has k ≡ true = is k (omega arith) (omega (arith, e)) ∙ t in
     ap length (extending_with needs m k places t)
     ∙ length-append (extending needs m (k + 1) places)
-        (extending needs m (k + 1) (places ++ k ∷ []))
+    (extending needs m (k + 1) (places ++ k ∷ []))
     ∙ ap (λ x. x + length (extending needs m (k + 1) (places ++ k ∷ []))) without
     ∙ ap (λ x. count needs m (k + 1) (lacking needs k has) + x) more
     ∙ ap (λ b. count needs m (k + 1) (lacking needs k has) + cond b (count needs m (k + 1) has) 0)
-        (sym here)))
+    (sym here)))
     (λ (f : may needs k places k ≡ false).
     (let here : has k ≡ false = is k (omega arith) (omega (arith, e)) ∙ f in
     ap length (extending_without needs m k places f) ∙ without
     ∙ add_none (count needs m (k + 1) (lacking needs k has))
     ∙ ap (λ b. count needs m (k + 1) (lacking needs k has) + cond b (count needs m (k + 1) has) 0)
-        (sym here)))
+    (sym here)))
     (cases_Bool (may needs k places k))
   where
     add_none : (x : ℕ) → x ≡ x + 0
@@ -114,4 +114,4 @@ pub every_counts : (needs : ℕ → ℕ → Bool) (n : ℕ) → length (every ne
 every_counts needs n =
     ap length (every_is needs n)
     ∙ count_is needs n n 0 [] (λ j. true) (omega arith) none_below
-        (all_at_first needs n (λ j. true) (λ j low. refl))
+    (all_at_first needs n (λ j. true) (λ j low. refl))

@@ -66,7 +66,7 @@ module _ {X : Type 0} (like : X → X → Bool) (is : IsLike like) where
       (λ (m : met kept x ≡ true). ap (λ v. met v x) (add_met kept x m) ∙ m)
       (λ (f : met kept x ≡ false). ap (λ v. met v x) (add_new kept x f)
       ∙ list_any-append (λ y. like y x) kept (x ∷ [])
-          ∙ or_right (met kept x) (met (x ∷ []) x) (or_left (like x x) false (is.itself x)))
+      ∙ or_right (met kept x) (met (x ∷ []) x) (or_left (like x x) false (is.itself x)))
       (cases_Bool (met kept x))
 
   -- each element of the list is met in the end
@@ -88,7 +88,7 @@ module _ {X : Type 0} (like : X → X → Bool) (is : IsLike like) where
   met_like kept w z t l =
       let found = found_any (λ y. like y w) kept t in
       any_found (λ y. like y z) kept found.1 (found.0, found.2, found.3)
-          (is.passes_on found.1 w z found.4 l)
+      (is.passes_on found.1 w z found.4 l)
 
   -- no two of the kept are alike
   pub apart : (xs kept : List X) → Ordered (λ a b. like a b ≡ false) kept
@@ -96,21 +96,21 @@ module _ {X : Type 0} (like : X → X → Bool) (is : IsLike like) where
   apart [] kept h = h
   apart (x ∷ xs) kept h = ⊎_elim
       (λ (m : met kept x ≡ true). subst (λ v. Ordered (λ a b. like a b ≡ false) (fold add v xs))
-          (sym (add_met kept x m)) (apart xs kept h))
+      (sym (add_met kept x m)) (apart xs kept h))
       (λ (f : met kept x ≡ false). subst (λ v. Ordered (λ a b. like a b ≡ false) (fold add v xs))
-          (sym (add_new kept x f))
+      (sym (add_new kept x f))
       (apart xs (kept ++ x ∷ [])
       (ordered_append (λ a b. like a b ≡ false) kept (x ∷ []) h
-          (All-nil (λ b. like x b ≡ false), tt)
+      (All-nil (λ b. like x b ≡ false), tt)
       (λ k d low. All-cons (λ b. like (get_or kept k d) b ≡ false) x [] (not_met kept x k d low f)
-          (All-nil (λ b. like (get_or kept k d) b ≡ false))))))
+      (All-nil (λ b. like (get_or kept k d) b ≡ false))))))
       (cases_Bool (met kept x))
     where
       not_met : (kept : List X) (x : X) (k : ℕ) (d : X) → k < length kept → met kept x ≡ false
           → like (get_or kept k d) x ≡ false
       not_met kept x k d low f = ⊎_elim
           (λ (t : like (get_or kept k d) x ≡ true). absurd
-              (false≢true (sym f ∙ list_any_at (λ y. like y x) kept k d low t)))
+          (false≢true (sym f ∙ list_any_at (λ y. like y x) kept k d low t)))
           (λ (g : like (get_or kept k d) x ≡ false). g)
           (cases_Bool (like (get_or kept k d) x))
 
@@ -120,31 +120,31 @@ module _ {X : Type 0} (like : X → X → Bool) (is : IsLike like) where
   kept_all P [] kept all h = h
   kept_all P (x ∷ xs) kept all h = ⊎_elim
       (λ (m : met kept x ≡ true). subst (λ v. All P (fold add v xs)) (sym (add_met kept x m))
-          (kept_all P xs kept (All-tail P x xs all) h))
+      (kept_all P xs kept (All-tail P x xs all) h))
       (λ (f : met kept x ≡ false). subst (λ v. All P (fold add v xs)) (sym (add_new kept x f))
       (kept_all P xs (kept ++ x ∷ []) (All-tail P x xs all)
-          (All-push P kept x h (All-head P x xs all))))
+      (All-push P kept x h (All-head P x xs all))))
       (cases_Bool (met kept x))
 
 -- one of two alike is enough, if what follows from one of them is like what follows from the other
 module _ {X Y : Type 0} (P : X → Type 0) (close : X → X → Bool) (like : Y → Y → Bool)
     (is : IsLike like) (f : X → List Y)
     (follows : (a b : X) → P a → P b → close a b ≡ true → (z : Y) → Contains (f b) z
-        → list_any (λ w. like w z) (f a) ≡ true) where
+    → list_any (λ w. like w z) (f a) ≡ true) where
   contains_flat_any : (kept : List X) (a : X) (p : Y → Bool) → Contains kept a → list_any p (f a)
       ≡ true → list_any p (flat_map f kept) ≡ true
   contains_flat_any [] a p (k, low, e) t = absurd (omega (arith, low))
   contains_flat_any (x ∷ xs) a p (zero, low, e) t =
       list_any-append p (f x) (flat_map f xs) ∙ or_left (list_any p (f x))
-          (list_any p (flat_map f xs)) (ap (λ v. list_any p (f v)) e ∙ t)
+      (list_any p (flat_map f xs)) (ap (λ v. list_any p (f v)) e ∙ t)
   contains_flat_any (x ∷ xs) a p (suc k, low, e) t =
       list_any-append p (f x) (flat_map f xs)
       ∙ or_right (list_any p (f x)) (list_any p (flat_map f xs))
-          (contains_flat_any xs a p (k, omega (arith, low), e) t)
+      (contains_flat_any xs a p (k, omega (arith, low), e) t)
 
   all_follow : (kept : List X) (x : X) → All P kept → P x → list_any (λ y. close y x) kept ≡ true
       → All (λ z. list_any (λ y. like y z) (fold (add_first like) [] (flat_map f kept)) ≡ true)
-          (f x)
+      (f x)
   all_follow kept x all here t = λ k d low.
       let z = get_or (f x) k d in
       let found = found_any (λ y. close y x) kept t in
@@ -152,10 +152,10 @@ module _ {X Y : Type 0} (P : X → Type 0) (close : X → X → Bool) (like : Y 
       let in_kept : Contains kept a = (found.0, found.2, found.3) in
       let there = contains_flat_any kept a (λ w. like w z) in_kept
       (follows a x (All-contains P kept a all in_kept) here found.4 z
-          (Contains-get_or (f x) k d low)) in
+      (Contains-get_or (f x) k d low)) in
       let w = found_any (λ y. like y z) (flat_map f kept) there in
       met_like like is (fold (add_first like) [] (flat_map f kept)) w.1 z
-          (all_met like is (flat_map f kept) [] w.1 (w.0, w.2, w.3)) w.4
+      (all_met like is (flat_map f kept) [] w.1 (w.0, w.2, w.3)) w.4
 
   pruned_from : (xs kept : List X) → All P xs → All P kept
       → fold (add_first like) (fold (add_first like) [] (flat_map f kept)) (flat_map f xs)
@@ -167,18 +167,18 @@ module _ {X Y : Type 0} (P : X → Type 0) (close : X → X → Bool) (like : Y 
       ∙ ⊎_elim
       (λ (t : list_any (λ y. close y x) kept ≡ true).
       ap (λ v. fold (add_first like) v (flat_map f xs))
-          (none_new like is (f x) acc (all_follow kept x h (All-head P x xs all) t))
+      (none_new like is (f x) acc (all_follow kept x h (All-head P x xs all) t))
       ∙ pruned_from xs kept (All-tail P x xs all) h
       ∙ ap (λ b. fold (add_first like) [] (flat_map f
-          (fold (add_first close) (cond b kept (kept ++ x ∷ [])) xs))) (sym t))
+      (fold (add_first close) (cond b kept (kept ++ x ∷ [])) xs))) (sym t))
       (λ (n : list_any (λ y. close y x) kept ≡ false).
       ap (λ v. fold (add_first like) v (flat_map f xs))
       (sym (fold-append (add_first like) [] (flat_map f kept) (f x))
-          ∙ ap (fold (add_first like) []) (sym (flat_push kept x)))
+      ∙ ap (fold (add_first like) []) (sym (flat_push kept x)))
       ∙ pruned_from xs (kept ++ x ∷ []) (All-tail P x xs all)
-          (All-push P kept x h (All-head P x xs all))
+      (All-push P kept x h (All-head P x xs all))
       ∙ ap (λ b. fold (add_first like) [] (flat_map f
-          (fold (add_first close) (cond b kept (kept ++ x ∷ [])) xs))) (sym n))
+      (fold (add_first close) (cond b kept (kept ++ x ∷ [])) xs))) (sym n))
       (cases_Bool (list_any (λ y. close y x) kept))
     where
       flat_push : (kept : List X) (x : X) → flat_map f (kept ++ x ∷ []) ≡ flat_map f kept ++ f x

@@ -48,7 +48,7 @@ flat_pair f xs x y z w rest at last first = (
         ∙ ap (λ v. flat_map f at.0 ++ (v ++ (f y ++ flat_map f at.1.0))) last.1
         ∙ ap (λ v. flat_map f at.0 ++ ((last.0 ++ z ∷ []) ++ (v ++ flat_map f at.1.0))) first
         ∙ ap (λ v. flat_map f at.0 ++ v) (append_assoc last.0 (z ∷ [])
-            (w ∷ (rest ++ flat_map f at.1.0)))
+        (w ∷ (rest ++ flat_map f at.1.0)))
         ∙ sym (append_assoc (flat_map f at.0) last.0 (z ∷ w ∷ (rest ++ flat_map f at.1.0))),
   ),
 )
@@ -57,8 +57,11 @@ flat_part : {X Y : Type 0} (f : X → List Y) (xs : List X) (x : X) (z w : Y) �
     ≡ z ∷ w ∷ [] → IsPair (flat_map f xs) z w
 flat_part f xs x z w at two = (
   flat_map f at.0,
-  (flat_map f at.1.0, ap (flat_map f) at.1.1 ∙ flat_map-append f at.0 (x ∷ at.1.0)
-      ∙ ap (λ v. flat_map f at.0 ++ (v ++ flat_map f at.1.0)) two),
+  (
+    flat_map f at.1.0,
+    ap (flat_map f) at.1.1 ∙ flat_map-append f at.0 (x ∷ at.1.0)
+        ∙ ap (λ v. flat_map f at.0 ++ (v ++ flat_map f at.1.0)) two,
+  ),
 )
 
 flat_in : {X Y : Type 0} (f : X → List Y) (xs : List X) (x : X) (z : Y) → IsPart xs x
@@ -81,7 +84,7 @@ pub chosen_more : (has : ℕ → Bool) (k : ℕ) → chosen has (suc k)
 chosen_more has k =
     let e : suc k ≡ k + 1 = omega arith in
     ap (chosen has) e ∙ ap (filter has) (range_more k)
-        ∙ filter-append has (range_with_len 0 k) (k ∷ [])
+    ∙ filter-append has (range_with_len 0 k) (k ∷ [])
 
 pub chosen_with : (has : ℕ → Bool) (k : ℕ) → has k ≡ true → chosen has (suc k)
     ≡ chosen has k ++ k ∷ []
@@ -96,10 +99,10 @@ chosen_past has zero i high = refl
 chosen_past has (suc k) i high = ⊎_elim
     (λ (t : has k ≡ true).
     ap (λ v. is_member v i) (chosen_with has k t) ∙ member_other (chosen has k) k i
-        (λ e. omega (arith, e, high))
+    (λ e. omega (arith, e, high))
     ∙ chosen_past has k i (omega (arith, high)))
     (λ (f : has k ≡ false). ap (λ v. is_member v i) (chosen_without has k f)
-        ∙ chosen_past has k i (omega (arith, high)))
+    ∙ chosen_past has k i (omega (arith, high)))
     (cases_Bool (has k))
 
 pub chosen_has : (has : ℕ → Bool) (k i : ℕ) → i < k → is_member (chosen has k) i ≡ has i
@@ -107,9 +110,9 @@ chosen_has has zero i low = absurd (omega (arith, low))
 chosen_has has (suc k) i low = ⊎_elim
     (λ (t : has k ≡ true). ap (λ v. is_member v i) (chosen_with has k t) ∙ ⊎_elim
     (λ (e : k ≡ i). ap (λ v. is_member (chosen has k ++ v ∷ []) i) e ∙ member_at e
-        ∙ sym (ap has (sym e) ∙ t))
+    ∙ sym (ap has (sym e) ∙ t))
     (λ (ne : k ≢ i). member_other (chosen has k) k i ne
-        ∙ chosen_has has k i (omega (arith, low, ne)))
+    ∙ chosen_has has k i (omega (arith, low, ne)))
     (cases_eq k i))
     (λ (f : has k ≡ false). ap (λ v. is_member v i) (chosen_without has k f) ∙ ⊎_elim
     (λ (e : k ≡ i). none_there e ∙ sym (ap has (sym e) ∙ f))
@@ -127,7 +130,7 @@ pub chosen_same : (p q : ℕ → Bool) (k : ℕ) → ((i : ℕ) → i < k → p 
 chosen_same p q zero same = refl
 chosen_same p q (suc k) same =
     chosen_more p k ∙ ap (λ v. v ++ cond (p k) (k ∷ []) [])
-        (chosen_same p q k (λ i low. same i (omega (arith, low))))
+    (chosen_same p q k (λ i low. same i (omega (arith, low))))
     ∙ ap (λ b. chosen q k ++ cond b (k ∷ []) []) (same k (omega arith)) ∙ sym (chosen_more q k)
 
 -- no place from k on passes
@@ -151,7 +154,7 @@ module _ (needs : ℕ → ℕ → Bool) (back : IsBackward needs) (n : ℕ) (has
       ≡ true
   chosen_may j t i is =
       let low = back i j is in sym (chosen_has has j i low)
-          ∙ may_says needs j (chosen has j) j i t low is
+      ∙ may_says needs j (chosen has j) j i t low is
 
   two_choices : (j : ℕ) → may needs j (chosen has j) j ≡ true → choices needs j (chosen has j)
       ≡ chosen has j ∷ (chosen has j ++ j ∷ []) ∷ []
@@ -168,7 +171,7 @@ module _ (needs : ℕ → ℕ → Bool) (back : IsBackward needs) (n : ℕ) (has
       ))
       (λ (f : has j ≡ false). ⊎_elim
       (λ (m : may needs j (chosen has j) j ≡ true). absurd
-          (bound (record { missing = f; closed = chosen_may j m })))
+      (bound (record { missing = f; closed = chosen_may j m })))
       (λ (m : may needs j (chosen has j) j ≡ false). (
         [],
         ap (λ b. chosen has j ∷ cond b ((chosen has j ++ j ∷ []) ∷ []) []) m
@@ -182,8 +185,11 @@ module _ (needs : ℕ → ℕ → Bool) (back : IsBackward needs) (n : ℕ) (has
   choice_part j low = ⊎_elim
       (λ (t : has j ≡ true). (
         chosen has j ∷ [],
-        ([], two_choices j (may_chosen j (λ i is. closed i j low t is))
-            ∙ ap (λ v. chosen has j ∷ v ∷ []) (sym (chosen_with has j t))),
+        (
+          [],
+          two_choices j (may_chosen j (λ i is. closed i j low t is))
+              ∙ ap (λ v. chosen has j ∷ v ∷ []) (sym (chosen_with has j t)),
+        ),
       ))
       (λ (f : has j ≡ false). (
         [],
@@ -199,14 +205,14 @@ module _ (needs : ℕ → ℕ → Bool) (back : IsBackward needs) (n : ℕ) (has
   part zero low = ([], ([], refl))
   part (suc j) low =
       flat_in (choices needs j) (every needs j) (chosen has j) (chosen has (suc j))
-          (part j (omega (arith, low))) (choice_part j (omega (arith, low)))
+      (part j (omega (arith, low))) (choice_part j (omega (arith, low)))
 
   -- it is the last one, if no place can be added
   last : (j : ℕ) → j ≤ n → HasNoneFree needs has 0 n → IsEnd (every needs j) (chosen has j)
   last zero low none = ([], refl)
   last (suc j) low none =
       flat_end (choices needs j) (every needs j) (chosen has j) (chosen has (suc j))
-          (last j (omega (arith, low)) none)
+      (last j (omega (arith, low)) none)
       (last_choice j (omega (arith, low)) (none j (omega arith) (omega (arith, low))))
 
   module _ (k : ℕ) (is : IsLastFree needs has n k) where
@@ -219,9 +225,9 @@ module _ (needs : ℕ → ℕ → Bool) (back : IsBackward needs) (n : ℕ) (has
         let e : suc k + 0 ≡ suc k = omega arith in
         subst_pair (sym e)
         (flat_part (choices needs k) (every needs k) (chosen has k) (chosen has (suc k)) added
-            (part k (omega (arith, low)))
+        (part k (omega (arith, low)))
         (two_choices k (may_chosen k is.free.closed) ∙ ap (λ v. v ∷ added ∷ [])
-            (sym (chosen_without has k is.free.missing))))
+        (sym (chosen_without has k is.free.missing))))
       where
         subst_pair : {j l : ℕ} → j ≡ l → IsPair (every needs j) (chosen has j) added
             → IsPair (every needs l) (chosen has l) added
@@ -239,7 +245,7 @@ module _ (needs : ℕ → ℕ → Bool) (back : IsBackward needs) (n : ℕ) (has
         let b = is.below in
         let e : suc k + (n - suc k) ≡ n = omega (arith, b) in
         subst (λ v. IsPair (every needs v) (chosen has v) added) e
-            (pair (n - suc k) (omega (arith, b)))
+        (pair (n - suc k) (omega (arith, b)))
 
 -- ---- from a member on
 
@@ -257,7 +263,7 @@ from_split (b ∷ bs) x after h =
     let ne = not_before_itself b x (All-contains (IsBefore b) (bs ++ x ∷ after) x h.0
     (Contains-append_right bs (x ∷ after) x (0, omega arith, refl))) in
     ap (λ v. cond v (b ∷ (bs ++ x ∷ after)) (from_on x (bs ++ x ∷ after))) (other_set b x ne)
-        ∙ from_split bs x after h.1
+    ∙ from_split bs x after h.1
 
 from_first : (xs before : List (List ℕ)) (x : List ℕ) (after : List (List ℕ)) → Ordered IsBefore xs
     → xs ≡ before ++ x ∷ after
@@ -277,14 +283,14 @@ module _ (needs : ℕ → ℕ → Bool) (back : IsBackward needs) (n : ℕ) (has
   -- one can: the set with the last such place, and nothing beyond, comes next
   pub one_follows : (k : ℕ) → IsLastFree needs has n k
       → every_from needs n (chosen has n) ≡ chosen has n ∷ every_from needs n
-          (chosen has k ++ k ∷ [])
+      (chosen has k ++ k ∷ [])
   one_follows k is =
       let w = next_pair needs back n has closed k is in
       let next = chosen has k ++ k ∷ [] in
       let here = from_first (every needs n) w.0 (chosen has n) (next ∷ w.1.0)
-          (every_ordered needs back n) w.1.1 in
+      (every_ordered needs back n) w.1.1 in
       let there = from_first (every needs n) (w.0 ++ chosen has n ∷ []) next w.1.0
-          (every_ordered needs back n)
+      (every_ordered needs back n)
       (w.1.1 ∙ sym (append_assoc w.0 (chosen has n ∷ []) (next ∷ w.1.0))) in
       here ∙ ap (λ v. chosen has n ∷ v) (sym there)
 

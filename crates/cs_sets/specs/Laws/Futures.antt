@@ -21,7 +21,7 @@ count_same needs (suc m) k p q same =
     let one = count_same needs m (k + 1) (lacking needs k p) (lacking needs k q)
     (λ j l u. ap (λ b. b && not (needs k j)) (same j (omega (arith, l)) (omega (arith, u)))) in
     let two = count_same needs m (k + 1) p q (λ j l u. same j (omega (arith, l)) (omega (arith, u)))
-        in
+    in
     ap (λ v. v + cond (p k) (count needs m (k + 1) p) 0) one
     ∙ ap (λ b. count needs m (k + 1) (lacking needs k q) + cond b (count needs m (k + 1) p) 0) here
     ∙ ap (λ v. count needs m (k + 1) (lacking needs k q) + cond (q k) v 0) two
@@ -40,7 +40,7 @@ other_place p j k l = ap (λ b. p && not b) (ne_eqb j k (λ e. omega (arith, l, 
 
 module _ (needs : ℕ → ℕ → Bool) (n k : ℕ) (low : k < n) (future : Future) (without : Row)
     (out : (j : ℕ) → has_place without j ≡ (lacking needs k (has_place future.left) j && not
-        (j == k))) where
+    (j == k))) where
   rest : ℕ → Row → ℕ
   rest c row = c * count needs (n - (k + 1)) (k + 1) (has_place row)
 
@@ -53,21 +53,21 @@ module _ (needs : ℕ → ℕ → Bool) (n k : ℕ) (low : k < n) (future : Futu
   opened : weight needs (n - k) k future
       ≡ future.sets * (count needs (n - (k + 1)) (k + 1) (lacking needs k (has_place future.left))
       + cond (has_place future.left k) (count needs (n - (k + 1)) (k + 1) (has_place future.left))
-          0)
+      0)
   opened = let m : n - k ≡ suc (n - (k + 1)) = omega (arith, low) in ap
       (λ v. future.sets * count needs v k (has_place future.left)) m
 
   -- the place can't be taken
   pub one_half : has_place future.left k ≡ false
       → weight needs (n - k) k future ≡ future.sets * count needs (n - (k + 1)) (k + 1)
-          (has_place without)
+      (has_place without)
   one_half f =
       opened
       ∙ ap (λ b. future.sets * (count needs (n - (k + 1)) (k + 1)
-          (lacking needs k (has_place future.left))
+      (lacking needs k (has_place future.left))
       + cond b (count needs (n - (k + 1)) (k + 1) (has_place future.left)) 0)) f
       ∙ ap (λ v. future.sets * (v + 0)) out_is ∙ ap (λ v. future.sets * v)
-          (plus_none (count needs (n - (k + 1)) (k + 1) (has_place without)))
+      (plus_none (count needs (n - (k + 1)) (k + 1) (has_place without)))
     where
       plus_none : (a : ℕ) → a + 0 ≡ a
       plus_none a = omega arith
@@ -77,21 +77,21 @@ module _ (needs : ℕ → ℕ → Bool) (n k : ℕ) (low : k < n) (future : Futu
       ≡ (has_place future.left j && not (j == k))) → has_place future.left k ≡ true
       → weight needs (n - k) k future
       ≡ future.sets * count needs (n - (k + 1)) (k + 1) (has_place without) + future.sets * count
-          needs (n - (k + 1)) (k + 1) (has_place kept)
+      needs (n - (k + 1)) (k + 1) (has_place kept)
   both_halves kept is t =
       let in_is : count needs (n - (k + 1)) (k + 1) (has_place future.left)
-          ≡ count needs (n - (k + 1)) (k + 1) (has_place kept) =
+      ≡ count needs (n - (k + 1)) (k + 1) (has_place kept) =
       count_same needs (n - (k + 1)) (k + 1) (has_place future.left) (has_place kept)
       (λ j l u. sym (is j ∙ other_place (has_place future.left j) j k l)) in
       opened
       ∙ ap (λ b. future.sets * (count needs (n - (k + 1)) (k + 1)
-          (lacking needs k (has_place future.left))
+      (lacking needs k (has_place future.left))
       + cond b (count needs (n - (k + 1)) (k + 1) (has_place future.left)) 0)) t
       ∙ ap (λ v. future.sets * (v + count needs (n - (k + 1)) (k + 1) (has_place future.left)))
-          out_is
+      out_is
       ∙ ap (λ v. future.sets * (count needs (n - (k + 1)) (k + 1) (has_place without) + v)) in_is
       ∙ spread future.sets (count needs (n - (k + 1)) (k + 1) (has_place without))
-          (count needs (n - (k + 1)) (k + 1) (has_place kept))
+      (count needs (n - (k + 1)) (k + 1) (has_place kept))
     where
       spread : (c a b : ℕ) → c * (a + b) ≡ c * a + c * b
       spread c a b = omega arith
@@ -101,34 +101,34 @@ pub merged_into : (needs : ℕ → ℕ → Bool) (m k most : ℕ) (futures : Lis
     (last more both d : Future)
     → i < length futures → last ≡ get_or futures i d
     → ((j : ℕ) → has_place last.left j ≡ has_place more.left j)
-        → ((j : ℕ) → has_place both.left j ≡ has_place last.left j)
+    → ((j : ℕ) → has_place both.left j ≡ has_place last.left j)
     → Capped most both.sets (last.sets + more.sets)
     → Capped most (weigh needs m k (set futures i both))
-        (weigh needs m k futures + weight needs m k more)
+    (weigh needs m k futures + weight needs m k more)
 merged_into needs m k most futures i last more both d low is same left sets =
     let x = count needs m k (has_place last.left) in
     let e : count needs m k (has_place more.left) ≡ x = sym
-        (count_same needs m k (has_place last.left) (has_place more.left) (λ j l u. same j)) in
+    (count_same needs m k (has_place last.left) (has_place more.left) (λ j l u. same j)) in
     let f : count needs m k (has_place both.left) ≡ x = count_same needs m k (has_place both.left)
-        (has_place last.left) (λ j l u. left j) in
+    (has_place last.left) (λ j l u. left j) in
     let w : weight needs m k more ≡ more.sets * x = ap (λ v. more.sets * v) e in
     let v : weight needs m k both ≡ both.sets * x = ap (λ v. both.sets * v) f in
     let o : weight needs m k (get_or futures i d) ≡ last.sets * x = ap (weight needs m k) (sym is)
-        in
+    in
     let changed = sum_by-set (weight needs m k) futures i both d low in
     let times = capped_times most both.sets (last.sets + more.sets) x
-        (count_one needs m k (has_place last.left)) sets in
+    (count_one needs m k (has_place last.left)) sets in
     let spread : (last.sets + more.sets) * x ≡ last.sets * x + more.sets * x = omega arith in
     let before = get_or-le-sum_by (weight needs m k) futures i d low in
     let after : weight needs m k both ≤ weigh needs m k (set futures i both) =
     subst (λ f. weight needs m k f ≤ weigh needs m k (set futures i both))
-        (get_or-set_same futures i both d low)
+    (get_or-set_same futures i both d low)
     (get_or-le-sum_by (weight needs m k) (set futures i both) i d
-        (let l = length-set futures i both in omega (arith, l, low))) in
+    (let l = length-set futures i both in omega (arith, l, low))) in
     sums most (weigh needs m k (set futures i both)) (weigh needs m k futures)
-        (weight needs m k more) (weight needs m k both)
+    (weight needs m k more) (weight needs m k both)
     (weight needs m k (get_or futures i d)) (last.sets * x) (more.sets * x) (both.sets * x)
-        ((last.sets + more.sets) * x) changed w v o times spread
+    ((last.sets + more.sets) * x) changed w v o times spread
     before after
   where
     sums : (most a b p q r lx mx bx sx : ℕ) → a + r ≡ b + q → p ≡ mx → q ≡ bx → r ≡ lx
@@ -141,4 +141,4 @@ pub start_weighs : (needs : ℕ → ℕ → Bool) (n : ℕ) (p : ℕ → Bool) �
     → count needs n 0 p ≡ length (every needs n)
 start_weighs needs n p all =
     count_same needs n 0 p (λ j. true) (λ j l u. all j (omega (arith, u)))
-        ∙ sym (every_counts needs n)
+    ∙ sym (every_counts needs n)

@@ -21,15 +21,15 @@ module _ (needs : ℕ → ℕ → Bool) (back : IsBackward needs) where
   ends_in : (k : ℕ) → ((places : List ℕ) → IsAllowed needs k places → places
       ≡ chosen (is_member places) k) → (ys : List ℕ) (y : ℕ)
       → IsAllowed needs (suc k) (ys ++ y ∷ []) → ys ++ y ∷ []
-          ≡ chosen (is_member (ys ++ y ∷ [])) (suc k)
+      ≡ chosen (is_member (ys ++ y ∷ [])) (suc k)
   ends_in k before ys y allowed = ⊎_elim
       (λ (e : y ≡ k).
       let is : IsAllowed needs (suc k) (ys ++ k ∷ []) = subst
-          (λ v. IsAllowed needs (suc k) (ys ++ v ∷ [])) e allowed in
+      (λ v. IsAllowed needs (suc k) (ys ++ v ∷ [])) e allowed in
       subst (λ v. ys ++ v ∷ [] ≡ chosen (is_member (ys ++ v ∷ [])) (suc k)) (sym e)
       (ap (λ v. v ++ k ∷ []) (before ys (rest needs back k ys is)
       ∙ chosen_same (is_member ys) (is_member (ys ++ k ∷ [])) k
-          (λ i low. sym (member_other ys k i (λ q. omega (arith, q, low)))))
+      (λ i low. sym (member_other ys k i (λ q. omega (arith, q, low)))))
       ∙ sym (chosen_with (is_member (ys ++ k ∷ [])) k (member_last ys k))))
       (λ (ne : y ≢ k).
       let is = lower needs back k y ys allowed ne in
@@ -44,7 +44,7 @@ module _ (needs : ℕ → ℕ → Bool) (back : IsBackward needs) where
   listed (suc k) places allowed = ⊎_elim
       (λ (e : places ≡ []).
       subst (λ v. v ≡ chosen (is_member v) (suc k)) (sym e)
-          (sym (none_chosen (is_member []) (suc k) (λ i. refl))))
+      (sym (none_chosen (is_member []) (suc k) (λ i. refl))))
       (λ (w : (ys : List ℕ) × ((y : ℕ) × (places ≡ ys ++ y ∷ []))).
       subst (λ v. v ≡ chosen (is_member v) (suc k)) (sym w.1.1)
       (ends_in k (listed k) w.0 w.1.0 (subst (IsAllowed needs (suc k)) w.1.1 allowed)))
@@ -56,12 +56,12 @@ module _ (needs : ℕ → ℕ → Bool) (back : IsBackward needs) where
   lost_is_kept n i k places allowed loses =
       ap (λ b. not (b || by_chain needs i k))
       (ne_eqb i k (λ e. false≢true (sym loses.lacks_earlier ∙ ap (is_member places) e
-          ∙ loses.has_later)))
+      ∙ loses.has_later)))
       ∙ ap not (⊎_elim
       (λ (t : by_chain needs i k ≡ true).
       absurd (false≢true (sym loses.lacks_earlier
       ∙ closed needs (by_chain needs) (chains_reach needs back) (k + 1) k (omega arith) n places
-          allowed loses.has_later i t)))
+      allowed loses.has_later i t)))
       (λ (f : by_chain needs i k ≡ false). f)
       (cases_Bool (by_chain needs i k)))
 
@@ -81,6 +81,6 @@ module _ (needs : ℕ → ℕ → Bool) (back : IsBackward needs) where
       let e : n ≡ (k + 1) + (n - (k + 1)) = omega (arith, low) in
       listed n places allowed ∙ ap (chosen (is_member places)) e
       ∙ chosen_on (is_member places) (k + 1) (n - (k + 1))
-          (λ j from to. lacks.beyond j (omega (arith, from)))
+      (λ j from to. lacks.beyond j (omega (arith, from)))
       ∙ chosen_same (is_member places) (is_kept needs i) (k + 1)
-          (λ j under. lacks.below j (omega (arith, under)))
+      (λ j under. lacks.below j (omega (arith, under)))

@@ -19,7 +19,7 @@ found_has [] i h = absurd (false≢true h)
 found_has (j ∷ js) i h = ⊎_elim
     (λ (t : (j == i) ≡ true). (0, omega arith, eqb-true j i t))
     (λ (t : is_member js i ≡ true). (let rest = found_has js i t in
-        (suc rest.0, (let l = rest.1 in omega (arith, l)), rest.2)))
+    (suc rest.0, (let l = rest.1 in omega (arith, l)), rest.2)))
     (or_cases (j == i) (is_member js i) h)
 
 pub contains_has : (places : List ℕ) (i : ℕ) → Contains places i → is_member places i ≡ true
@@ -56,7 +56,7 @@ pub allowed_below : (needs : ℕ → ℕ → Bool) (k : ℕ) (places : List ℕ)
     → IsBelow k places
 allowed_below needs k places allowed i t =
     let w = found_has places i t in let l = allowed.in_range w.0 w.1 in let e = w.2 in omega
-        (arith, l, e)
+    (arith, l, e)
 
 -- ---- what a place needs
 
@@ -66,7 +66,7 @@ unfolding may
 may_from needs k places j h = all_of_range (λ i. not (needs i j) || is_member places i) 0 k
     (λ i l u. ⊎_elim
     (λ (t : needs i j ≡ true). or_right (not (needs i j)) (is_member places i)
-        (h i (omega (arith, u)) t))
+    (h i (omega (arith, u)) t))
     (λ (f : needs i j ≡ false). or_left (not (needs i j)) (is_member places i) (ap not f))
     (cases_Bool (needs i j)))
 
@@ -77,7 +77,7 @@ unfolding may
 may_says needs k places j i is low t =
     sym (ap (λ b. not b || is_member places i) t)
     ∙ at_of_range (λ i. not (needs i j) || is_member places i) 0 k i is (omega arith)
-        (omega (arith, low))
+    (omega (arith, low))
 
 -- one place more is decided
 may_next : (needs : ℕ → ℕ → Bool) (k : ℕ) (places : List ℕ) (j : ℕ)
@@ -86,7 +86,7 @@ unfolding may
 may_next needs k places j =
     let p : ℕ → Bool = λ i. not (needs i j) || is_member places i in
     ap (list_all p) (range_more k) ∙ list_all-append p (range_with_len 0 k) (k ∷ [])
-        ∙ ap (λ b. list_all p (range_with_len 0 k) && b)
+    ∙ ap (λ b. list_all p (range_with_len 0 k) && b)
     (and_true (p k))
   where
     and_true : (b : Bool) → (b && true) ≡ b
@@ -97,7 +97,7 @@ pub may_without : (needs : ℕ → ℕ → Bool) (k : ℕ) (places : List ℕ) (
     → may needs (k + 1) places j ≡ (may needs k places j && not (needs k j))
 may_without needs k places j below =
     may_next needs k places j ∙ ap (λ b. may needs k places j && (not (needs k j) || b))
-        (not_member k k places below (omega arith))
+    (not_member k k places below (omega arith))
     ∙ ap (λ b. may needs k places j && b) (or_false (not (needs k j)))
 
 may_kept : (needs : ℕ → ℕ → Bool) (k : ℕ) (places : List ℕ) (j : ℕ)
@@ -105,7 +105,7 @@ may_kept : (needs : ℕ → ℕ → Bool) (k : ℕ) (places : List ℕ) (j : ℕ
 unfolding may
 may_kept needs k places j =
     all_same (λ i. not (needs i j) || is_member (places ++ k ∷ []) i)
-        (λ i. not (needs i j) || is_member places i) 0 k
+    (λ i. not (needs i j) || is_member places i) 0 k
     (λ i l u. ap (λ b. not (needs i j) || b) (member_other places k i (λ e. omega (arith, u, e))))
 
 pub may_with : (needs : ℕ → ℕ → Bool) (k : ℕ) (places : List ℕ) (j : ℕ)

@@ -25,12 +25,12 @@ module _ (needs reach : ℕ → ℕ → Bool) (is : IsReach needs reach) where
       let at = found_has places m here in
       let there : is_member places step.0 ≡ true =
       contains_has places step.0 (allowed.closed at.0 step.0 at.1
-          (ap (needs step.0) at.2 ∙ step.1.0)) in
+      (ap (needs step.0) at.2 ∙ step.1.0)) in
       let low = is.backward step.0 m step.1.0 in
       ⊎_elim
       (λ (e : i ≡ step.0). ap (is_member places) e ∙ there)
       (λ (s : reach i step.0 ≡ true). closed f step.0 (omega (arith, fuel, low)) k places allowed
-          there i s)
+      there i s)
       step.1.1
 
   may_reach : (k : ℕ) (places : List ℕ) → IsAllowed needs k places → may needs k places k
@@ -42,11 +42,11 @@ module _ (needs reach : ℕ → ℕ → Bool) (is : IsReach needs reach) where
       ⊎_elim
       (λ (e : i ≡ step.0). ap (is_member places) e ∙ there)
       (λ (s : reach i step.0 ≡ true). closed (step.0 + 1) step.0 (omega arith) k places allowed
-          there i s)
+      there i s)
       step.1.1))))
       (λ (f : may needs k places k ≡ false). f ∙ sym (⊎_elim
       (λ (t : may reach k places k ≡ true). absurd (false≢true
-          (sym f ∙ may_from needs k places k (λ i low d.
+      (sym f ∙ may_from needs k places k (λ i low d.
       may_says reach k places k i t low (is.direct i k d)))))
       (λ (g : may reach k places k ≡ false). g)
       (cases_Bool (may reach k places k))))
@@ -58,7 +58,7 @@ module _ (needs reach : ℕ → ℕ → Bool) (is : IsReach needs reach) where
       flat_agree (choices needs k) (choices reach k) (every needs k)
       (All-weaker (IsAllowed needs k) (λ places. choices needs k places ≡ choices reach k places)
       (λ places allowed. ap (λ b. places ∷ cond b ((places ++ k ∷ []) ∷ []) [])
-          (may_reach k places allowed))
+      (may_reach k places allowed))
       (every needs k) (each_allowed needs is.backward k))
       ∙ ap (flat_map (choices reach k)) (every_reach k)
 
@@ -86,12 +86,12 @@ every_same p q (suc k) same =
     ap (flat_map (choices p k)) (every_same p q k (λ i j low. same i j (omega (arith, low))))
     ∙ flat_agree (choices p k) (choices q k) (every q k)
     (λ i d low. ap (λ b. get_or (every q k) i d ∷ cond b ((get_or (every q k) i d ++ k ∷ []) ∷ [])
-        []) (may_same (get_or (every q k) i d)))
+    []) (may_same (get_or (every q k) i d)))
   where
     may_same : (places : List ℕ) → may p k places k ≡ may q k places k
     may_same places =
         all_same (λ i. not (p i k) || is_member places i) (λ i. not (q i k) || is_member places i) 0
-            k
+        k
         (λ i l u. ap (λ b. not b || is_member places i) (same i k (omega arith)))
 
 -- needs by any chain are such a test
@@ -102,10 +102,10 @@ chains_reach needs back = record {
   longer = λ i m k r is. chain_step needs i k
       ∙ any_at (λ v. needs v k && (i == v || by_chain needs i v)) m k (back m k is)
       (and_from (needs m k) (i == m || by_chain needs i m) is
-          (or_right (i == m) (by_chain needs i m) r));
+      (or_right (i == m) (by_chain needs i m) r));
   last_step = λ i k r.
       let w = any_in (λ v. needs v k && (i == v || by_chain needs i v)) 0 k
-          (sym (chain_step needs i k) ∙ r) in
+      (sym (chain_step needs i k) ∙ r) in
       let parts = and_parts (needs w.0 k) (i == w.0 || by_chain needs i w.0) w.1 in (
         w.0,
         (

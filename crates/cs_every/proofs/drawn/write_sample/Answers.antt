@@ -14,6 +14,6 @@ loop-preserved g c =
       sample = sample_more all c.loop.counter (g.W.Write.contents c.args.out.now) (g.W.Write.contents c.loop.out)
           (g.W.Write.contents c.write_set.new.out) set c.loop.invariant.sample
           (subst (λ (sets : List (List ℕ)). Contains sets set) c.loop.invariant.same c.in_ok-set.ensures.drawn)
-              c.in_ok-write_set.ensures.text;
+          c.in_ok-write_set.ensures.text;
       same = c.draw_set.ensures.same ∙ c.loop.invariant.same;
     }

@@ -17,4 +17,4 @@ pub returns-clause-text : goal.returns-clause-text
 returns-clause-text g c =
     part_whole (g.W.Write.contents c.args.out.now) (g.W.Write.contents c.loop-set.out) (picks_text c.loop-set.sets)
     (picks_text (every (needs_in c.args.order.now) (length c.args.order.now))) c.loop-set.invariant
-        (ap picks_text c.in_default.ensures.steps.0)
+    (ap picks_text c.in_default.ensures.steps.0)

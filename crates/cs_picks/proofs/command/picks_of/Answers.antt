@@ -8,6 +8,6 @@ returns-clause-sets g c = λ e.
     prints_kept c.args.inputs.now c.args.sets (g.W.Write.contents c.args.out.now) (g.W.Write.contents c.print_sets-done.new.out)
     (g.W.Write.contents c.exit_status.new.out)
     (IfOk-at_ok (λ u. PrintsSets c.args.inputs.now c.args.sets (g.W.Write.contents c.args.out.now)
-        (g.W.Write.contents c.print_sets-done.new.out))
+    (g.W.Write.contents c.print_sets-done.new.out))
     (c.exit_status.ensures.done e) c.print_sets-done.ensures)
     c.exit_status.ensures.kept

@@ -13,7 +13,7 @@ loop-i-preserved c =
     elim c.if-needs.branch [
       | then-needs w ↦ subst (λ r. IsFilled needed r (c.loop-i.i + 1)) (sym w.row-is)
           (filled_set needed c.loop-i.row w.set.new.self c.loop-i.i (sym c.needs.ensures ∙ w.if-needs.true) w.set.ensures
-              c.loop-i.invariant)
+          c.loop-i.invariant)
       | else-needs w ↦ subst (λ r. IsFilled needed r (c.loop-i.i + 1)) (sym w.row-is)
           (filled_skip needed c.loop-i.row c.loop-i.i (sym c.needs.ensures ∙ w.if-needs.false) c.loop-i.invariant)
     ]

@@ -41,7 +41,7 @@ returns-then-eq-clause-rises c =
     ap (λ f. f.left) same ∙ ap (λ w. (let r : Row = record { words = w } in r)) words in
     λ last so_far not_less.
     rises_same futures at (record { left = c.index-last.result.now.left; sets = c.min-sets.result }) c.args.future.now
-        c.index-last.result.now last so_far
+    c.index-last.result.now last so_far
     end low (ap (λ f. f.left) c.index-last.ensures) rows
 
 pub returns-clause-rises : goal.returns-clause-rises

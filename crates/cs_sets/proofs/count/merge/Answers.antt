@@ -20,4 +20,4 @@ loop-future-preserved c =
 pub returns-clause-rises : goal.returns-clause-rises
 returns-clause-rises c = λ sorted.
     merged_rises c.args.futures.now c.loop-future.future-index c.loop-future.merged.items (omega arith)
-        (c.loop-future.invariant.merged sorted)
+    (c.loop-future.invariant.merged sorted)

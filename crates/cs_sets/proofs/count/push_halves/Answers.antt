@@ -10,7 +10,7 @@ returns-then-not-has_place-clause-weight c =
     pushed_one (needed_in c.args.needed.now) n c.args.place c.args.next.now.items c.push.new.self.items c.args.future.now c.clear.new.self
     c.requires.inside
     (cleared_out c.args.needed.now c.args.future.now.left c.remove.new.self c.clear.new.self c.args.place _ c.requires.inside
-        c.remove.ensures
+    c.remove.ensures
     c.clear.ensures)
     (sym c.has_place.ensures ∙ c.if-not-has_place.true)
     c.in_ok-push.ensures.items
@@ -19,10 +19,10 @@ pub returns-clause-weight : goal.returns-clause-weight
 returns-clause-weight c =
     let n = length c.args.needed.now in
     pushed_two (needed_in c.args.needed.now) n c.args.place c.args.next.now.items c.push.new.self.items c.push-2.new.self.items
-        c.args.future.now
+    c.args.future.now
     c.clear.new.self c.clear-2.new.self c.requires.inside
     (cleared_out c.args.needed.now c.args.future.now.left c.remove.new.self c.clear.new.self c.args.place _ c.requires.inside
-        c.remove.ensures
+    c.remove.ensures
     c.clear.ensures)
     c.clear-2.ensures
     (sym c.has_place.ensures ∙ c.if-not-has_place.false)
@@ -37,7 +37,7 @@ returns-then-not-has_place-clause-reached c =
     (record { left = c.clear.new.self; sets = c.args.future.now.sets }) all
     (reached_without needs n c.args.place c.requires.inside c.args.future.now.left at c.clear.new.self c.know_words.ensures
     (cleared_out c.args.needed.now c.args.future.now.left c.remove.new.self c.clear.new.self c.args.place _ c.requires.inside
-        c.remove.ensures
+    c.remove.ensures
     c.clear.ensures))
     c.in_ok-push.ensures.items
 
@@ -52,10 +52,10 @@ returns-clause-reached c =
     (record { left = c.clear.new.self; sets = c.args.future.now.sets }) all
     (reached_without needs n c.args.place c.requires.inside c.args.future.now.left at c.clear.new.self c.know_words.ensures
     (cleared_out c.args.needed.now c.args.future.now.left c.remove.new.self c.clear.new.self c.args.place _ c.requires.inside
-        c.remove.ensures
+    c.remove.ensures
     c.clear.ensures))
     c.in_ok-push.ensures.items)
     (reached_with needs n c.args.place c.requires.inside c.args.future.now.left at c.clear-2.new.self c.know_words-2.ensures
-        c.clear-2.ensures
+    c.clear-2.ensures
     (sym c.has_place.ensures ∙ c.if-not-has_place.false))
     c.in_ok-push-2.ensures.items

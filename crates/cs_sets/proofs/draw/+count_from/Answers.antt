@@ -9,7 +9,7 @@ use Rattle.cs_sets.proofs.draw.+count_from.Goals as goal
 pub returns-in_default-clause-count : goal.returns-in_default-clause-count
 returns-in_default-clause-count t c =
     one_left (needed_in c.args.needed.now) c.requires.chained (length c.args.needed.now) c.args.most c.requires.some c.args.left
-        c.args.first
+    c.args.first
     c.requires.none c.in_default.ensures
 
 pub returns-in-Some-get-clause-count : goal.returns-in-Some-get-clause-count
@@ -23,10 +23,10 @@ returns-clause-known t c =
     count_known (needed_in c.args.needed.now) (length c.args.needed.now) c.args.most (get row_cmp c.count_from-2.new.known)
     (get row_cmp c.insert.new.self) c.args.left c.min-count.result c.in_ok-more.ensures.known
     (both_counted (needed_in c.args.needed.now) c.requires.chained (length c.args.needed.now) c.args.most c.requires.some c.args.left
-        c.args.first
+    c.args.first
     c.in-Some.place c.requires.none next c.clear.new.self
     (cleared_out c.args.needed.now c.args.left c.remove.new.self c.clear.new.self c.in-Some.place _ next.before_end c.remove.ensures
-        c.clear.ensures)
+    c.clear.ensures)
     c.clear-2.new.self c.clear-2.ensures c.in_ok-fewer.fewer c.in_ok-more.more c.min-count.result c.in_ok-fewer.ensures.count
     c.in_ok-more.ensures.count (omega arith))
     c.in_ok-insert.ensures.updates.0
@@ -35,9 +35,9 @@ pub returns-clause-count : goal.returns-clause-count
 returns-clause-count t c =
     let next = c.in-Some.ensures in
     both_counted (needed_in c.args.needed.now) c.requires.chained (length c.args.needed.now) c.args.most c.requires.some c.args.left
-        c.args.first
+    c.args.first
     c.in-Some.place c.requires.none next c.clear.new.self
     (cleared_out c.args.needed.now c.args.left c.remove.new.self c.clear.new.self c.in-Some.place _ next.before_end c.remove.ensures
-        c.clear.ensures)
+    c.clear.ensures)
     c.clear-2.new.self c.clear-2.ensures c.in_ok-fewer.fewer c.in_ok-more.more c.min-count.result c.in_ok-fewer.ensures.count
     c.in_ok-more.ensures.count (omega arith)

@@ -7,7 +7,7 @@ use Rattle.cs_sets.proofs.draw.decide.Goals as goal
 pub returns-then-draw-fewer-clause-draw : goal.returns-then-draw-fewer-clause-draw
 returns-then-draw-fewer-clause-draw c = λ number draw.
     without_drawn (needed_in c.args.needed.now) c.requires.chained (length c.args.needed.now) c.args.most number c.requires.some
-        c.args.draw.now
+    c.args.draw.now
     c.args.place draw c.requires.next c.clear.new.self
     (cleared_out c.args.needed.now c.args.draw.now.left c.remove.new.self c.clear.new.self c.args.place _ c.requires.next.before_end
     c.remove.ensures c.clear.ensures)
@@ -16,7 +16,7 @@ returns-then-draw-fewer-clause-draw c = λ number draw.
 pub returns-clause-draw : goal.returns-clause-draw
 returns-clause-draw c = λ number draw.
     with_drawn (needed_in c.args.needed.now) c.requires.chained (length c.args.needed.now) c.args.most number c.requires.some
-        c.args.draw.now
+    c.args.draw.now
     c.args.place draw c.requires.next c.clear.new.self
     (cleared_out c.args.needed.now c.args.draw.now.left c.remove.new.self c.clear.new.self c.args.place _ c.requires.next.before_end
     c.remove.ensures c.clear.ensures)

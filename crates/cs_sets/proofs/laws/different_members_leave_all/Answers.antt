@@ -28,9 +28,9 @@ returns c = record {
   apart = λ act start like needs n fine.
       let leaves : List ℕ → List ℕ → Bool = λ a b. like (state_of act start a) (state_of act start b) in
       all_pairs (λ a b. leaves a b ≡ false) (firsts leaves (every needs n))
-          (apart leaves (leaves_like act start like fine) (every needs n) [] tt);
+      (apart leaves (leaves_like act start like fine) (every needs n) [] tt);
   allowed = λ act start like needs n back fine.
       let leaves : List ℕ → List ℕ → Bool = λ a b. like (state_of act start a) (state_of act start b) in
       kept_all leaves (leaves_like act start like fine) (IsAllowed needs n) (every needs n) [] (each_allowed needs back n)
-          (All-nil (IsAllowed needs n));
+      (All-nil (IsAllowed needs n));
 }

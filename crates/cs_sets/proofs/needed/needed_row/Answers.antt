@@ -13,7 +13,7 @@ loop-j-preserved c =
     elim c.if-has_place.branch [
       | then-has_place w ↦ subst (λ r. (k : ℕ) → has_place r k ≡ (ltb k (j + 1) && p k)) (sym w.needed-is)
           (takes_row c.loop-j.needed w.set.new.self j p (is ∙ sym c.has_place.ensures ∙ w.if-has_place.true) w.set.ensures
-              c.loop-j.invariant)
+          c.loop-j.invariant)
       | else-has_place w ↦ subst (λ r. (k : ℕ) → has_place r k ≡ (ltb k (j + 1) && p k)) (sym w.needed-is)
           (passes_row c.loop-j.needed j p (is ∙ sym c.has_place.ensures ∙ w.if-has_place.false) c.loop-j.invariant)
     ]

@@ -7,7 +7,7 @@ use Rattle.cs_sets.proofs.next.next_set.Goals as goal
 pub returns-clause-follows : goal.returns-clause-follows
 returns-clause-follows c =
     step_follows (bit_in c.args.rows.now) c.requires.backward (length c.args.rows.now) c.requires.few c.args.members.now
-        c.add_last.new.members
+    c.add_last.new.members
     c.requires.set c.add_last.result c.add_last.ensures
 
 pub returns-clause-set : goal.returns-clause-set

@@ -6,7 +6,7 @@ pub index-requires : goal.index-requires
 index-requires c =
     let inside =
     low c.self.inside.rows.items c.self.inside.reach.items c.self.invariant.order c.args.self.now c.self.view_is c.args.j c.requires.second
-        in
+    in
     omega (arith, inside, c.self.inside.rows.ok)
 
 pub has_place-requires : goal.has_place-requires

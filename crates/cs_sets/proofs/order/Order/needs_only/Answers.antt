@@ -16,7 +16,7 @@ returns c =
     let reach = c.self.inside.reach.items in
     let same : (i : ℕ) → has_place c.index.result.now i ≡ needs_in c.args.self.now i c.args.j
     = λ i. needs_read rows reach c.self.invariant.order c.args.self.now c.self.view_is c.args.j i c.index.result.now c.requires
-        c.index.ensures in
+    c.index.ensures in
     record {
       backward = backward rows reach c.self.invariant.order c.args.self.now c.self.view_is;
       value = ((λ t i is. c.is_within.ensures.0 t i (same i ∙ is)), (λ h. c.is_within.ensures.1 (λ i is. h i (sym (same i) ∙ is))));

@@ -6,14 +6,14 @@ pub returns-then-place-end : goal.returns-then-place-end
 returns-then-place-end c =
     let bound : get_or c.args.self.now.words (c.loop-at.at / 64) 0 < 2 ^ 64 = search rules in
     word_next c.args.self.now c.args.first c.loop-at.at c.loop-at.invariant.from bound (search rules) (search rules)
-        c.loop-at.invariant.none
+    c.loop-at.invariant.none
     c.args.end c.if-place-end.true
 
 pub returns-then-word-ne0 : goal.returns-then-word-ne0
 returns-then-word-ne0 c =
     let bound : get_or c.args.self.now.words (c.loop-at.at / 64) 0 < 2 ^ 64 = search rules in
     word_past c.args.self.now c.args.first c.loop-at.at c.loop-at.invariant.from bound (search rules) (search rules)
-        c.loop-at.invariant.none
+    c.loop-at.invariant.none
     c.args.end c.if-place-end.false
 
 pub loop-at-preserved : goal.loop-at-preserved
