@@ -4,7 +4,8 @@ _crashfs() {
     COMPREPLY=()
     case $previous in
         --client) words='plan9 linux' ;;
-        --picks | --trace | --state | --states | --users | --listen | --workers | --connections) return ;;
+        --picks | --trace | --state | --states | --sample | --seed | --most | --users | --listen \
+        | --workers | --connections) return ;;
         *)
             if ((COMP_CWORD == 1)); then
                 words='list tar picks script serve help -h --help -V --version'
@@ -14,13 +15,15 @@ _crashfs() {
                 case ${COMP_WORDS[1]} in
                     list)
                         words='
-                            -h --help --lines --same --json --holes --picks --trace' ;;
+                            -h --help --lines --same --json --lost --files --holes --picks
+                            --trace' ;;
                     tar)
                         words='
                             -h --help --changes --state --states --holes --picks --trace' ;;
                     picks)
                         words='
-                            -h --help --lost --files --trace' ;;
+                            -h --help --lost --files --sample --seed --every --count --most
+                            --trace' ;;
                     script)
                         words='
                             -h --help --verbose --users --holes --picks --trace' ;;

@@ -5,7 +5,7 @@ if ((CURRENT == 2)); then
     commands=(
         'list:Prints the micro-operations and the crash states'
         'tar:Writes the files of crash states as a tar archive'
-        'picks:Prints a family of sets as a file for --picks'
+        'picks:Prints sets of micro-operations as a file for --picks'
         'script:Runs the 9P2000 messages of standard input, one a line, and prints the replies'
         'serve:Serves the states over TCP, each connection in a thread of its own'
         'help:Prints the help of a command'
@@ -21,6 +21,8 @@ else
                 '--lines[Adds each operation’s line of the trace, and the path of a file that changes]' \
                 '--same[Adds to each state the first one that has an equal tree]' \
                 '--json[Prints one JSON object a line, with lines, files, needs and equal states]' \
+                '--lost[Adds the states of the sets that picks --lost prints, each once]' \
+                '--files[Adds the states of the sets that picks --files prints, each once]' \
                 '--holes[Adds the states of prefixes with a hole]' \
                 '--picks[Adds the states of these sets, one JSON array of places a line]:FILE:_files' \
                 '--trace[The same as TRACE]:FILE:_files' \
@@ -40,6 +42,11 @@ else
                 '(-h --help)'{-h,--help}'[Prints the help]' \
                 '--lost[For each operation the smallest disk that still has it]' \
                 '--files[For each prefix and each file, the disk without its changes that no sync covers]' \
+                '--sample[Sets that are drawn one after the other, 1 to 16384]:M:_files' \
+                '--seed[The number by which they are drawn]:S:_files' \
+                '--every[All sets that a crash may leave]' \
+                '--count[Only how many sets there are]' \
+                '--most[The most sets that are printed, 1 to 16777216; default 1000000]:N:_files' \
                 '--trace[The same as TRACE]:FILE:_files' \
                 '1:TRACE:_files' ;;
         script)

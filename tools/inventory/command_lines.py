@@ -13,7 +13,7 @@ from crashfs_tools.recorder import options as record_options
 
 from .sources import TOP
 
-SOURCE = TOP / 'crates' / 'crashfs' / 'src' / 'commands.rt'
+SOURCE = TOP / 'crates' / 'cs_command_line' / 'src' / 'commands.rt'
 TOOLS = {
     'crashfs-campaign': campaign_options.parser,
     'crashfs-check': check_options.parser,

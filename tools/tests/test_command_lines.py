@@ -19,6 +19,8 @@ UNREAD = [
     'crashfs: no such file: No such file or directory (os error 2)',
 ]
 SERVE = 'serve --users users --listen 127.0.0.1:0 --connections 1 --workers'.split()
+PICKS = ['picks', 'empty.trace']
+DRAWN = ['--sample', '1', '--seed', '1']
 # Lines of clap, which refuses a command line, or prints its version.
 CLAP = None
 ROWS: List[Tuple[List[str], int, Optional[List[str]]]] = [
@@ -51,6 +53,24 @@ ROWS: List[Tuple[List[str], int, Optional[List[str]]]] = [
         ],
     ),
     (['tar', 'empty.trace', '--states', '0-0,'], 2, CLAP),
+    ([*PICKS], 2, CLAP),
+    ([*PICKS, '--lost', '--files'], 0, []),
+    ([*PICKS, '--every', '--most', '16777216'], 0, []),
+    ([*PICKS, '--every', '--most', '16777217'], 2, CLAP),
+    ([*PICKS, '--every', '--most', '0'], 2, CLAP),
+    ([*PICKS, '--every', '--lost'], 2, CLAP),
+    ([*PICKS, '--every', '--files'], 2, CLAP),
+    ([*PICKS, '--every', *DRAWN], 2, CLAP),
+    ([*PICKS, '--files', *DRAWN], 2, CLAP),
+    ([*PICKS, '--every', '--count', '--most', '5'], 2, CLAP),
+    ([*PICKS, '--lost', '--most', '5'], 2, CLAP),
+    ([*PICKS, '--lost', '--count'], 2, CLAP),
+    ([*PICKS, '--lost', '--seed', '1'], 2, CLAP),
+    ([*PICKS, '--sample', '1'], 2, CLAP),
+    ([*PICKS, '--sample', '16384', '--seed', '18446744073709551615'], 0, []),
+    ([*PICKS, '--sample', '16385', '--seed', '1'], 2, CLAP),
+    ([*PICKS, '--sample', '0', '--seed', '1'], 2, CLAP),
+    ([*PICKS, '--sample', '1', '--seed', '18446744073709551616'], 2, CLAP),
     ([*SERVE, '64', '--trace', 'no such file'], 1, UNREAD),
     ([*SERVE, '65', '--trace', 'no such file'], 2, CLAP),
 ]

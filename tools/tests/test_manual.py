@@ -19,7 +19,7 @@ from .support import InFolder, needed
 DOCS = FOLDER.parent / 'docs'
 PAGES = DOCS / 'man'
 COMPLETIONS = FOLDER / 'completions'
-SOURCES = FOLDER.parent / 'crates' / 'crashfs' / 'src'
+SOURCES = FOLDER.parent / 'crates' / 'cs_command_line' / 'src'
 PROGRAM_VERSION = (SOURCES / 'version.rt').read_text('utf-8')
 HELP = {'-h', '--help'}
 

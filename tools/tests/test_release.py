@@ -261,7 +261,7 @@ class Names(unittest.TestCase):
         self.assertIn('\nCOPY dist/crashfs-${VERSION}-linux-x86_64.tar.gz ', image)
 
     def test_the_program_names_the_kit_of_the_readme(self) -> None:
-        source = (TOP / 'crates' / 'crashfs' / 'src' / 'version.rt').read_text('utf-8')
+        source = (TOP / 'crates' / 'cs_command_line' / 'src' / 'version.rt').read_text('utf-8')
         kit = re.search(r'VERSION: &str = "([\d.]+) \(kit ([\w -]+)\)"', source)
         assert kit is not None
         self.assertEqual(kit[1], VERSION)

@@ -145,8 +145,9 @@ class Users(Served):
         and dan's: on the next connection dan's attach to `0/x` and bob's to `0/y` are A6; dan
         attaches `0/y`, and may not open `/f` with 1, but with 0. It becomes `1:ann:`, for two
         connections: dan attaches `0/z` on each, and `users line 1: FieldCount` is printed once. It
-        goes away: dan attaches `0/z`, and `cannot read` is printed. It becomes only ann's: dan
-        attaches `0/z`, and `1/x` is A6. Bob, on his own connection, then reads `/f` of `0/x`."""
+        goes away: dan attaches `0/z`, and `cannot read` is printed. It becomes only ann's,
+        in a line that ends with a carriage return, which is printed: dan attaches `0/z`, and `1/x`
+        is A6. Bob, on his own connection, then reads `/f` of `0/x`."""
         agains: List[List[str]] = [[], ['--again']]
         for again in agains:
             server = self.server(
@@ -161,6 +162,7 @@ class Users(Served):
                 (denied, 2),
                 ('crashfs: users line 1: FieldCount\n', 1),
                 (unread, 1),
+                (f'crashfs: users line 1 ends {RETURN}\n', 1),
             ):
                 self.assertEqual(server.errors.count(text), count, text)
 
@@ -182,10 +184,11 @@ LATER = [
         + ['open 1 0'],
     ),
     ('1:ann:', ['attach 0 dan 0/z']),
-    ('1:ann:\r', ['attach 0 dan 0/z']),
+    ('1:ann:', ['attach 0 dan 0/z']),
     (None, ['attach 0 dan 0/z']),
-    ('1:ann::\n', ['attach 0 dan 0/z', 'attach 2 dan 1/x']),
+    ('1:ann::\r\n', ['attach 0 dan 0/z', 'attach 2 dan 1/x']),
 ]
+RETURN = 'with a carriage return, which belongs to its last field'
 WALKED = 'Rwalk tag 1 wqid [(00 0 1)]'
 ANSWERS = [ATTACHED, UNKNOWN, UNKNOWN, ATTACHED, WALKED, DENIED, OPENED, *[ATTACHED] * 4, UNKNOWN]
 ANSWERS += [WALKED, OPENED, "Rread 'hello'"]

@@ -96,7 +96,7 @@ FILES: Dict[str, str] = {
     'pick': '[1,0]\n',
     'text': 'hello\n',
     'users': '0:u:u:\n',
-    'users-crlf': '\r\n0:u:u:\r\n',
+    'users-crlf': '0:u:u:\n1:v::\r\n',
     'version': HEADER.replace('1', '4'),
     'word': HEADER + '{"op":"wirte","path":"/a"}\n',
 }
@@ -108,7 +108,11 @@ PROGRAM: List[Tuple[str, int, List[str]]] = [
     (
         'serve STORE --users users-crlf --listen 5640',
         1,
-        ['cannot listen', '5640: invalid socket address'],
+        [
+            'users line 2 ends with a carriage return, which belongs to its last field',
+            'cannot listen',
+            '5640: invalid socket address',
+        ],
     ),
     (f'{SERVE} localhost:99999', 1, ['cannot listen', 'localhost:99999: invalid port value']),
     (f'{SERVE} unix:/tmp/x', 1, ['cannot listen', 'unix:/tmp/x: invalid port value']),

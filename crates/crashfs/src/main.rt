@@ -1,29 +1,19 @@
 //! `crashfs`: serves the states in which a crash may leave an application's files, over 9P2000.
 #![tactic(auto)]
 
-mod ask;
-mod command_line;
-mod commands;
-mod files;
-mod line_reason;
-mod output;
-mod pick_reason;
-mod reason;
-mod users;
-mod version;
-
-use ask::{Ask, Job};
 use clap::Error;
 use clap::error::ErrorKind;
-use command_line::ask_of;
-use cs_archive::tar_of;
-use cs_families::picks_of;
-use cs_list_lines::list_with;
-use cs_serve::{Inputs, script_of};
-use cs_tcp::{ReadsFiles, Serving, serve_of};
-use files::{FAULT, InputFiles, out_of_memory};
-use output::Output;
-use reason::explain;
+use cs_command_line::ask_of;
+use cs_files::{FAULT, InputFiles, Output, out_of_memory};
+use cs_inputs::Inputs;
+use cs_list::list_with;
+use cs_names::limits::WORKERS;
+use cs_options::{Ask, Job, PicksOptions, Serving};
+use cs_picks::{Family, PickSets, picks_of};
+use cs_reasons::explain;
+use cs_script::script_with;
+use cs_serve::{ReadsFiles, serve_of};
+use cs_tar_states::tar_of;
 use std::io::{self, BufWriter, IsTerminal, Write};
 use std::net::{Net, TcpListener, TcpStream};
 use std::process::ExitCode;
@@ -34,9 +24,6 @@ use std::thread::Threads;
 
 /// The status of a command line that is refused.
 const REFUSED: u8 = 2;
-
-/// The most workers, as in cs_names.
-const WORKERS: u32 = 64;
 
 /// How many workers there are: `workers`, or if that is 0 one for each processor, at most WORKERS.
 /// One if the number of processors isn't known.
@@ -49,6 +36,25 @@ fn workers_of(rt: &impl Threads, workers: u32) -> u32 {
             .unwrap_or(WORKERS)
             .min(WORKERS),
         Err(_) => 1,
+    }
+}
+
+/// The sets that the options of `picks` ask for. One of them is given: the command line is refused
+/// otherwise.
+fn sets_of(options: PicksOptions) -> PickSets {
+    if let Some(sample) = options.sample {
+        return PickSets::Sample(sample.seed, sample.count);
+    }
+    if options.count {
+        return PickSets::Count;
+    }
+    if options.every {
+        return PickSets::Every(options.most);
+    }
+    match (options.lost, options.files) {
+        (true, true) => PickSets::Of(Family::Both),
+        (true, false) => PickSets::Of(Family::Lost),
+        _ => PickSets::Of(Family::Files),
     }
 }
 
@@ -94,9 +100,14 @@ where
     let status = match &ask.job {
         Job::List(options) => list_with(alloc, &inputs, *options, &mut out, &mut faults),
         Job::Tar(states) => tar_of(alloc, &inputs, states, &mut out, &mut faults),
-        Job::Picks(family) => picks_of(alloc, &inputs, *family, &mut out, &mut faults),
-        // these have no buffer: their writes are counted
-        Job::Script => script_of(alloc, &inputs, &mut rt.reader(), &mut io::writer(rt), err),
+        Job::Picks(options) => {
+            picks_of(alloc, &inputs, sets_of(*options), &mut out, &mut faults)
+        }
+        // its writes are counted, so they have no buffer
+        Job::Script => {
+            let (status, _out) = script_with(alloc, &inputs, rt.reader(), io::writer(rt), err);
+            status
+        }
         Job::Serve(serving) => {
             let serving = Serving {
                 workers: workers_of(rt, serving.workers),

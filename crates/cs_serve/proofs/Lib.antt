@@ -1,10 +1,1 @@
-pub mod Blaming
-pub mod Filled
-pub mod Lines
-pub mod Loading
-pub mod Numbers
-pub mod ReadingPicks
-pub mod RunLines
-pub mod Scened
-pub mod Serving
-pub mod Told
+pub mod Reporting

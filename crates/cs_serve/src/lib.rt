@@ -1,28 +1,38 @@
-//! The commands of the program over any reader and writers: the states that a crash may leave,
-//! listed, and served to the connections of a script.
+//! The command `serve`: the states that a crash may leave, served over TCP by threads that each
+//! serve one connection at a time. What a connection is answered is cs_connection's; here are the
+//! sockets, the threads, and what is printed.
+//!
+//! Most functions have no clause: what they do happens at a socket, a file, a clock or in another
+//! thread, of which contracts say little. Tests hold them: tools/tests over loopback, with the
+//! built program, and `tests`, with real threads. The clauses say what needs none of these: the
+//! lines of the runs, the users that a file spells, and that the states are those of the server's
+//! own scene.
 #![tactic(auto)]
 
-mod ending;
-mod fault;
-mod inputs;
-mod listing;
-mod message_lines;
-mod pick_line;
-mod picks;
-mod picks_fault;
-mod printing;
-mod program;
+mod accepting;
+mod address;
+mod connection;
+mod entrance;
+mod for_linux;
+mod log;
+mod logged;
+mod pending;
+mod progress;
 mod publishing;
-mod reading;
-mod running;
-mod script;
+mod reloading;
+mod serving;
+mod site;
+mod slots;
+mod summary;
+mod wall_clock;
 
-pub use fault::ProgramFault;
-pub use inputs::{Inputs, scene_of, users_of};
-pub use listing::{list_of, list_to};
-pub use message_lines::print_exchange;
-pub use picks::read_picks;
-pub use picks_fault::PicksFault;
-pub use printing::print_to;
-pub use program::{script_of, script_over};
-pub use publishing::world_of;
+// what the command is made of
+pub use cs_connection::serve_streams;
+pub use cs_inputs::{Inputs, ProgramFault};
+pub use cs_options::{Client, Serving};
+pub use cs_publish::{PublishAllFault, publish_all, publish_into};
+pub use reloading::ReadsFiles;
+pub use serving::serve_of;
+
+#[cfg(test)]
+mod tests;

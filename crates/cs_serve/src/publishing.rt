@@ -1,47 +1,35 @@
-//! The world of a scene, with all of its states published.
-ghost use Rattle.std.specs.Prelude.{◌≡◌, IfErr, IfOk, OnOk};
-ghost use Rattle.cs_serve.specs.Commands.{served_world, with_first};
-ghost use Rattle.cs_serve.specs.Written.{IsOfNoStream};
+//! Publishing the states of a server's scene, with its lines on standard error.
+ghost use Rattle.cs_shared_runs.specs.Serving.{IsOnly};
 
-use crate::fault::ProgramFault;
-use cs_plan::Scene;
-use cs_users::Users;
-use cs_world::{Reply, Step, World};
+use crate::log::Log;
+use crate::progress::ProgressGate;
+use cs_connection::Server;
+use cs_inputs::ProgramFault;
+use cs_publish::{PublishAllFault, publish_own_into};
+use cs_shared_runs::ServerBrand;
 use std::alloc::Global;
-use std::sync::Arc;
+use std::io::Write;
+use std::sync::Wait;
+use std::thread::Threads;
 
-/// Publishes the states with numbers less than `count`. A refused publish ends the call with
-/// Memory: in a new world of `count` states or more there is no other cause. The states before that
-/// one stay published.
-fn publish_each(alloc: Global, world: &mut World, count: u32) -> Result<(), ProgramFault>
-    ensures published { OnOk result (world.new ≡ with_first world.old count) }
-    ensures fault { IfErr result IsOfNoStream }
+/// Publishes all states of the server's scene by `workers` threads, and returns once they have
+/// ended. False if a fault was printed; some states may be published then.
+pub(crate) fn publish_or_print<
+    S: ServerBrand + Send + Sync,
+    R: Threads + Wait + Sync,
+    E: Write + Send,
+>(rt: &R, alloc: Global, server: &Server<S>, workers: u32, log: Log<E>) -> bool
+    requires { IsOnly S.is_scene server.now }
 {
-    for number in 0..count {
-        match world.step(alloc, Step::Publish(number)) {
-            Reply::Published => {}
-            Reply::NotPublished(_) => return Err(ProgramFault::Memory),
-            // no publish has these replies
-            Reply::Reloaded | Reply::NotReloaded | Reply::Connection(_) => unreachable!(),
+    let progress = ProgressGate { rt, server, log };
+    let fault = match publish_own_into(rt, alloc, server.registry(), workers, &progress) {
+        Ok(states) => {
+            log.print_published(rt, states);
+            return true;
         }
-    }
-    Ok(())
-}
-
-/// A world of the scene's states, all of them published, for these users. It has no run, and no
-/// connection has a session. The only error is Memory.
-pub fn world_of(alloc: Global, scene: Scene, users: Users) -> Result<World, ProgramFault>
-    ensures world { IfOk result (λ world. world ≡ served_world scene users) }
-    ensures fault { IfErr result IsOfNoStream }
-{
-    // a plan has at most PLAN_STATES states
-    let count = scene.plan().len() as u32;
-    let (Ok(scene), Ok(users)) = (Arc::new(alloc, scene), Arc::new(alloc, users)) else {
-        return Err(ProgramFault::Memory);
+        Err(PublishAllFault::Memory) => ProgramFault::Memory,
+        Err(PublishAllFault::Workers | PublishAllFault::Channel) => ProgramFault::Publishing,
     };
-    let Ok(mut world) = World::new(alloc, scene, users) else {
-        return Err(ProgramFault::Memory);
-    };
-    publish_each(alloc, &mut world, count)?;
-    Ok(world)
+    log.print_fault(rt, &fault);
+    false
 }

@@ -6,6 +6,7 @@ mod bounds;
 mod commands;
 mod looking;
 mod ports;
+mod returns;
 mod server;
 mod stepping;
 mod steps;

@@ -1,7 +1,8 @@
 //! What `script` does before it reads its first line.
 
 use cs_bench::{Bound, Total, Work, print_figure};
-use cs_serve::{Inputs, scene_of, users_of, world_of};
+use cs_inputs::{Inputs, scene_of, users_of};
+use cs_script::world_of;
 use cs_world::World;
 use std::alloc::Global;
 use std::io;

@@ -4,7 +4,7 @@ use crate::alone::Alone;
 use crate::files::{scene, users};
 use crate::messages::{opening, send};
 use cs_bench::Work;
-use cs_serve::world_of;
+use cs_script::world_of;
 use cs_world::World;
 use std::alloc::Global;
 

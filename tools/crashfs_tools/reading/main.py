@@ -9,11 +9,11 @@ from typing import Dict, List, Union
 from .faults import ReadingFault
 from .listing import json_listing, listing
 from .picking import Usage, judge, lines_of
-from .plan import StateList, plan_of, read_picks
+from .plan import StateList, add_families, plan_of, read_picks
 from .trace import read
 
 FLAGS = {
-    'list': ('--holes', '--lines', '--same', '--json'),
+    'list': ('--holes', '--lines', '--same', '--json', '--lost', '--files'),
     'picks': ('--lost', '--files', '--every', '--different', '--count', '--help'),
     'tar': ('--holes', '--changes', '--sparse', '--help'),
 }
@@ -85,6 +85,7 @@ def run(command: str, options: Options) -> None:
         return
     picks = read_picks(file_bytes(str(options['--picks']))) if '--picks' in options else []
     plan = plan_of(reading, '--holes' in options, picks)
+    add_families(plan, '--lost' in options, '--files' in options)
     if command == 'list' and '--json' in options:
         sys.stdout.writelines(json_listing(plan))
     elif command == 'list':

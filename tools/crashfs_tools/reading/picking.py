@@ -81,7 +81,8 @@ def sets_of(reading: Reading, options: Options) -> Iterator[List[int]]:
     plan = StateList(reading)
     families = [lost_sets(plan)] if '--lost' in options else []
     families += [file_sets(plan)] if '--files' in options else []
-    return different(it for family in families for it in family)
+    # A set of both families is printed twice.
+    return (it for family in families for it in different(family))
 
 
 def every_members(reading: Reading, options: Options) -> Iterator[List[int]]:

@@ -2,6 +2,7 @@
 
 from __future__ import annotations
 
+from itertools import chain
 from typing import Iterator, List, Sequence, Tuple
 
 from .faults import LineFault, ReadingFault
@@ -59,6 +60,18 @@ def plan_of(
         plan.judge_pick(number, pick)
         plan.add(f'pick {",".join(map(str, pick)) or "-"}', set_of(pick))
     return plan
+
+
+def add_families(plan: StateList, has_lost: bool, has_files: bool) -> None:
+    """Adds the sets of the families that the plan doesn't have, each once."""
+    families = [lost_sets(plan)] if has_lost else []
+    families += [file_sets(plan)] if has_files else []
+    known = {places for _, places in plan.states}
+    for places in dict.fromkeys(chain.from_iterable(families)):
+        if places not in known:
+            if len(plan.states) == STATES:
+                raise ReadingFault('plan too large')
+            plan.add(f'pick {",".join(map(str, bits(places))) or "-"}', places)
 
 
 def set_of(places: Sequence[int]) -> int:

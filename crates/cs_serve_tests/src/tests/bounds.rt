@@ -1,6 +1,7 @@
 //! Scripts and lists whose input or output comes in pieces, is interrupted, or fails.
 use crate::tests::commands::{TRACE, USERS, inputs_of};
-use cs_serve::{list_of, list_to, script_of, script_over};
+use cs_list::{list_of, list_to};
+use cs_script::{script_of, script_over};
 use cs_stream::TwoEnded;
 use std::alloc::Global;
 use std::io::{self, Error, ErrorKind, Read, Write};

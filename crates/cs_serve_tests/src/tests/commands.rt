@@ -1,5 +1,7 @@
 //! The commands `script` and `list` over streams that fail.
-use cs_serve::{Inputs, list_of, script_of};
+use cs_inputs::Inputs;
+use cs_list::list_of;
+use cs_script::script_of;
 use std::alloc::Global;
 use std::io::{self, ErrorKind, Read, Write};
 use std::process::Abort;

@@ -1,0 +1,13 @@
+pub mod Ranges
+pub mod Firsts
+pub mod Told
+pub mod Seeing
+pub mod Rows
+pub mod Members
+pub mod Numbered
+pub mod Wanting
+pub mod Leading
+pub mod Chosen
+pub mod Alike
+pub mod Kept
+pub mod Gluing

@@ -1,0 +1,57 @@
+//! Those sets of a scene's micro-operations that differ in what they leave.
+ghost use Rattle.std.specs.Prelude.{◌≡◌, ◌≤◌, ℕ, false, length, map, IfErr, IfOk};
+ghost use Rattle.cs_apm.specs.Orders as micros;
+ghost use Rattle.cs_plan.specs.Scenes.{order_in};
+ghost use Rattle.cs_sets.specs.Orders.{needs_in};
+ghost use Rattle.cs_sets.specs.Places.{places_of};
+ghost use Rattle.cs_sets.specs.Rows.{bit_in};
+ghost use Rattle.cs_different.specs.Refusals.{IsRefused};
+ghost use Rattle.cs_different.specs.Sets.{AreDifferent};
+
+use crate::classes::class_sets;
+use crate::columns::columns_of;
+use crate::fault::DifferentFault;
+use crate::finding::firsts_of;
+use cs_apm::laws::rules_are_sentences;
+use cs_names::laws::know;
+use cs_plan::Scene;
+use cs_same_states::Parts;
+use cs_sets::{Order, Row};
+use std::alloc::{AllocError, Global};
+
+/// A row without places for each place, so that none wants another.
+fn wants_of(alloc: Global, count: usize) -> Result<Vec<Row>, AllocError>
+    ensures long { IfOk result (λ wanted. length wanted.items ≡ count) }
+    ensures none { IfOk result (λ wanted. (z k : ℕ) → bit_in wanted.items z k ≡ false) }
+{
+    let none = Row::empty();
+    let wanted = vec![in alloc; none; count]?;
+    Ok(wanted)
+}
+
+/// Of all sets of the scene's micro-operations that a crash may leave, the first of those that
+/// leave equal trees and as many acknowledged lines, ascending. `order` is that of the scene.
+/// TooMany if the sets fall into more classes than are followed, More if more than `most` differ.
+pub fn different_sets(
+    alloc: Global,
+    scene: &Scene,
+    order: &Order,
+    most: u32,
+) -> Result<Vec<Row>, DifferentFault>
+    requires long { length order.now ≡ length (order_in scene.now) }
+    requires needs { needs_in order.now ≡ micros.needs_in (order_in scene.now) }
+    ensures different { IfOk result (λ sets. AreDifferent scene.now (map places_of sets.items)) }
+    ensures few { IfOk result (λ sets. length sets.items ≤ most) }
+    ensures refused { IfErr result (IsRefused scene.now most) }
+{
+    // that an order is short, and each place needs only earlier ones
+    know(order.len());
+    // By this law, what the order allows is what the rules allow.
+    rules_are_sentences(scene.micros());
+    let parts = Parts::of(alloc, scene)?;
+    let needed = columns_of(alloc, order)?;
+    let wanted = wants_of(alloc, order.len())?;
+    let classes = class_sets(alloc, wanted.as_slice(), needed.as_slice())?;
+    let sets = firsts_of(alloc, scene, &parts, classes.as_slice(), most)?;
+    Ok(sets)
+}

@@ -1,0 +1,167 @@
+//! Of a list of sets those that leave what no earlier one leaves.
+ghost use Rattle.std.specs.Prelude.{◌≡◌, ◌≤◌, ◌<◌, ◌⊎◌, length, map, IfErr, IfOk, OnOk};
+ghost use Rattle.std.specs.BTreeSet.{contains};
+ghost use Rattle.std.specs.Ordering.{nat_cmp};
+ghost use Rattle.std.specs.List.{All, list_any};
+ghost use Rattle.cs_same_states.specs.Parts.{AreParts};
+ghost use Rattle.cs_sets.specs.Different.{add_first, firsts};
+ghost use Rattle.cs_sets.specs.Places.{places_of};
+ghost use Rattle.cs_different.specs.Sets.{AreTold, IsFound, IsLeavable, IsLeft, leave_same};
+ghost use Rattle.cs_different.specs.Sets.{sets_of};
+ghost use Rattle.cs_different.specs.declared.fault.DifferentFault.TheVariants.{Memory, More};
+
+use crate::fault::DifferentFault;
+use crate::leaving::{Left, are_alike, leave};
+use cs_plan::Scene;
+use cs_same_states::Parts;
+use cs_sets::Row;
+use std::alloc::{AllocError, Global};
+use std::collections::BTreeSet;
+
+/// A set that was kept, with the digest of what it leaves.
+#[derive(Clone, Copy, Debug)]
+pub struct Found {
+    set: Row,
+    digest: u64,
+}
+
+/// Whether a set that was kept leaves the same as `set`, which leaves `left`.
+fn leaves_same(
+    alloc: Global,
+    scene: &Scene,
+    parts: &Parts,
+    found: &Found,
+    set: &Row,
+    left: &Left,
+) -> Result<bool, AllocError>
+    requires parts { AreParts scene.now.trace parts.now }
+    requires found { IsFound scene.now found.now }
+    requires left { IsLeft scene.now (places_of set.now) left.now }
+    ensures { IfOk result (λ same. same
+        ≡ leave_same scene.now (places_of found.now.set) (places_of set.now)) }
+{
+    if found.digest != left.digest {
+        return Ok(false);
+    }
+    let other = leave(alloc, scene, parts, &found.set)?;
+    let same = are_alike(alloc, &other, left)?;
+    Ok(same)
+}
+
+/// Whether one of the sets that were kept leaves the same as `set`, which leaves `left`.
+fn is_among(
+    alloc: Global,
+    scene: &Scene,
+    parts: &Parts,
+    kept: &[Found],
+    set: &Row,
+    left: &Left,
+) -> Result<bool, AllocError>
+    requires parts { AreParts scene.now.trace parts.now }
+    requires kept { All (IsFound scene.now) kept.now }
+    requires left { IsLeft scene.now (places_of set.now) left.now }
+    ensures { IfOk result (λ met. met ≡ list_any
+        (λ f. leave_same scene.now (places_of f.set) (places_of set.now)) kept.now) }
+{
+    for found in kept {
+        if leaves_same(alloc, scene, parts, found, set, left)? {
+            return Ok(true);
+        }
+    }
+    Ok(false)
+}
+
+/// As `is_among`, but looks only if a set with the same digest was kept. `met` has the digests of
+/// those that were.
+fn is_met(
+    alloc: Global,
+    scene: &Scene,
+    parts: &Parts,
+    kept: &[Found],
+    met: &BTreeSet<u64>,
+    set: &Row,
+    left: &Left,
+) -> Result<bool, AllocError>
+    requires parts { AreParts scene.now.trace parts.now }
+    requires kept { All (IsFound scene.now) kept.now }
+    requires met { AreTold (contains nat_cmp met.now) kept.now }
+    requires left { IsLeft scene.now (places_of set.now) left.now }
+    ensures { IfOk result (λ found. found ≡ list_any
+        (λ f. leave_same scene.now (places_of f.set) (places_of set.now)) kept.now) }
+{
+    if !met.contains(&left.digest) {
+        return Ok(false);
+    }
+    let found = is_among(alloc, scene, parts, kept, set, left)?;
+    Ok(found)
+}
+
+/// Adds the set if none of those that were kept leaves the same.
+fn keep(
+    alloc: Global,
+    scene: &Scene,
+    parts: &Parts,
+    kept: &mut Vec<Found>,
+    met: &mut BTreeSet<u64>,
+    set: &Row,
+) -> Result<(), AllocError>
+    requires parts { AreParts scene.now.trace parts.now }
+    requires kept { All (IsFound scene.now) kept.old.items }
+    requires met { AreTold (contains nat_cmp met.old) kept.old.items }
+    requires set { IsLeavable scene.now (places_of set.now) }
+    ensures sets { OnOk result (sets_of kept.new.items
+        ≡ add_first (leave_same scene.now) (sets_of kept.old.items) (places_of set.now)) }
+    ensures kept { OnOk result (All (IsFound scene.now) kept.new.items) }
+    ensures met { OnOk result (AreTold (contains nat_cmp met.new) kept.new.items) }
+{
+    let left = leave(alloc, scene, parts, set)?;
+    if is_met(alloc, scene, parts, kept.as_slice(), met, set, &left)? {
+        return Ok(());
+    }
+    met.insert(left.digest)?;
+    kept.push(Found {
+        set: *set,
+        digest: left.digest,
+    })?;
+    Ok(())
+}
+
+/// The sets that were kept.
+fn rows_of(alloc: Global, kept: &[Found]) -> Result<Vec<Row>, AllocError>
+    ensures { IfOk result (λ rows. map places_of rows.items ≡ sets_of kept.now) }
+{
+    let mut rows = Vec::new(alloc);
+    for found in kept {
+        rows.push(found.set)?;
+    }
+    Ok(rows)
+}
+
+/// Of these sets, each of which a crash may leave, those that leave what no earlier one leaves.
+/// More if these are more than `most`. `parts` are of the scene's trace.
+pub fn firsts_of(
+    alloc: Global,
+    scene: &Scene,
+    parts: &Parts,
+    sets: &[Row],
+    most: u32,
+) -> Result<Vec<Row>, DifferentFault>
+    requires parts { AreParts scene.now.trace parts.now }
+    requires sets { All (λ row. IsLeavable scene.now (places_of row)) sets.now }
+    ensures firsts { IfOk result (λ rows. map places_of rows.items
+        ≡ firsts (leave_same scene.now) (map places_of sets.now)) }
+    ensures few { IfOk result (λ rows. length rows.items ≤ most) }
+    ensures refused { IfErr result (λ fault. (fault ≡ Memory) ⊎ ((fault ≡ More most)
+        × (most < length (firsts (leave_same scene.now) (map places_of sets.now))))) }
+{
+    let mut kept = Vec::new(alloc);
+    let mut met = BTreeSet::new(alloc);
+    for set in sets {
+        keep(alloc, scene, parts, &mut kept, &mut met, set)?;
+        if kept.len() > most as usize {
+            return Err(DifferentFault::More(most));
+        }
+    }
+    let rows = rows_of(alloc, kept.as_slice())?;
+    Ok(rows)
+}

@@ -1,0 +1,113 @@
+//! What a set of micro-operations leaves: a tree, and acknowledged lines.
+ghost use Rattle.std.specs.Prelude.{◌≡◌, ◌≤◌, ◌<◌, ◌↔◌, ◌++◌, ◌∷◌, [], cond, length};
+ghost use Rattle.std.specs.Prelude.{IfOk, IsTrue, OnOk};
+ghost use Rattle.std.specs.List.{All};
+ghost use Rattle.cs_apm.specs.Rules.{op_at};
+ghost use Rattle.cs_plan.specs.Scenes.{is_say, says_of};
+ghost use Rattle.cs_same_states.specs.Parts.{AreParts};
+ghost use Rattle.cs_sets.specs.Bits.{has_place};
+ghost use Rattle.cs_sets.specs.Places.{places_of};
+ghost use Rattle.cs_different.specs.Sets.{IsLeavable, IsLeft, tree_left};
+
+use crate::digest::{digest_tree, mix};
+use cs_apm::state::state_of;
+use cs_micro::MicroOp;
+use cs_names::limits::MICRO_OPERATIONS;
+use cs_plan::Scene;
+use cs_same_states::{Parts, are_same_trees};
+use cs_sets::Row;
+use cs_tree::PlainTree;
+use std::alloc::{AllocError, Global};
+
+/// What a set leaves: its tree, how many acknowledged lines there are, and a digest of both.
+#[derive(Drop)]
+pub struct Left {
+    pub tree: PlainTree,
+    pub says: u32,
+    pub digest: u64,
+}
+
+/// Appends the place if the set has it.
+fn add_member(places: &mut Vec<u32>, set: &Row, place: usize) -> Result<(), AllocError>
+    requires { place < MICRO_OPERATIONS }
+    ensures { OnOk result (places.new.items
+        ≡ places.old.items ++ cond (has_place set.now place) (place ∷ []) []) }
+{
+    if set.has_place(place) {
+        places.push(place as u32)?;
+    }
+    Ok(())
+}
+
+/// The places of a set, ascending.
+fn places_in(alloc: Global, set: &Row) -> Result<Vec<u32>, AllocError>
+    ensures { IfOk result (λ places. places.items ≡ places_of set.now) }
+{
+    let mut places = Vec::new(alloc);
+    for place in 0..MICRO_OPERATIONS {
+        add_member(&mut places, set, place)?;
+    }
+    Ok(places)
+}
+
+/// Whether the micro-operation at the place is an acknowledged line.
+fn is_say_at(ops: &[MicroOp], place: u32) -> bool
+    requires { place < length ops.now }
+    ensures { result ≡ is_say (op_at ops.now place) }
+{
+    matches!(&ops[place as usize], MicroOp::Say)
+}
+
+/// How many acknowledged lines are at these places.
+fn count_says(ops: &[MicroOp], places: &[u32]) -> u32
+    requires inside { All (λ place. place < length ops.now) places.now }
+    requires few { length places.now ≤ MICRO_OPERATIONS }
+    ensures { result ≡ says_of ops.now places.now }
+{
+    let mut count = 0;
+    for place in places {
+        if is_say_at(ops, *place) {
+            count += 1;
+        }
+    }
+    count
+}
+
+/// The tree that these places leave. They are a set that a crash may leave.
+fn tree_of(
+    alloc: Global,
+    scene: &Scene,
+    parts: &Parts,
+    places: &[u32],
+) -> Result<PlainTree, AllocError>
+    requires parts { AreParts scene.now.trace parts.now }
+    requires allowed { IsLeavable scene.now places.now }
+    ensures { IfOk result (λ tree. tree ≡ tree_left scene.now places.now) }
+{
+    let tree = state_of(alloc, scene.trace(), scene.micros(), &parts.tables, places)?;
+    Ok(tree)
+}
+
+/// What the set leaves, which a crash may leave. `parts` are of the scene's trace.
+pub fn leave(alloc: Global, scene: &Scene, parts: &Parts, set: &Row) -> Result<Left, AllocError>
+    requires parts { AreParts scene.now.trace parts.now }
+    requires allowed { IsLeavable scene.now (places_of set.now) }
+    ensures { IfOk result (IsLeft scene.now (places_of set.now)) }
+{
+    let places = places_in(alloc, set)?;
+    let tree = tree_of(alloc, scene, parts, &places)?;
+    let says = count_says(scene.micros().ops(), &places);
+    let digest = mix(digest_tree(alloc, &tree)?, u64::from(says));
+    Ok(Left { tree, says, digest })
+}
+
+/// Whether two sets leave equal trees, and as many acknowledged lines.
+pub fn are_alike(alloc: Global, left: &Left, other: &Left) -> Result<bool, AllocError>
+    ensures { IfOk result (λ same. IsTrue same
+        ↔ ((left.now.tree ≡ other.now.tree) × (left.now.says ≡ other.now.says))) }
+{
+    if left.says != other.says {
+        return Ok(false);
+    }
+    are_same_trees(alloc, &left.tree, &other.tree)
+}

@@ -1,0 +1,136 @@
+-- What is written so far, and what is left.
+use Rattle.std.proofs.Common.{◌≡◌, ℕ, zero, suc, ◌+◌, ◌-◌, ◌<◌, ◌≤◌, Bool, true, false, cond, List, [], ◌∷◌, ◌++◌, Option, codes, decimal}
+use Rattle.std.proofs.Common.{get_or, take, length, refl, sym, ap, ◌∙◌, subst, arith, append_assoc, length-append}
+use Rattle.std.proofs.KnownBytes.{Appends-nil, Appends-trans}
+use Rattle.std.proofs.lemmas.List.{append-nil, flat_map_more, take_more}
+use Rattle.std.proofs.lemmas.List.Elements.{All-nil, All-push}
+use Rattle.std.specs.Io.KnownBytes.{Appends}
+use Rattle.std.specs.List.{All, Contains, filter, flat_map, range_with_len}
+use Rattle.cs_sets.specs.declared.row.Row.{Row}
+use Rattle.cs_sets.specs.Bits.{has_place}
+use Rattle.cs_sets.specs.Finding.{HasNone, IsNext}
+use Rattle.cs_sets.specs.Places.{places_of}
+use Rattle.cs_every.specs.Drawn.{WritesSample}
+use Rattle.cs_every.specs.Texts.{others_text, pick_line, picks_text, places_from}
+
+-- ---- places
+
+none_in : (has : ℕ → Bool) (a m : ℕ) → HasNone has a (a + m) → filter has (range_with_len a m) ≡ []
+none_in has a zero none = refl
+none_in has a (suc m) none =
+    ap (λ b. cond b (a ∷ filter has (range_with_len (a + 1) m)) (filter has (range_with_len (a + 1) m)))
+    (none a (omega arith) (omega arith))
+    ∙ none_in has (a + 1) m (λ i l u. none i (omega (arith, l)) (omega (arith, u)))
+
+next_in : (has : ℕ → Bool) (d a m : ℕ) → HasNone has a (a + d) → has (a + d) ≡ true → d < m
+    → filter has (range_with_len a m) ≡ (a + d) ∷ filter has (range_with_len (a + d + 1) (m - (d + 1)))
+next_in has d a zero none is low = absurd (omega (arith, low))
+next_in has zero a (suc m) none is low =
+    let e : a + 0 ≡ a = omega arith in
+    let f : suc m - (0 + 1) ≡ m = omega arith in
+    ap (λ b. cond b (a ∷ filter has (range_with_len (a + 1) m)) (filter has (range_with_len (a + 1) m))) (ap has (sym e) ∙ is)
+    ∙ ap (λ v. v ∷ filter has (range_with_len (v + 1) m)) (sym e)
+    ∙ ap (λ v. (a + 0) ∷ filter has (range_with_len (a + 0 + 1) v)) (sym f)
+next_in has (suc d) a (suc m) none is low =
+    let e : (a + 1) + d ≡ a + suc d = omega arith in
+    let f : m - (d + 1) ≡ suc m - (suc d + 1) = omega arith in
+    ap (λ b. cond b (a ∷ filter has (range_with_len (a + 1) m)) (filter has (range_with_len (a + 1) m)))
+    (none a (omega arith) (omega arith))
+    ∙ next_in has d (a + 1) m (λ i l u. none i (omega (arith, l)) (omega (arith, u, e))) (ap has e ∙ is) (omega (arith, low))
+    ∙ ap (λ v. v ∷ filter has (range_with_len (v + 1) (m - (d + 1)))) e
+    ∙ ap (λ v. (a + suc d) ∷ filter has (range_with_len (a + suc d + 1) v)) f
+
+pub from_none : (has : ℕ → Bool) (at : ℕ) → at ≤ 1024 → HasNone has at 1024 → places_from has at ≡ []
+unfolding places_from
+from_none has at low none = none_in has at (1024 - at) (λ i l u. none i l (omega (arith, u, low)))
+
+pub from_next : (has : ℕ → Bool) (at place : ℕ) → IsNext has at 1024 place → places_from has at ≡ place ∷ places_from has (place + 1)
+unfolding places_from
+from_next has at place next =
+    let from = next.from_first in let to = next.before_end in
+    let e : at + (place - at) ≡ place = omega (arith, from) in
+    let f : (1024 - at) - ((place - at) + 1) ≡ 1024 - (place + 1) = omega (arith, from, to) in
+    next_in has (place - at) at (1024 - at) (λ i l u. next.none_before i l (omega (arith, u, e))) (ap has e ∙ next.is_there)
+    (omega (arith, from, to))
+    ∙ ap (λ v. v ∷ filter has (range_with_len (v + 1) ((1024 - at) - ((place - at) + 1)))) e
+    ∙ ap (λ v. place ∷ filter has (range_with_len (place + 1) v)) f
+
+pub all_from : (row : Row) → places_of row ≡ places_from (has_place row) 0
+unfolding places_from places_of
+all_from row = refl
+
+-- ---- a line
+
+-- the text that is written, and that of what is left, are the text of all
+pub record IsPart (old new : Option (List ℕ)) (left all : List ℕ) : Type 0 where
+  pub text : List ℕ
+  pub written : Appends old new text
+  pub whole : text ++ left ≡ all
+
+pub part_none : (old : Option (List ℕ)) (all : List ℕ) → IsPart old old all all
+part_none old all = record { text = []; written = Appends-nil old; whole = refl }
+
+pub part_more : (old now new : Option (List ℕ)) (left more rest all : List ℕ) → IsPart old now left all → Appends now new more → left
+    ≡ more ++ rest
+    → IsPart old new rest all
+part_more old now new left more rest all part written e = record {
+  text = part.text ++ more;
+  written = Appends-trans old now new part.text more part.written written;
+  whole = append_assoc part.text more rest ∙ ap (λ v. part.text ++ v) (sym e) ∙ part.whole;
+}
+
+pub part_whole : (old new : Option (List ℕ)) (left all : List ℕ) → IsPart old new left all → left ≡ [] → Appends old new all
+part_whole old new left all part e =
+    subst (λ v. Appends old new v) (sym (append-nil part.text) ∙ ap (λ v. part.text ++ v) (sym e) ∙ part.whole) part.written
+
+pub three_parts : (old a b new : Option (List ℕ)) (x y z all : List ℕ) → Appends old a x → Appends a b y → Appends b new z
+    → x ++ (y ++ z) ≡ all → Appends old new all
+three_parts old a b new x y z all p q r e =
+    subst (λ v. Appends old new v) e (Appends-trans old a new x (y ++ z) p (Appends-trans a b new y z q r))
+
+-- the text of one more place
+pub others_more : (old now new : Option (List ℕ)) (places : List ℕ) (i : ℕ) → i < length places
+    → Appends old now (others_text (take i places)) → Appends now new (codes "," ++ decimal (get_or places i 0))
+    → Appends old new (others_text (take (i + 1) places))
+others_more old now new places i there before written =
+    subst (λ v. Appends old new v)
+    (flat_map_more (λ k. codes "," ++ decimal k) [] (take i places) (get_or places i 0) ∙ ap others_text (sym (take_more places i 0 there)))
+    (Appends-trans old now new (others_text (take i places)) (codes "," ++ decimal (get_or places i 0)) before written)
+
+-- ---- sets
+
+-- the sets that were passed, and those that are left, are all
+pub record IsPassed (count : ℕ) (left all : List (List ℕ)) : Type 0 where
+  pub done : List (List ℕ)
+  pub long : length done ≡ count
+  pub whole : done ++ left ≡ all
+
+pub passed_none : (all : List (List ℕ)) → IsPassed 0 all all
+passed_none all = record { done = []; long = refl; whole = refl }
+
+pub passed_more : (count : ℕ) (left rest all : List (List ℕ)) (x : List ℕ) → IsPassed count left all → left ≡ x ∷ rest
+    → IsPassed (count + 1) rest all
+passed_more count left rest all x passed e = record {
+  done = passed.done ++ x ∷ [];
+  long = length-append passed.done (x ∷ []) ∙ ap (λ v. v + 1) passed.long;
+  whole = append_assoc passed.done (x ∷ []) rest ∙ ap (λ v. passed.done ++ v) (sym e) ∙ passed.whole;
+}
+
+pub passed_long : (count : ℕ) (left all : List (List ℕ)) → IsPassed count left all → length all ≡ count + length left
+passed_long count left all passed =
+    ap length (sym passed.whole) ∙ length-append passed.done left ∙ ap (λ v. v + length left) passed.long
+
+-- ---- a sample
+
+pub sample_more : (sets : List (List ℕ)) (count : ℕ) (old now new : Option (List ℕ)) (x : List ℕ) → WritesSample sets count old now
+    → Contains sets x → Appends now new (pick_line x) → WritesSample sets (count + 1) old new
+sample_more sets count old now new x sample there written = record {
+  drawn = sample.drawn ++ x ∷ [];
+  long = length-append sample.drawn (x ∷ []) ∙ ap (λ v. v + 1) sample.long;
+  members = All-push (Contains sets) sample.drawn x sample.members there;
+  written = subst (λ v. Appends old new v) (flat_map_more pick_line [] sample.drawn x)
+      (Appends-trans old now new (picks_text sample.drawn) (pick_line x) sample.written written);
+}
+
+pub sample_none : (sets : List (List ℕ)) (old : Option (List ℕ)) → WritesSample sets 0 old old
+sample_none sets old = record { drawn = []; long = refl; members = All-nil (Contains sets); written = Appends-nil old }

@@ -1,0 +1,4 @@
+pub mod Texts
+pub mod Drawn
+pub mod Counted
+pub mod Faults

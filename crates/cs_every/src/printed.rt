@@ -1,0 +1,119 @@
+//! All sets that an order allows, as lines of a picks file.
+ghost use Rattle.std.specs.Prelude.{◌≤◌, ◌++◌, codes, decimal, length, IfErr, OnOk};
+ghost use Rattle.std.specs.Io.KnownBytes.{Appends};
+ghost use Rattle.cs_sets.specs.Bits.{has_place};
+ghost use Rattle.cs_sets.specs.Every.{every};
+ghost use Rattle.cs_sets.specs.Orders.{needs_in};
+ghost use Rattle.cs_sets.specs.Places.{places_of};
+ghost use Rattle.cs_every.specs.Faults.{IsOutside};
+ghost use Rattle.cs_every.specs.Texts.{others_text, pick_line, picks_text, places_from};
+
+use crate::fault::EveryFault;
+use cs_names::limits::MICRO_OPERATIONS;
+use cs_sets::{Order, Row, Sets};
+use std::io::Write;
+
+/// Writes the bytes. After a fault some of them may be written.
+pub fn write_bytes<W: Write>(bytes: &[u8], out: &mut W) -> Result<(), EveryFault>
+    ensures fault { IfErr result IsOutside }
+    ensures text { OnOk result (Appends (W.contents out.old) (W.contents out.new) bytes.now) }
+{
+    out.write_all(bytes).map_err(|_| EveryFault::Output)
+}
+
+/// Writes a bracket and the first place of a set.
+fn write_first<W: Write>(place: usize, out: &mut W) -> Result<(), EveryFault>
+    ensures fault { IfErr result IsOutside }
+    ensures text { OnOk result (Appends (W.contents out.old) (W.contents out.new)
+        (codes "[" ++ decimal place)) }
+{
+    write!(out, "[{place}").map_err(|_| EveryFault::Output)
+}
+
+/// Writes a comma and a further place of a set.
+fn write_other<W: Write>(place: usize, out: &mut W) -> Result<(), EveryFault>
+    ensures fault { IfErr result IsOutside }
+    ensures text { OnOk result (Appends (W.contents out.old) (W.contents out.new)
+        (codes "," ++ decimal place)) }
+{
+    write!(out, ",{place}").map_err(|_| EveryFault::Output)
+}
+
+/// Writes a comma and the number of each place of the set from `first` on.
+fn write_others<W: Write>(set: &Row, first: usize, out: &mut W) -> Result<(), EveryFault>
+    requires { first ≤ MICRO_OPERATIONS }
+    ensures fault { IfErr result IsOutside }
+    ensures text { OnOk result (Appends (W.contents out.old) (W.contents out.new)
+        (others_text (places_from (has_place set.now) first))) }
+{
+    let mut at = first;
+    while let Some(place) = set.next_from(at, MICRO_OPERATIONS) {
+        write_other(place, out)?;
+        at = place + 1;
+    }
+    Ok(())
+}
+
+/// Writes a comma and the number of each of these places.
+fn write_places<W: Write>(places: &[u32], out: &mut W) -> Result<(), EveryFault>
+    ensures fault { IfErr result IsOutside }
+    ensures text { OnOk result (Appends (W.contents out.old) (W.contents out.new)
+        (others_text places.now)) }
+{
+    for place in places {
+        write_other(*place as usize, out)?;
+    }
+    Ok(())
+}
+
+/// Writes the places as a JSON array and a line feed. The array of no places is `[]`. Allocates
+/// nothing. After a fault a part of the line may be written.
+pub fn write_pick<W: Write>(places: &[u32], out: &mut W) -> Result<(), EveryFault>
+    ensures fault { IfErr result IsOutside }
+    ensures text { OnOk result (Appends (W.contents out.old) (W.contents out.new)
+        (pick_line places.now)) }
+{
+    match places {
+        [] => {
+            write_bytes(b"[]\n", out)?;
+            Ok(())
+        }
+        [first, others @ ..] => {
+            write_first(*first as usize, out)?;
+            write_places(others, out)?;
+            write_bytes(b"]\n", out)?;
+            Ok(())
+        }
+    }
+}
+
+/// Writes the set as a JSON array and a line feed. The array of an empty set is `[]`. Allocates
+/// nothing. After a fault a part of the line may be written.
+pub fn write_set<W: Write>(set: &Row, out: &mut W) -> Result<(), EveryFault>
+    ensures fault { IfErr result IsOutside }
+    ensures text { OnOk result (Appends (W.contents out.old) (W.contents out.new)
+        (pick_line (places_of set.now))) }
+{
+    let Some(first) = set.next_from(0, MICRO_OPERATIONS) else {
+        write_bytes(b"[]\n", out)?;
+        return Ok(());
+    };
+    write_first(first, out)?;
+    write_others(set, first + 1, out)?;
+    write_bytes(b"]\n", out)?;
+    Ok(())
+}
+
+/// Writes all sets that the order allows, in their order, each as a line. Allocates nothing. After
+/// a fault some of the lines may be written.
+pub fn write_every<W: Write>(order: &Order, out: &mut W) -> Result<(), EveryFault>
+    ensures fault { IfErr result IsOutside }
+    ensures text { OnOk result (Appends (W.contents out.old) (W.contents out.new)
+        (picks_text (every (needs_in order.now) (length order.now)))) }
+{
+    let mut sets = Sets::of(order);
+    while let Some(set) = sets.next() {
+        write_set(&set, out)?;
+    }
+    Ok(())
+}

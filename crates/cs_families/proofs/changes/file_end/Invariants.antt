@@ -1,9 +1,0 @@
-use Rattle.std.proofs.Common.{◌≡◌, ◌≤◌, ◌^◌, take}
-use Rattle.cs_families.specs.Changes.{file_end}
-use Rattle.cs_families.proofs.changes.file_end.Given as goal
-
-abbrev pub invariant-loop-op : goal.invariant-loop-op
-invariant-loop-op l = record {
-  so_far : l.end ≡ file_end (take l.op-index l.ops);
-  small : l.end ≤ 2 ^ 32;
-}

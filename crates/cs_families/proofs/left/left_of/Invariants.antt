@@ -1,8 +1,0 @@
-use Rattle.std.proofs.Common.{◌≡◌}
-use Rattle.std.specs.List.{filter, range_with_len}
-use Rattle.cs_apm.specs.Orders.{needs_in}
-use Rattle.cs_families.specs.Left.{stays}
-use Rattle.cs_families.proofs.left.left_of.Given as goal
-
-abbrev pub invariant-loop-place : goal.invariant-loop-place
-invariant-loop-place l = l.left.items ≡ filter (stays (needs_in l.order) l.lost) (range_with_len 0 l.place)

@@ -1,5 +1,0 @@
-pub mod Changes
-pub mod Losses
-pub mod Left
-pub mod Families
-pub mod Texts

@@ -1,0 +1,4 @@
+pub mod Blaming
+pub mod Flushing
+pub mod ReadingPicks
+pub mod Scened

@@ -1,0 +1,115 @@
+//! The list as JSON: a line for each micro-operation, and then one for each state. How one line is
+//! spelled is in `json`; `listing` chooses between this form and the plain one.
+ghost use Rattle.std.specs.Prelude.{◌≡◌, ◌<◌, ◌++◌, ℕ, IfOk, List, OnOk, Option, length};
+ghost use Rattle.std.specs.Prelude.{string_bytes};
+ghost use Rattle.std.specs.Option.{option_copied};
+ghost use Rattle.cs_apm.specs.Orders.{needs_in};
+ghost use Rattle.cs_apm.specs.Rules.{op_at};
+ghost use Rattle.cs_picks.specs.Families.{least_with};
+ghost use Rattle.cs_plan.specs.Scenes.{micros_of, order_in};
+ghost use Rattle.cs_list.specs.Json as spec;
+ghost use Rattle.cs_list.specs.Listings.{AreObjects, op_object, state_object, state_objects};
+
+use crate::json::{op_line, state_line};
+use crate::lines::number_at;
+use crate::paths::FilePaths;
+use cs_names::Path;
+use cs_picks::least_with;
+use cs_plan::{Places, Scene};
+use std::alloc::{AllocError, Global};
+
+/// The line of the micro-operation at the place. `path` is one path of the file that it changes, if
+/// it changes one; `line` is the number of the trace's line that it came from.
+fn op_line_at(
+    alloc: Global,
+    scene: &Scene,
+    place: usize,
+    path: Option<&Path>,
+    line: usize,
+) -> Result<String, AllocError>
+    requires { place < length (micros_of scene.now).ops }
+    ensures { IfOk result (λ text. string_bytes text
+        ≡ spec.op_line place (op_at (micros_of scene.now).ops place) (option_copied path.entry) line
+        (least_with (needs_in (order_in scene.now)) place)) }
+{
+    let needs = Places::of(least_with(alloc, scene.order(), place)?);
+    op_line(
+        alloc,
+        place,
+        &scene.micros().ops()[place],
+        path,
+        line,
+        &needs,
+    )
+}
+
+/// Adds the object of the micro-operation at the place to the text, and changes the paths as it
+/// does. The error is out of memory; the text may have the object then.
+fn push_op_object<'a>(
+    alloc: Global,
+    scene: &'a Scene,
+    lines: &[usize],
+    place: usize,
+    paths: &mut FilePaths<'a>,
+    text: &mut Vec<u8>,
+) -> Result<(), AllocError>
+    requires { place < length (micros_of scene.now).ops }
+    ensures { OnOk result ((path : Option (List (List ℕ))) × (text.new.items
+        ≡ text.old.items ++ op_object scene.now lines.now (place, path))) }
+{
+    let op = &scene.micros().ops()[place];
+    let path = paths.path_of_changed_file(op);
+    let object = op_line_at(alloc, scene, place, path, number_at(lines, place))?;
+    text.extend_from_slice(object.as_bytes())?;
+    paths.apply(alloc, op)
+}
+
+/// The objects of all micro-operations. `lines` has for each the number of the trace's line that it
+/// came from. The error is out of memory.
+pub fn op_objects(alloc: Global, scene: &Scene, lines: &[usize]) -> Result<Vec<u8>, AllocError>
+    ensures { IfOk result (λ text.
+        AreObjects scene.now lines.now (length (micros_of scene.now).ops) text.items) }
+{
+    let ops = scene.micros().ops();
+    let mut paths = FilePaths::of(alloc, scene.micros())?;
+    let mut text = Vec::new(alloc);
+    for place in 0..ops.len() {
+        push_op_object(alloc, scene, lines, place, &mut paths, &mut text)?;
+    }
+    Ok(text)
+}
+
+/// The object of the state of a number. `firsts` has for each state the number of the first one with
+/// an equal tree.
+fn state_object(
+    alloc: Global,
+    scene: &Scene,
+    firsts: &[u32],
+    number: usize,
+) -> Result<String, AllocError>
+    requires { number < length scene.now.plan }
+    ensures { IfOk result (λ text. string_bytes text ≡ state_object scene.now firsts.now number) }
+{
+    let recipe = &scene.plan().recipes()[number];
+    // the plan has the number
+    let says = scene.says(number as u32).unwrap_or(0);
+    let first = firsts.get(number).copied().unwrap_or(0);
+    state_line(alloc, number, recipe, says, first)
+}
+
+/// Appends the objects of all states to the text. `firsts` is as in `state_object`. The error is out
+/// of memory; the text may have some of the objects then.
+pub fn push_state_objects(
+    alloc: Global,
+    scene: &Scene,
+    firsts: &[u32],
+    text: &mut Vec<u8>,
+) -> Result<(), AllocError>
+    ensures { OnOk result (text.new.items ≡ text.old.items ++ state_objects scene.now firsts.now) }
+{
+    for number in 0..scene.plan().len() {
+        let object = state_object(alloc, scene, firsts, number)?;
+        text.extend_from_slice(object.as_bytes())?;
+    }
+    Ok(())
+}

@@ -1,0 +1,93 @@
+//! The number of the trace's line that each micro-operation came from. Lines count from 1.
+ghost use Rattle.std.specs.Prelude.{◌≡◌, ◌≤◌, ◌++◌, ◌^◌, IfOk, OnOk, length, replicate};
+ghost use Rattle.std.specs.Prelude.{slice_index};
+ghost use Rattle.std.specs.List.{All};
+ghost use Rattle.cs_trace_lines.specs.Versions.{block_bytes};
+ghost use Rattle.cs_trace.specs.States.{lines_in};
+ghost use Rattle.cs_micro.specs.MicroOperations.{IsWithinLimit};
+ghost use Rattle.cs_list.specs.Lines.{lines_of, lines_of_operations, number_unless_blank};
+ghost use Rattle.cs_list.specs.Lines.{numbers_not_blank};
+
+use cs_micro::micro_count;
+use cs_names::limits::TREE_RECORDS;
+use cs_trace::{BlockSize, Operation, Trace};
+use cs_trace_lines::is_blank;
+use std::alloc::{AllocError, Global};
+
+/// Adds the number of the line at the place, which is one more than the place, unless the line is
+/// blank. After an error the numbers are unchanged.
+fn push_unless_blank(numbers: &mut Vec<usize>, place: usize, line: &str) -> Result<(), AllocError>
+    requires { place ≤ 2 ^ 63 }
+    ensures { OnOk result
+        (numbers.new.items ≡ numbers.old.items ++ number_unless_blank (place, line.now)) }
+{
+    if !is_blank(line) {
+        numbers.push(place + 1)?;
+    }
+    Ok(())
+}
+
+/// The numbers of a text's lines that aren't blank, in their order.
+fn numbers_not_blank(alloc: Global, text: &str) -> Result<Vec<usize>, AllocError>
+    ensures { IfOk result (λ numbers. numbers.items ≡ numbers_not_blank (lines_in text.now)) }
+{
+    let mut numbers = Vec::new(alloc);
+    for (place, line) in text.split('\n').enumerate() {
+        push_unless_blank(&mut numbers, place, line)?;
+    }
+    Ok(numbers)
+}
+
+/// The number at the place; 0, which is no line's number, if the place is past the end.
+pub fn number_at(numbers: &[usize], place: usize) -> usize
+    ensures { result ≡ slice_index numbers.now place }
+{
+    numbers.get(place).copied().unwrap_or(0)
+}
+
+/// Adds the number of a line `count` times. After an error the lines are unchanged.
+fn push_repeated(
+    alloc: Global,
+    lines: &mut Vec<usize>,
+    line: usize,
+    count: usize,
+) -> Result<(), AllocError>
+    ensures { OnOk result (lines.new.items ≡ lines.old.items ++ replicate count line) }
+{
+    let same = vec![in alloc; line; count]?;
+    lines.extend_from_slice(&same)
+}
+
+/// For each micro-operation that the operations make, the number of its operation's line. `numbers`
+/// has those of all lines that aren't blank; the one at the place `first` is the first operation's.
+fn lines_of_operations(
+    alloc: Global,
+    block: BlockSize,
+    numbers: &[usize],
+    first: usize,
+    operations: &[Operation],
+) -> Result<Vec<usize>, AllocError>
+    requires within { All IsWithinLimit operations.now }
+    requires few { first ≤ TREE_RECORDS }
+    ensures { IfOk result (λ lines. lines.items
+        ≡ lines_of_operations (block_bytes block) numbers.now first operations.now) }
+{
+    let mut lines = Vec::new(alloc);
+    for (place, operation) in operations.iter().enumerate() {
+        let line = number_at(numbers, first + place);
+        push_repeated(alloc, &mut lines, line, micro_count(block, operation))?;
+    }
+    Ok(lines)
+}
+
+/// For each micro-operation of a trace, the number of the line that it came from. The text is the
+/// trace's. Of its lines that aren't blank, the header and the lines of the start come first, as
+/// many as the trace has records; each line after them is an operation's.
+pub fn lines_of(alloc: Global, text: &str, trace: &Trace) -> Result<Vec<usize>, AllocError>
+    ensures { IfOk result (λ lines. lines.items ≡ lines_of text.now trace.now) }
+{
+    let numbers = numbers_not_blank(alloc, text)?;
+    let first = trace.records().len();
+    let block = trace.version().block_size();
+    lines_of_operations(alloc, block, &numbers, first, trace.operations())
+}

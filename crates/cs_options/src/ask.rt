@@ -1,0 +1,42 @@
+//! A command with its options, and the files that it is given.
+use crate::list::ListOptions;
+use crate::picks::PicksOptions;
+use crate::serve::Serving;
+use crate::tar::States;
+
+/// Which crash states a command is about.
+#[derive(Clone, Copy, Debug)]
+pub struct Wanted<'a> {
+    /// The path of the trace.
+    pub trace: &'a str,
+    /// Whether the states of prefixes with a hole are among them.
+    pub holes: bool,
+    /// The path of a file of further sets.
+    pub picks: Option<&'a str>,
+}
+
+/// What the command does with these states.
+#[derive(Debug, Drop)]
+pub enum Job<'a> {
+    /// Lists the micro-operations and the states.
+    List(ListOptions),
+    /// Writes the trees of some states as an archive.
+    Tar(States),
+    /// Prints sets of micro-operations as a picks file.
+    Picks(PicksOptions),
+    /// Runs a script from standard input.
+    Script,
+    /// Serves connections over TCP.
+    Serve(Serving<'a>),
+}
+
+/// What the command line asks for.
+#[derive(Debug, Drop)]
+pub struct Ask<'a> {
+    pub wanted: Wanted<'a>,
+    /// The path of the users file, of a command that has users.
+    pub users: Option<&'a str>,
+    /// Whether messages are printed as text on standard error.
+    pub verbose: bool,
+    pub job: Job<'a>,
+}

@@ -1,0 +1,5 @@
+mod Allowed
+mod Filled
+mod Holes
+mod Printed
+mod Written

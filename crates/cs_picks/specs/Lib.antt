@@ -1,0 +1,6 @@
+pub mod Changes
+pub mod Losses
+pub mod Left
+pub mod Families
+pub mod Sets
+pub mod Covering

@@ -1,0 +1,43 @@
+-- What is printed of the sets that a crash may leave.
+use Rattle.std.specs.Prelude.{◌≡◌, ℕ, ◌<◌, ◌≤◌, ◌⊎◌, List, length, Option}
+use Rattle.std.specs.Io.KnownBytes.{Appends}
+use Rattle.cs_apm.specs.Orders.{needs_in}
+use Rattle.cs_plan.specs.Scenes.{Scene, order_in}
+use Rattle.cs_sets.specs.Every.{every}
+use Rattle.cs_every.specs.declared.fault.EveryFault.{EveryFault}
+use Rattle.cs_every.specs.declared.fault.EveryFault.TheVariants.{More, TooMany, Memory, Output}
+use Rattle.cs_every.specs.Drawn.{WritesSample}
+use Rattle.cs_every.specs.Faults.{IsOutside, IsUncounted, IsUndrawn}
+use Rattle.cs_every.specs.Texts.{count_text, picks_text}
+use Rattle.cs_inputs.specs.Scenes.{IsScene}
+use Rattle.cs_inputs.specs.declared.inputs.Inputs.{Inputs}
+use Rattle.cs_picks.specs.Families.{family_in}
+use Rattle.cs_picks.specs.declared.sets.PickSets.{PickSets}
+use Rattle.cs_picks.specs.declared.sets.PickSets.TheVariants.{Of, Every, Count, Sample}
+
+-- all sets that a crash may leave, ascending
+abbrev pub every_in : Scene → List (List ℕ)
+every_in s = every (needs_in (order_in s)) (length (order_in s))
+
+-- known bytes grow by what is asked for of a scene's sets
+abbrev pub WritesSets : Scene → PickSets → Option (List ℕ) → Option (List ℕ) → Type 0
+WritesSets s (Of family) old new = Appends old new (picks_text (family_in s family))
+WritesSets s (Every most) old new = (length (every_in s) ≤ most)
+    × Appends old new (picks_text (every_in s))
+WritesSets s Count old new = Appends old new (count_text (length (every_in s)))
+WritesSets s (Sample seed count) old new = WritesSample (every_in s) count old new
+
+-- the scene is that of the inputs
+abbrev pub PrintsSets : Inputs → PickSets → Option (List ℕ) → Option (List ℕ) → Type 0
+PrintsSets inputs sets old new = (s : Scene) × IsScene inputs s × WritesSets s sets old new
+
+-- why not all that is asked for is written
+abbrev pub IsRefused : Scene → PickSets → EveryFault → Type 0
+IsRefused s (Of family) fault = IsOutside fault
+IsRefused s (Every most) (More bound) = (bound ≡ most) × (most < length (every_in s))
+IsRefused s (Every most) TooMany = ⊥
+IsRefused s (Every most) Memory = Unit {0}
+IsRefused s (Every most) Output = Unit {0}
+IsRefused s Count fault = IsUncounted (needs_in (order_in s)) (length (order_in s)) fault
+IsRefused s (Sample seed count) fault = IsUndrawn (needs_in (order_in s)) (length (order_in s))
+    fault

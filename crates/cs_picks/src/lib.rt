@@ -1,0 +1,22 @@
+//! The command `picks`: sets of a trace's micro-operations that a crash may leave, as lines of a
+//! picks file. They are families of sets, all sets, sets drawn at random, or only how many there
+//! are.
+#![tactic(auto)]
+
+mod changes;
+mod command;
+pub mod covering;
+mod family;
+mod fault;
+mod files;
+mod left;
+mod losses;
+mod lost;
+mod order;
+mod sets;
+
+pub use command::picks_of;
+pub use family::{Family, write_family};
+pub use lost::least_with;
+pub use order::order_of;
+pub use sets::{PickSets, write_sets};

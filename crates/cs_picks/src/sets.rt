@@ -1,0 +1,92 @@
+//! What is printed of the sets that a crash may leave.
+ghost use Rattle.std.specs.Prelude.{IfErr, OnOk};
+ghost use Rattle.cs_picks.specs.Sets.{IsRefused, WritesSets};
+ghost use Rattle.cs_picks.specs.declared.sets.PickSets.TheVariants as forms;
+
+use crate::family::{Family, write_family};
+use crate::order::order_of;
+use cs_every::{EveryFault, has_more_than, write_count, write_every, write_sample};
+use cs_plan::Scene;
+use std::alloc::Global;
+use std::io::Write;
+
+/// What is printed of the sets that a crash may leave.
+#[derive(Clone, Copy, Debug, PartialEq, Eq)]
+pub enum PickSets {
+    /// The sets of families.
+    Of(Family),
+    /// All sets, if there are no more than this many.
+    Every(u32),
+    /// How many sets there are.
+    Count,
+    /// As many sets as the second number, drawn one after the other, by the seed that is first.
+    Sample(u64, u32),
+}
+
+/// Writes all sets of the scene. If there are more than `most`, nothing is written.
+fn write_all_sets<W: Write>(
+    alloc: Global,
+    scene: &Scene,
+    most: u32,
+    out: &mut W,
+) -> Result<(), EveryFault>
+    ensures written { OnOk result
+        (WritesSets scene.now (forms.Every most) (W.contents out.old) (W.contents out.new)) }
+    ensures fault { IfErr result (IsRefused scene.now (forms.Every most)) }
+{
+    let order = order_of(alloc, scene.order())?;
+    if has_more_than(&order, most) {
+        return Err(EveryFault::More(most));
+    }
+    write_every(&order, out)
+}
+
+/// Writes how many sets the scene has.
+fn write_number_of_sets<W: Write>(
+    alloc: Global,
+    scene: &Scene,
+    out: &mut W,
+) -> Result<(), EveryFault>
+    ensures written { OnOk result
+        (WritesSets scene.now forms.Count (W.contents out.old) (W.contents out.new)) }
+    ensures fault { IfErr result (IsRefused scene.now forms.Count) }
+{
+    let order = order_of(alloc, scene.order())?;
+    write_count(alloc, &order, out)
+}
+
+/// Writes `count` sets of the scene, drawn by the seed.
+fn write_drawn_sets<W: Write>(
+    alloc: Global,
+    scene: &Scene,
+    seed: u64,
+    count: u32,
+    out: &mut W,
+) -> Result<(), EveryFault>
+    ensures written { OnOk result
+        (WritesSets scene.now (forms.Sample seed count) (W.contents out.old) (W.contents out.new)) }
+    ensures fault { IfErr result (IsRefused scene.now (forms.Sample seed count)) }
+{
+    let order = order_of(alloc, scene.order())?;
+    write_sample(alloc, &order, seed, count, out)
+}
+
+/// Writes what is asked for of the scene's sets. If there are more sets than may be printed, or too
+/// many to count, nothing is written; after another fault a part may be.
+pub fn write_sets<W: Write>(
+    alloc: Global,
+    scene: &Scene,
+    sets: PickSets,
+    out: &mut W,
+) -> Result<(), EveryFault>
+    ensures written { OnOk result
+        (WritesSets scene.now sets (W.contents out.old) (W.contents out.new)) }
+    ensures fault { IfErr result (IsRefused scene.now sets) }
+{
+    match sets {
+        PickSets::Of(family) => write_family(alloc, scene, family, out),
+        PickSets::Every(most) => write_all_sets(alloc, scene, most, out),
+        PickSets::Count => write_number_of_sets(alloc, scene, out),
+        PickSets::Sample(seed, count) => write_drawn_sets(alloc, scene, seed, count, out),
+    }
+}

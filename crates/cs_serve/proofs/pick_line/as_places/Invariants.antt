@@ -1,8 +1,0 @@
-use Rattle.std.proofs.Common.{◌≡◌}
-use Rattle.serde_json.specs.View.{items_view}
-use Rattle.cs_serve.specs.PickLines.{places_of}
-use Rattle.cs_serve.proofs.ReadingPicks.{placed, places_from}
-use Rattle.cs_serve.proofs.pick_line.as_places.Given as goal
-
-abbrev pub invariant-loop-value : goal.invariant-loop-value
-invariant-loop-value l = placed l.places.items (places_from l.values l.value-index) ≡ places_of (items_view l.values)

@@ -1,0 +1,51 @@
+//! What the threads that serve connections share.
+ghost use Rattle.std.specs.Prelude.{◌≡◌};
+
+use crate::entrance::Entrance;
+use crate::reloading::Reloading;
+use cs_connection::{Connection, GivenPasses, Server};
+use cs_shared_runs::ServerBrand;
+use std::alloc::Global;
+use std::sync::{Mutex, Wait};
+
+/// A server, the entrance of its connections, its users file if that is read again, and the passes
+/// of the connections that have ended.
+#[derive(Drop)]
+pub(crate) struct Site<S: ServerBrand> {
+    pub(crate) server: Server<S>,
+    pub(crate) entrance: Entrance,
+    pub(crate) reloading: Option<Reloading>,
+    /// Under a lock of its own, which a thread takes when its connection has ended.
+    passes: Mutex<GivenPasses>,
+}
+
+impl<S: ServerBrand> Site<S> {
+    /// The site of a server that has served no connection yet.
+    pub(crate) fn new(
+        alloc: Global,
+        server: Server<S>,
+        entrance: Entrance,
+        reloading: Option<Reloading>,
+    ) -> Site<S>
+        ensures { result.server ≡ server }
+    {
+        Site {
+            server,
+            entrance,
+            reloading,
+            passes: Mutex::new(GivenPasses::new(alloc)),
+        }
+    }
+
+    /// Keeps the passes of a connection that has ended, for the audits. If memory runs out, some
+    /// are dropped: the audits of their runs then report `count`.
+    pub(crate) fn keep_passes(&self, rt: &impl Wait, alloc: Global, connection: Connection<S>) {
+        let _lost = self.passes.lock(rt).keep(alloc, connection);
+    }
+
+    /// The server, and the passes that `keep_passes` kept. The entrance, with its listener, and the
+    /// users file are dropped.
+    pub(crate) fn into_parts(self) -> (Server<S>, GivenPasses) {
+        (self.server, self.passes.into_inner())
+    }
+}

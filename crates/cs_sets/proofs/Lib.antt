@@ -1,0 +1,13 @@
+mod Words
+mod Scanning
+mod Reading
+mod Tables
+mod Needing
+mod Adding
+mod Drawing
+mod Reaching
+mod Entries
+mod Ordering
+mod Carrying
+mod Admitting
+mod Crowding

@@ -1,0 +1,8 @@
+use Rattle.std.proofs.Common.{rules}
+use Rattle.cs_sets.specs.Bits.{has_place}
+use Rattle.cs_sets.proofs.Words.{set_bit}
+use Rattle.cs_sets.proofs.row.Row.set.Goals as goal
+
+pub returns : goal.returns
+unfolding has_place
+returns c = λ k. set_bit c.args.self.now.words c.args.place k (search rules) c.requires

@@ -1,0 +1,15 @@
+pub mod Lists
+pub mod Members
+pub mod Chains
+pub mod Complete
+pub mod Ascending
+pub mod Following
+pub mod Counts
+pub mod Walking
+pub mod Capped
+pub mod Futures
+pub mod Firsts
+pub mod Classes
+pub mod Reaching
+pub mod Chosen
+pub mod Holes
