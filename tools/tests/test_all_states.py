@@ -161,7 +161,7 @@ class Reported(InFolder):
             (['--every', '12'], '13 of 21 crash states tried: none of these fails'),
             (['--families'], '20 states, 13 different: none fails'),
         ]:
-            self.assertEqual(self.check('--crashfs', FAKE, *words), [first + line])
+            self.assertEqual(self.check('--crashfs', FAKE, *words)[0], first + line)
         shard = self.check('--crashfs', FAKE, '--every', '--shard', '1/2')
         self.assertEqual(
             shard, [first + '13 crash states (21 sets): none of the 7 tried by shard 1/2 fails']

@@ -117,9 +117,11 @@ class StateCounts:
             return f'{self.tried:,} of {self.total} crash states{under} tried{stop_text(head)}'
         if not self.has_every:
             return f'{self.states:,} states{under}, {self.different:,} different'
-        all_of = 'all ' if self.is_whole(head) else ''
+        is_all = self.is_whole(head) and not head.cut_off
+        all_of = 'all ' if is_all else ''
         sets = f' ({self.sets:,} set{"" if self.sets == 1 else "s"})' if self.sets else ''
         states = 'crash states' if self.different > 1 else 'crash state'
+        states += ' of the windows' if head.cut_off else ''
         return f'{all_of}{self.different:,} {states}{under or sets}'
 
     @property
