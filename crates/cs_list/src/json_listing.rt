@@ -79,8 +79,8 @@ pub fn op_objects(alloc: Global, scene: &Scene, lines: &[usize]) -> Result<Vec<u
     Ok(text)
 }
 
-/// The object of the state of a number. `firsts` has for each state the number of the first one with
-/// an equal tree.
+/// The object of the state of a number. `firsts` has for each state the number of the first one
+/// with an equal tree.
 fn state_object(
     alloc: Global,
     scene: &Scene,
@@ -97,8 +97,8 @@ fn state_object(
     state_line(alloc, number, recipe, says, first)
 }
 
-/// Appends the objects of all states to the text. `firsts` is as in `state_object`. The error is out
-/// of memory; the text may have some of the objects then.
+/// Appends the objects of all states to the text. `firsts` is as in `state_object`. The error is
+/// out of memory; the text may have some of the objects then.
 pub fn push_state_objects(
     alloc: Global,
     scene: &Scene,

@@ -35,7 +35,8 @@ fn print_list<W: Write>(
     options: ListOptions,
     out: &mut W,
 ) -> Result<(), ProgramFault>
-    ensures { WritesSuch (IsListing inputs.now options) result (W.contents out.old) (W.contents out.new) }
+    ensures { WritesSuch (IsListing inputs.now options) result
+        (W.contents out.old) (W.contents out.new) }
 {
     let text = listing_of(alloc, inputs, options)?;
     print_to(out, &text)
@@ -52,15 +53,15 @@ pub fn list_with<W: Write, E: Write>(
     err: &mut E,
 ) -> u8
     ensures status { result ≤ 1 }
-    ensures printed { WritesSuch (IsListing inputs.now options) (reported result) (W.contents out.old)
-        (W.contents out.new) }
+    ensures printed { WritesSuch (IsListing inputs.now options) (reported result)
+        (W.contents out.old) (W.contents out.new) }
 {
     let done = print_list(alloc, inputs, options, out);
     exit_status(done, ProgramFault::Output, out, err)
 }
 
-/// The text of the list of the inputs, without options. An error is a fault of the inputs, or out of
-/// memory.
+/// The text of the list of the inputs, without options. An error is a fault of the inputs, or out
+/// of memory.
 fn plain_listing_of(alloc: Global, inputs: &Inputs) -> Result<Vec<u8>, ProgramFault>
     ensures text { IfOk result (λ text. IsTextOf inputs.now list_text text.items) }
     ensures fault { IfErr result IsOfNoStream }
@@ -71,7 +72,8 @@ fn plain_listing_of(alloc: Global, inputs: &Inputs) -> Result<Vec<u8>, ProgramFa
 
 /// Writes the list without options to a writer, as `print_list` does.
 fn print_plain<W: Write>(alloc: Global, inputs: &Inputs, out: &mut W) -> Result<(), ProgramFault>
-    ensures { WritesSuch (IsTextOf inputs.now list_text) result (W.contents out.old) (W.contents out.new) }
+    ensures { WritesSuch (IsTextOf inputs.now list_text) result
+        (W.contents out.old) (W.contents out.new) }
 {
     let text = plain_listing_of(alloc, inputs)?;
     print_to(out, &text)
@@ -80,8 +82,8 @@ fn print_plain<W: Write>(alloc: Global, inputs: &Inputs, out: &mut W) -> Result<
 /// The command `list` without options, as `list_with` does it.
 pub fn list_of<W: Write, E: Write>(alloc: Global, inputs: &Inputs, out: &mut W, err: &mut E) -> u8
     ensures status { result ≤ 1 }
-    ensures printed { WritesSuch (IsTextOf inputs.now list_text) (reported result) (W.contents out.old)
-        (W.contents out.new) }
+    ensures printed { WritesSuch (IsTextOf inputs.now list_text) (reported result)
+        (W.contents out.old) (W.contents out.new) }
 {
     let done = print_plain(alloc, inputs, out);
     exit_status(done, ProgramFault::Output, out, err)

@@ -107,8 +107,8 @@ struct Reload {
 #[derive(Drop)]
 pub(crate) struct Reloading {
     path: String,
-    /// The bytes that were last loaded, or refused with a line. While this lock is held, that of the
-    /// registry is taken: no other code takes a second lock.
+    /// The bytes that were last loaded, or refused with a line. While this lock is held, that of
+    /// the registry is taken: no other code takes a second lock.
     last: Mutex<Vec<u8>>,
 }
 
