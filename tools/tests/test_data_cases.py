@@ -46,7 +46,7 @@ class Cases(InFolder):
 
     def run_area(self, area: str) -> None:
         if not self.takes(VERSIONS.get(area, 1)):
-            self.skipTest(f'{self.program} takes no traces of this version')
+            self.skipTest('the program reads no trace of this version')
         cases = cases_of(area)
         self.assertNotEqual(cases, [])
         for case in cases:

@@ -300,7 +300,7 @@ class AsAProgram(InFolder):
             [],
             ['serve'],
             ['list'],
-            ['list', '--trace', 'a', '--lost'],
+            ['list', '--trace', 'a', '--count'],
             *(
                 ['tar', '--trace', str(EXAMPLES / 'store.trace'), '--states', states]
                 for states in ('', '3-1', '3-', 'x', '1,,2')

@@ -237,7 +237,7 @@ class Layout(unittest.TestCase):
         self.assertEqual(sorted(missing), [])
 
     def test_manuals_and_completions_have_their_places(self) -> None:
-        commands = ('crashfs', 'crashfs-check', 'crashfs-record')
+        commands = ('crashfs', 'crashfs-campaign', 'crashfs-check', 'crashfs-record')
         wanted = {f'share/man/man1/{name}.1.gz' for name in commands}
         wanted |= {'share/man/man5/crashfs-trace.5.gz'}
         wanted |= {f'share/bash-completion/completions/{name}' for name in commands}

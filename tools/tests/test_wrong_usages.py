@@ -97,7 +97,7 @@ FILES: Dict[str, str] = {
     'text': 'hello\n',
     'users': '0:u:u:\n',
     'users-crlf': '0:u:u:\n1:v::\r\n',
-    'version': HEADER.replace('1', '4'),
+    'version': HEADER.replace('1', '5'),
     'word': HEADER + '{"op":"wirte","path":"/a"}\n',
 }
 SERVE = 'serve STORE --users users --workers 1 --connections 1 --listen'
@@ -128,7 +128,7 @@ PROGRAM: List[Tuple[str, int, List[str]]] = [
     ('list STORE --picks none', 1, ['none: cannot read', 'none: No such file or directory']),
     ('list empty', 1, ['trace line 1: Syntax', 'empty:1: the file has no line']),
     ('list bom', 1, ['trace line 1: Syntax', 'bom:1: it starts with a byte order mark']),
-    ('list version', 1, ['trace line 1: Syntax', 'version:1: version 4 is not known (1, 2, 3)']),
+    ('list version', 1, ['trace line 1: Syntax', 'version:1: version 5 is not known (1, 2, 3)']),
     (
         'list long-mode',
         1,
@@ -176,7 +176,7 @@ READING: List[Tuple[str, int, List[str]]] = [
     (
         'list --trace version',
         1,
-        ['trace line 1: Syntax', 'version:1: version 4 is not known (1, 2, 3)'],
+        ['trace line 1: Syntax', 'version:1: version 5 is not known (1, 2, 3'],
     ),
     (
         'list --trace long-mode',
