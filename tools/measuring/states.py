@@ -70,6 +70,7 @@ class Checks:
                 str(CHECK),
                 '--crashfs',
                 self.program,
+                *(() if '--prefixes' in options else ('--families',)),
                 *options,
                 str(TRACE),
                 '--',

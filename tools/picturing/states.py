@@ -82,13 +82,22 @@ def draw_holes(picture: Picture, checked: Checked, drawing: Drawing) -> None:
 
 
 def draw_picks(picture: Picture, drawing: Drawing) -> None:
-    """Adds the states of the two further families, in one row for each line of the picture."""
-    signs = ''.join(sign for _, sign in drawing['picks'])
-    picture.line(f'and {len(signs):,} states of --lost and --files:')
-    most = (WIDTH - 2 * MARGIN) // CELL
-    rows = [signs[at : at + most] for at in range(0, len(signs), most)]
+    """Adds the states with other losses: a row for each number of steps that they lack."""
+    picture.line(
+        f'and {len(drawing["picks"]):,} states with other losses, \u2193 more in each row:'
+    )
+    rows = rows_by_loss(drawing)
     picture.parts += paths_of(rows, picture.y + 6)
     picture.y += 6 + len(rows) * CELL
+
+
+def rows_by_loss(drawing: Drawing) -> List[str]:
+    """The signs of the states that lack equally many micro-operations, as wide as the picture."""
+    most = (WIDTH - 2 * MARGIN) // CELL
+    signs: Dict[int, str] = {}
+    for _, sign, lacks in drawing['picks']:
+        signs[lacks] = signs.get(lacks, '') + sign
+    return [row[at : at + most] for row in signs.values() for at in range(0, len(row), most)]
 
 
 def draw_key(picture: Picture) -> None:
@@ -102,25 +111,27 @@ def draw_key(picture: Picture) -> None:
     picture.y = bottom
 
 
-def alternative(checked: Checked) -> str:
+def alternative(checked: Checked, drawing: Drawing) -> str:
     """What the picture shows, in words."""
-    report = checked.report
-    group = report.groups()[0]
+    group = checked.report.groups()[0]
     assert group.lost is not None
+    signs = ''.join([*rows_of(drawing), *rows_by_loss(drawing)]).replace(' ', '')
     return (
-        f'Each of {report.counts.states:,} squares is a crash state. Columns are how much of the '
-        'session had begun, and rows the step that the crash lost. After each of the '
-        f'{len(acknowledged(checked))} acknowledged rows there is a red row: the states that lost '
-        f'{group.lost.text}, and so that row. In all {report.counts.all_failing:,} squares are red.'
+        f'Each of {len(signs):,} squares is a crash state. Columns are how much of the session had '
+        'begun, and rows the step that the crash lost; the rows below have the states with other '
+        f'losses. After each of the {len(acknowledged(checked))} acknowledged rows there is a red '
+        f'row: the states that lost {group.lost.text}, and so that row. In all '
+        f'{signs.count("b"):,} squares are red.'
     )
 
 
 def states_picture(checked: Checked) -> str:
     """The picture, as SVG."""
-    picture = Picture(f'The crash states of {checked.report.head.trace}', alternative(checked))
+    drawing = drawing_of(checked.findings)
+    title = f'The crash states of {checked.report.head.trace}'
+    picture = Picture(title, alternative(checked, drawing))
     for line in textwrap.wrap(checked.report.summary(), COLUMNS):
         picture.line(line, 'title')
-    drawing = drawing_of(checked.findings)
     draw_holes(picture, checked, drawing)
     draw_key(picture)
     draw_picks(picture, drawing)

@@ -75,7 +75,8 @@ class Checks(InStore):
         ran = self.check(self.good)
         self.assertEqual((ran.returncode, ran.stderr), (0, ''))
         self.assertEqual(
-            ran.stdout, 'store.trace: 11 micro-operations, 20 states, 13 different: ' 'none fails\n'
+            ran.stdout,
+            'store.trace: 11 micro-operations, all 13 crash states (21 sets): none fails\n',
         )
         self.assert_nothing_left()
 
@@ -85,8 +86,7 @@ class Checks(InStore):
         self.assertEqual(
             ran.stdout.splitlines(),
             [
-                'bad.trace: 11 micro-operations, 23 states, 16 different: '
-                '3 fail (3 of all 23 states): 3 lost',
+                'bad.trace: 11 micro-operations, all 16 crash states (24 sets): 3 fail: 3 lost',
                 '  lost: a=2 was told                                   3 states, e.g. --state 20',
                 '    line 13: put the new table in place',
                 '    line 15: the table has all of it',
@@ -95,6 +95,7 @@ class Checks(InStore):
                 '    fsync the directory / between them',
                 '    tried: with that sync 0 of these 3 states are left, and no other fails',
                 '    state 20 also lacks line 14 (rmdir /tmp)',
+                '    under blocks and ordered',
             ],
         )
         self.assert_nothing_left()
@@ -172,7 +173,7 @@ class Checks(InStore):
             (['--prefixes', '--lost'], 23),
             (['--prefixes', '--files'], 15),
             (['--quick'], 19),
-            ([], 20),
+            (['--families'], 20),
         ]:
             ran = self.check(*families, self.good, command=['true'])
             self.assertIn(f', {states} states, ', ran.stdout)

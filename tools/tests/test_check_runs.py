@@ -186,12 +186,15 @@ class Stops(InCounted):
             f'touch {self.path("met")}.$CRASHFS_STATE; '
             f'while [ $(ls {self.path("met")}.* | wc -l) -lt 4 ]; do sleep 0.05; done; exit 1'
         )
-        ran = self.check('--fail-fast', '--jobs', '4', self.good, command=['sh', '-c', command])
+        ran = self.check(
+            '--families', '--fail-fast', '--jobs', '4', self.good, command=['sh', '-c', command]
+        )
         self.assertEqual(ran.returncode, 1)
         self.assertRegex(ran.stdout, r': 1 of the [1-4] tried fails: 1 status 1;')
 
     def test_the_first_failure_ends_a_check_by_fail_fast(self):
         ran = self.check(
+            '--families',
             '--fail-fast',
             '--jobs',
             '1',
@@ -205,7 +208,7 @@ class Stops(InCounted):
         )
         # State 3 fails, and is run once more.
         self.assertEqual(self.ran(), [11, 0, 1, 2, 3, 3])
-        ran = self.check('--fail-fast', self.good, command=['true'])
+        ran = self.check('--families', '--fail-fast', self.good, command=['true'])
         self.assertEqual(
             ran.stdout.partition(': ')[2],
             '11 micro-operations, 20 states, ' '13 different: none fails\n',

@@ -133,8 +133,8 @@ class Figures(unittest.TestCase):
 
     def test_the_figures_of_sqlite_are_those_of_its_reports(self) -> None:
         extra = (EXAMPLES / 'sqlite' / 'extra.report').read_text()
-        (states,) = re.findall(r'(\d+) states, \d+ different: none fails', extra)
-        self.assertIn(f'none of {states} states fails', ' '.join(README.split()))
+        (states,) = re.findall(r'all (\d+) crash states \([\d,]+ sets\): none fails', extra)
+        self.assertIn(f'none of {states} crash states fails', ' '.join(README.split()))
 
     def test_the_times_of_builds_are_those_of_contributing(self) -> None:
         cell = rows_of('CONTRIBUTING.md')['a first build by `tools/build`'][0]

@@ -58,7 +58,7 @@ class Pictures(unittest.TestCase):
             steps = one.getAttribute('d').split('h')[1:]
             cells = sum((int(step.partition('M')[0]) + 1) // 5 for step in steps)
             lengths[one.getAttribute('class').split()[1]] += cells
-        self.assertEqual(lengths, {'good': 625 - 97, 'bad': 97})
+        self.assertEqual(lengths, {'good': 835 - 52, 'bad': 52})
 
 
 class Parts(unittest.TestCase):

@@ -12,6 +12,7 @@ from crashfs_tools.checker.report.drawing import drawing_of
 from crashfs_tools.checker.report.junit import junit_lines
 from crashfs_tools.checker.report.page import page
 from crashfs_tools.checker.running.runner import BAD, GOOD, NO_ANSWER, Outcome
+from crashfs_tools.checker.states.plan import Trial
 from crashfs_tools.common.entry import Entry
 from crashfs_tools.common.trace_lines import TraceLine
 
@@ -68,10 +69,18 @@ class Pages(unittest.TestCase):
         (data,) = self.data(''.join(page(reported(findings))))
         self.assertEqual(data, drawing_of(findings))
         self.assertEqual(data['prefixes'][:2], 'n-')
-        signs = data['prefixes'] + ''.join(data['holes']) + ''.join(one for _, one in data['picks'])
-        self.assertEqual(len(signs.replace(' ', '')), len(findings.plan.states))
-        failing = sum(one.result == BAD for one in findings.by_state.values())
+        signs = data['prefixes'] + ''.join(data['holes'])
+        drawn = [one for one in findings.plan.states if one.family != 'pick']
+        self.assertEqual(len(signs.replace(' ', '')), len(drawn))
+        found = map(findings.by_state.get, (one.number for one in drawn))
+        failing = sum(one is not None and one.result == BAD for one in found)
         self.assertEqual(signs.count('b'), failing)
+        trials = {Trial(one.same, one.says) for one in drawn}
+        others = {Trial(one.same, one.says) for one in findings.plan.states} - trials
+        self.assertEqual(len(data['picks']), len(others))
+        self.assertEqual(
+            sorted(lacks for *_, lacks in data['picks']), [it[2] for it in data['picks']]
+        )
         for row, numbers in zip(data['holes'], data['numbers']):
             self.assertEqual(len(row.replace(' ', '')), len(numbers))
 

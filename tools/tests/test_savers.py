@@ -70,12 +70,12 @@ if int(lines[0][8] if lines else 0) < int(os.environ['CRASHFS_SAYS']):
     sys.exit('lost: a report that was written')
 """
 
-# The way, its micro-operations, states, and different ones, and how many of these and of all fail.
+# The way, its micro-operations, its crash states, the sets that leave them, and how many fail.
 WAYS = [
-    ('in place', 15, 34, 25, 18, 24),
-    ('by a rename', 18, 177, 74, 52, 98),
-    ('synced before it', 18, 73, 34, 12, 34),
-    ('with both syncs', 18, 43, 22, 0, 0),
+    ('in place', 15, 25, 37, 18),
+    ('by a rename', 18, 176, 7512, 154),
+    ('synced before it', 18, 34, 106, 12),
+    ('with both syncs', 18, 22, 52, 0),
 ]
 
 
@@ -115,12 +115,11 @@ class Savers(InFolder):
         os.umask(0o022)
         self.write('saver.py', SAVER)
         self.write('check.py', CHECK)
-        for way, operations, states, different, failing, of_all in WAYS:
-            fail = f'{failing} fail ({of_all} of all {states} states): '
+        for way, operations, states, sets, failing in WAYS:
             with self.subTest(way):
                 line = self.first_line(way)
-                begin = f'out.trace: {operations} micro-operations, {states} states, '
-                begin += f'{different} different: {fail if failing else "none fails"}'
+                begin = f'out.trace: {operations} micro-operations, all {states:,} crash states '
+                begin += f'({sets:,} sets): {f"{failing:,} fail: " if failing else "none fails"}'
                 self.assertEqual(line[: len(begin)], begin)
 
     def test_no_state_fails_of_the_tools_own_files(self):

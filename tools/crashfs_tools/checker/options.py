@@ -30,8 +30,8 @@ Exit status 0 means that the state is good, any other status that it is bad. The
 COMMAND printed is then the cause; the report counts failures by the word before a colon in it.
 
 COMMAND is first run in the tree at the session's end and in the start tree, and must find both
-good. The states are all prefixes of the session, all prefixes with one hole (without one change and
-what needs it), and the families --lost and --files."""
+good. The states are all that a crash may leave by the rules, if at most 20,000 of them differ and
+if they take at most ten minutes; else those that find most, and some that are drawn at random."""
 
 EPILOG = """\
 status: 0 none fails; 1 some fail; 2 bad input, or COMMAND fails though nothing is lost; 3 a command
@@ -89,7 +89,7 @@ class Options:
     @property
     def has_every(self) -> bool:
         """Whether all crash states are tried if they are not too many."""
-        return self.every is not None
+        return not (self.families or self.leaves_families_out)
 
     @property
     def most_states(self) -> int:
@@ -198,12 +198,12 @@ def add_states(made: argparse.ArgumentParser) -> None:
         '--lost',
         action='store_true',
         help='for each change, the state with it and as few others as possible '
-        '(default, except with --prefixes, --quick or --serve)',
+        '(adds to --prefixes, --quick or --serve)',
     )
     made.add_argument(
         '--files',
         action='store_true',
-        help='for each file, the states without its unsynced changes (default as ' 'for --lost)',
+        help='for each file, the states without its unsynced changes (as --lost)',
     )
     made.add_argument(
         '--nested',

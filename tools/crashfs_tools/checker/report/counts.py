@@ -125,6 +125,13 @@ class StateCounts:
         return f'{all_of}{self.different:,} {states}{under or sets}'
 
     @property
+    def tried_text(self) -> str:
+        """How much of what there is was tried."""
+        if self.is_part or self.has_every:
+            return f'{self.tried:,} of {self.total} crash states were tried.'
+        return f'{self.tried:,} different states of some families were tried, not all crash states.'
+
+    @property
     def total(self) -> str:
         """How many crash states there are, or sets if the states are too many to be listed."""
         if self.has_every:

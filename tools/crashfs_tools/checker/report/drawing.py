@@ -6,6 +6,8 @@ from typing import Any, Dict, List
 
 from crashfs_tools.checker.findings.groups import Findings
 from crashfs_tools.checker.running.runner import BAD, GOOD, NO_ANSWER
+from crashfs_tools.checker.states.plan import State, Trial
+from crashfs_tools.checker.states.plan import count as count_of
 
 # The results of states as the page's triangle has them; '-' is a state that wasn't tried.
 SIGNS = {GOOD: 'g', BAD: 'b', NO_ANSWER: 'n'}
@@ -15,28 +17,44 @@ Drawing = Dict[str, Any]
 
 def drawing_of(findings: Findings) -> Drawing:
     """A row of signs for the prefixes, and one for the holes of each length: the k-th is that of
-    the hole at k. numbers are those of the holes that are there, in their order."""
+    the hole at k. numbers are those of the holes that are there, in their order. picks are the
+    states that no prefix and no hole is equal to, once each: a number, a sign, and how many
+    micro-operations it lacks, in the order of that."""
     plan = findings.plan
     count = len(plan.operations)
     holes: List[List[str]] = [[' '] * max(0, end - 1) for end in range(count + 1)]
     numbers: List[List[int]] = [[] for _ in range(count + 1)]
-    prefixes, picks = [' '] * (count + 1), []
+    prefixes = [' '] * (count + 1)
     for state in plan.states:
-        outcome = findings.by_state.get(state.number)
-        sign = SIGNS[outcome.result] if outcome else '-'
         if state.family == 'prefix':
-            prefixes[state.numbers[0]] = sign
+            prefixes[state.numbers[0]] = sign_of(findings, state)
         elif state.family == 'hole':
             lost, end = state.numbers
-            holes[end][lost] = sign
+            holes[end][lost] = sign_of(findings, state)
             numbers[end].append(state.number)
-        else:
-            picks.append([state.number, sign])
     return {
         'first': plan.first,
         'prefixes': ''.join(prefixes),
         'holes': [''.join(row) for row in holes],
         'numbers': numbers,
-        'picks': picks,
+        'picks': picks_of(findings),
         'operations': [f'{one.text} (line {one.line})' for one in plan.operations],
     }
+
+
+def picks_of(findings: Findings) -> List[List[Any]]:
+    plan = findings.plan
+    drawn = {Trial(one.same, one.says) for one in plan.states if one.family != 'pick'}
+    picks = []
+    for state in plan.states:
+        trial = Trial(state.same, state.says)
+        if trial not in drawn:
+            drawn.add(trial)
+            lacks = count_of(plan.lacking(state))
+            picks.append([state.number, sign_of(findings, state), lacks])
+    return sorted(picks, key=lambda pick: (pick[2], pick[0]))
+
+
+def sign_of(findings: Findings, state: State) -> str:
+    outcome = findings.by_state.get(state.number)
+    return SIGNS[outcome.result] if outcome else '-'

@@ -32,7 +32,8 @@ def page(report: Report) -> Iterator[str]:
     groups = report.groups()
     for group in groups:
         yield from entry_lines(report, group)
-    yield '<h2>The states</h2>\n<div id="states"></div><p id="shown"></p>\n'
+    yield f'<h2>The states</h2>\n<p>{shown_text(report.counts.tried_text)}</p>\n'
+    yield '<div id="states"></div><p id="shown"></p>\n'
     if report.counts.windows > len(report.drawings[:DRAWN]):
         yield (
             f'<p>These are {len(report.drawings[:DRAWN])} of {report.counts.windows:,} windows: '

@@ -19,8 +19,6 @@ tr.pair { background: #fde8e4 }
 canvas { display: block; cursor: crosshair; image-rendering: pixelated; margin: .5em 0 }
 #states { overflow-x: auto }
 .key { white-space: nowrap; border-left: .8em solid; margin-right: 1em; padding-left: .3em }
-.picks { font-family: monospace; font-size: .92em }
-.picks span { padding: 0 .3em; white-space: nowrap }
 .differences { font-family: monospace; font-size: .92em }
 #shown { font-family: monospace; min-height: 1.4em; white-space: pre-wrap; margin: 0;
   padding: .4em 0; position: sticky; bottom: 0; background: #fff; border-top: 1px solid #ccc }
@@ -79,25 +77,32 @@ function titled(text) {
   title.textContent = text;
   return title;
 }
-// A mark for each row of states with the same result.
+// States with other losses: a row for each number of micro-operations that they lack.
 function picked(picks) {
-  const list = document.createElement('p'), rows = [];
-  list.className = 'picks';
-  list.append('States of --lost and --files: ');
-  picks.forEach(([number, sign]) => {
+  const part = document.createElement('div'), canvas = document.createElement('canvas');
+  const cell = picks.length > 4000 ? 3 : 6, wide = Math.floor(900 / cell), rows = [];
+  picks.forEach(pick => {
     const row = rows[rows.length - 1];
-    if (row && row.sign === sign && row.last === number - 1) row.last = number;
-    else rows.push({first: number, last: number, sign});
+    if (row && row[0][2] === pick[2] && row.length < wide) row.push(pick);
+    else rows.push([pick]);
   });
-  rows.forEach(row => {
-    const one = document.createElement('span');
-    one.style.background = colours[row.sign];
-    if (row.sign === 'b') one.style.color = '#fff';
-    one.textContent = row.first + (row.last > row.first ? '-' + row.last : '');
-    one.title = words[row.sign];
-    list.append(one, ' ');
-  });
-  return list;
+  canvas.width = 900;
+  canvas.height = rows.length * cell;
+  const pen = canvas.getContext('2d');
+  rows.forEach((row, y) => row.forEach(([, sign], x) => {
+    pen.fillStyle = colours[sign];
+    pen.fillRect(x * cell, y * cell, cell - 1, cell - 1);
+  }));
+  canvas.onmousemove = event => {
+    const row = rows[Math.floor(event.offsetY / cell)] || [];
+    const pick = row[Math.floor(event.offsetX / cell)];
+    if (!pick) return;
+    shown.textContent = 'state ' + pick[0] + ' ' + words[pick[1]] + ': it lacks '
+      + pick[2] + ' micro-operations';
+  };
+  part.append(picks.length + ' states with other losses. Each row: those that lack equally many '
+    + 'micro-operations.', canvas);
+  return part;
 }
 windows.forEach(show);
 """

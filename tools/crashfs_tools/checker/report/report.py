@@ -149,7 +149,7 @@ class Report:
                 *self.cut_off_lines(),
                 *self.recovery_lines(),
                 *self.disk_lines(),
-                *rest_lines(self.counts),
+                *folded(rest_lines(self.counts), '  '),
             ]
         ]
 

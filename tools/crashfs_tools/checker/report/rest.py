@@ -17,12 +17,12 @@ def rest_lines(counts: StateCounts) -> Iterator[str]:
     if not counts.is_part:
         return
     if counts.drawn and len(counts.every) == 1 and not counts.profile:
-        yield f'  {drawn_text(counts)}'
+        yield drawn_text(counts)
     most = max((one.most for one in counts.every if one is not None), default=0)
     if counts.has_every:
-        yield f'  all {counts.different:,}{time_text(counts, counts.different)}: --every'
+        yield f'all {counts.different:,}{time_text(counts, counts.different)}: --every'
         return
-    yield f'  all are more than {most:,}{time_text(counts, most, "more than ")}: --every N'
+    yield f'all are more than {most:,}{time_text(counts, most, "more than ")}: --every N'
 
 
 def time_text(counts: StateCounts, states: int, at_least: str = '') -> str:
