@@ -4,6 +4,8 @@ from __future__ import annotations
 
 import contextlib
 import io
+import subprocess
+import sys
 import unittest
 from pathlib import Path
 from typing import List
@@ -24,7 +26,7 @@ from measuring.command import main
 from measuring.disk_sessions import SessionResult, judged, table, text_of
 from measuring.random_sessions import session
 
-from .support import InFolder, needed
+from .support import PATIENCE, TOOLS, InFolder, needed
 
 OPERATIONS = 7
 
@@ -96,10 +98,17 @@ class Judgements(unittest.TestCase):
 
 class OnImages(InFolder):
     def run_measure(self, *words: str) -> str:
-        with contextlib.redirect_stdout(io.StringIO()) as out:
-            with contextlib.redirect_stderr(io.StringIO()):
-                self.assertEqual(main(['disks', *words, self.path('found')]), 0)
-        return out.getvalue()
+        """In a process of its own: its guard ends what this process has started."""
+        ran = subprocess.run(
+            [sys.executable, str(TOOLS / 'measure'), 'disks', *words, self.path('found')],
+            stdout=subprocess.PIPE,
+            stderr=subprocess.DEVNULL,
+            text=True,
+            check=False,
+            timeout=PATIENCE,
+        )
+        self.assertEqual(ran.returncode, 0)
+        return ran.stdout
 
     @needed(lacking(named(['ext4'])) is None, 'no root, loop devices or mkfs.ext4')
     def test_a_session_is_made_once(self) -> None:
