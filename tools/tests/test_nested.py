@@ -88,7 +88,7 @@ class Recoveries(InRecoveries):
         trace = self.write('lost.trace', text.replace('{"op":"fsync","path":"/log"}\n', ''))
         ran = self.nested('--nested', '3', sync='sync table;', trace=trace)
         self.assertEqual(ran.returncode, 1)
-        self.assertRegex(ran.stdout, ' fail .*: [0-9]+ lost\n')
+        self.assertRegex(ran.stdout, ' fail.*: [0-9]+ lost\n')
         self.assertRegex(
             ran.stdout, '[0-9]+ recoveries: [0-9]+ different states of a second crash, none fai'
         )

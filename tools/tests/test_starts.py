@@ -52,7 +52,7 @@ class Starts(InFolder):
             )
 
     def test_a_plan_with_all_families_is_asked_for_in_three_steps(self) -> None:
-        starts = self.check()
+        starts = self.check('--families')
         self.assertEqual(
             [start.split()[0] for start in starts[:5]], ['list', 'picks', 'list', 'tar', 'tar']
         )
