@@ -1,7 +1,11 @@
 """strace's log as it is read, and what is kept of it."""
 
+import os
 import sys
+import threading
+import time
 import unittest
+from unittest import mock
 
 from crashfs_tools.common.trace import Header
 from crashfs_tools.recorder import arguments
@@ -30,6 +34,14 @@ def new_files():
 def written(word, name='pwrite64'):
     """The second word of a call that writes, as it is kept."""
     return read_log([f'7 {name}(3</d/f>, {word}, 5, 0) = 5\n']).calls[0].word(1)
+
+
+def write_slowly(descriptor, count):
+    """Writes lines to a pipe, each by a call of its own, and closes it."""
+    for number in range(count):
+        os.write(descriptor, b'%d\n' % number)
+        time.sleep(0.0002)
+    os.close(descriptor)
 
 
 class Words(unittest.TestCase):
@@ -92,9 +104,9 @@ class Words(unittest.TestCase):
 class Needless(unittest.TestCase):
     """Calls on files elsewhere, which aren't read."""
 
-    def read(self, lines, numbers=()):
+    def read(self, lines, numbers=(), top=b'/d'):
         """The names of the calls that are read."""
-        log = read_log(map(as_strace, lines), LogFilter(b'/d', numbers))
+        log = read_log(map(as_strace, lines), LogFilter(top, numbers))
         return [call.name for call in log.calls]
 
     def test_calls_on_files_elsewhere_are_not_read(self):
@@ -102,6 +114,7 @@ class Needless(unittest.TestCase):
             '7 read(0x5, 0x7ffc, 0x2) = 0x2',
             '7 lseek(5</etc/x>, 0, SEEK_SET) = 0',
             '7 write(5</etc/x>, "a", 1) = 1',
+            '7 write(5</etc/x>, "/d/f", 4) = 4',
             '7 pwrite64(5</etc/x>, "a", 1 <unfinished ...>',
             '7 <... pwrite64 resumed>, 0) = 1',
             '7 fsync(5</etc/x>) = 0',
@@ -115,18 +128,30 @@ class Needless(unittest.TestCase):
         mapped = ['7 mmap(NULL, 9, PROT_READ, MAP_SHARED, 4</d/f>, 0) = 0x7f00']
         self.assertEqual(self.read(mapped + elsewhere[-1:]), ['mmap', 'mprotect'])
 
+    def test_a_file_that_is_made_elsewhere_is_not_read(self):
+        for made in (
+            '7 openat(AT_FDCWD</dev/shm/x>, "f", O_RDWR) = 5</dev/shm/x/f>',
+            '7 open("/dev/null", O_RDWR) = 5</dev/null>',
+            '7 openat(AT_FDCWD</store>, "../x", O_RDWR) = 5</x>',
+        ):
+            lines = [made, '7 read(0x5, 0x7ffc, 0x2) = 0x2']
+            self.assertEqual(self.read(lines, top=b'/store'), [lines[0][2:].partition('(')[0]])
+
     def test_descriptors_that_may_count_are_read(self):
         read = '7 read(0x9, 0x7ffc, 0x2) = 0x2'
         for line in [
             '7 dup2(1<pipe:[7]>, 9) = 9<pipe:[7]>',
             '7 fcntl(2</etc/x>, F_DUPFD, 9) = 9</etc/x>',
             '7 openat(AT_FDCWD</>, "/proc/self/fd/1", O_WRONLY) = 9</etc/x>',
-            '7 open("/dev/stdout", O_WRONLY) = 9</dev/pts/0>',
+            '7 open("/dev/stdout", O_WRONLY) = 9</etc/x>',
+            '7 openat(AT_FDCWD</>, "/dev/fd/1", O_WRONLY) = 9</etc/x>',
             '7 dup(5</d/f>) = 9',
         ]:
             self.assertEqual(len(self.read([line, read])), 2, line)
         self.assertEqual(self.read([read], [9]), ['read'])
         self.assertEqual(self.read(['7 write(9<pipe:[3]>, "a", 1) = 1']), ['write'])
+        self.assertEqual(self.read(['7 write(9</d/f>, "a", 1) = 1']), ['write'])
+        self.assertEqual(self.read(['7 ioctl(9</x>, FICLONE, 8</d/f>) = 0']), ['ioctl'])
         self.assertEqual(self.read(['7 dup2(5</etc/x>, 9) = 9</etc/x>', read]), ['dup2'])
 
     def test_the_frames_of_a_call_that_is_not_read_are_not_another_s(self):
@@ -146,6 +171,18 @@ class Lines(unittest.TestCase):
             lines.take(b'')
             self.assertEqual(list(lines.ready), ['a\n', '\n', 'b' * 9 + '\n', 'c\n', 'd'])
             self.assertTrue(lines.has_ended)
+
+    def test_lines_that_gather_come_in_few_reads(self):
+        reading, writing = os.pipe()
+        lines = PipeLines(reading, gathers=True)
+        writer = threading.Thread(target=write_slowly, args=(writing, 400))
+        writer.start()
+        with mock.patch('os.read', side_effect=os.read) as reads:
+            found = list(iter(lines.next, None))
+        writer.join()
+        os.close(reading)
+        self.assertEqual(found, [f'{number}\n' for number in range(400)])
+        self.assertLess(reads.call_count, 200)
 
     def test_a_pipe_that_ends_after_a_line_has_no_more(self):
         lines = PipeLines(-1)

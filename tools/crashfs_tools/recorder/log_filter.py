@@ -25,11 +25,17 @@ MAKERS = frozenset(
     ('open', 'openat', 'openat2', 'creat', 'dup', 'dup2', 'dup3', 'fcntl', 'fcntl64')
 )
 MAPPERS = ('mmap', 'mmap2')
-# The process, the call, its first descriptor, and whether strace shows a path for it.
-HEAD = re.compile(r'\d+\s+(\w+)\((?:(0x[0-9a-f]+|\d+)(?:<(\\x2f)?|[, )]))?')
+# Calls whose other arguments are bytes and numbers.
+OF_BYTES = frozenset(('write', 'pwrite64', 'writev', 'pwritev', 'pwritev2'))
+# The process, the call, its first descriptor, and what strace shows for that.
+HEAD = re.compile(r'\d+\s+(\w+)\((?:(0x[0-9a-f]+|\d+)(?:<([^>]*)>|[, )]))?')
+# What is shown of a path begins with its slash; pipes and sockets have a word.
+SLASH = '\\x2f'
 RESULT = re.compile(r' = (\d+)(?:<([^>]*)>)?[^>]*$')
-# Paths that may mean a descriptor.
-OF_DESCRIPTORS = tuple(''.join(f'\\x{byte:02x}' for byte in path) for path in (b'/dev/', b'/proc/'))
+# What the paths begin with that may mean a descriptor: /dev/fd/1, /dev/stdout, /proc/self/fd/1.
+OF_DESCRIPTORS = tuple(
+    ''.join(f'\\x{byte:02x}' for byte in path) for path in (b'/dev/fd', b'/dev/std', b'/proc/')
+)
 
 
 class LogFilter:
@@ -46,13 +52,13 @@ class LogFilter:
         match = HEAD.match(line)
         if match is None:
             return False
-        name, number, path = match.groups()
+        name, number, shown = match.groups()
         if name in BY_DESCRIPTOR:
             return (
                 number is not None
                 and int(number, 0) not in self.descriptors
-                and (path is not None or '<' not in match[0])
-                and self.top not in line
+                and (shown is None or shown.startswith(SLASH))
+                and self.top not in (shown or '' if name in OF_BYTES else line)
             )
         if name in ON_MEMORY:
             return not self.has_mapped and self.top not in line

@@ -16,7 +16,7 @@ from . import stopped_processes
 from .arguments import LogError
 from .log_filter import LogFilter
 from .mapped_files import MappedFiles
-from .pipe_lines import PipeLines
+from .pipe_lines import PipeLines, enlarge_pipe
 from .stopped_processes import Stop
 from .strace_log import Log, LogReader
 
@@ -78,8 +78,10 @@ class LogStream:
     def read(self) -> None:
         descriptor = os.open(self.pipe, os.O_RDONLY)
         self.opened.set()
+        enlarge_pipe(descriptor)
         try:
-            lines = PipeLines(descriptor)
+            # A process whose mapped files are copied is stopped until its line is read.
+            lines = PipeLines(descriptor, gathers=self.mapped is None)
             while self.process_line(lines.next(), lines):
                 pass
         finally:
