@@ -7,20 +7,20 @@ from pathlib import Path
 from typing import Dict, List, Optional
 
 from .completions import completions
-from .pages import pages
+from .pages import PRINTED
 from .sources import TOP
 
 ABOUT = """\
-Writes what is made from the sources: the tables of docs/EXAMPLES.md, from each test and its
-comment; docs/INDEX.md, from the words of specs/ and the contracts that cite them; and
-tools/completions, from the options of the three commands.
+Writes what is made from the sources: tools/completions, from the options of the commands. With
+--print it writes nothing, but prints the tests with what each shows, and the must-fail edits
+(tests), or the words of specs/ with what each says and the contracts that cite it (words).
 
 Exit status 0, or 1 with --check if a file isn't as the sources are."""
 
 
 def made_files() -> Dict[Path, str]:
     """Each file that is made, with its text."""
-    return {**pages(), **completions()}
+    return completions()
 
 
 def older_files(made: Optional[Dict[Path, str]] = None) -> List[Path]:
@@ -37,12 +37,16 @@ def main(words: Optional[List[str]] = None) -> int:
         prog='inventories', description=ABOUT, formatter_class=argparse.RawDescriptionHelpFormatter
     )
     parser.add_argument('--check', action='store_true', help='write nothing, only compare')
-    is_check = parser.parse_args(words).check
+    parser.add_argument('--print', choices=sorted(PRINTED), help='print a list; write nothing')
+    given = parser.parse_args(words)
+    if given.print:
+        print(PRINTED[given.print]())
+        return 0
     made = made_files()
     older = older_files(made)
     for path in older:
-        if is_check:
+        if given.check:
             print(f'{path.relative_to(TOP)} is older than the sources: run tools/inventories')
         else:
             path.write_text(made[path], encoding='utf-8')
-    return 1 if is_check and older else 0
+    return 1 if given.check and older else 0

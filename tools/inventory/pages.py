@@ -1,10 +1,9 @@
-"""The parts of pages that are made from the sources, and the page of each."""
+"""What is printed of the sources: all tests, all words; and parts of pages that are made."""
 
 from __future__ import annotations
 
 import re
-from pathlib import Path
-from typing import Dict, List
+from typing import Callable, Dict, List
 
 from .sources import (
     TOP,
@@ -20,7 +19,6 @@ from .sources import (
     words_of,
 )
 
-EXAMPLES, INDEX = TOP / 'docs' / 'EXAMPLES.md', TOP / 'docs' / 'INDEX.md'
 BEGIN = '<!-- made by tools/inventories: begin -->'
 END = '<!-- made by tools/inventories: end -->'
 MOST_CALLS = 4
@@ -76,7 +74,7 @@ def must_fail_edits() -> List[str]:
     return lines
 
 
-def examples() -> str:
+def tests() -> str:
     """All tests of the crates, as data and of the tools, and all wrong bodies."""
     crates = [line for crate in crate_names() for line in tests_of(crate)]
     return '\n'.join(crates + tests_as_data() + tests_of_tools() + must_fail_edits()).strip()
@@ -88,7 +86,7 @@ def calls_shown(calls: List[str]) -> str:
     return f'{shown} and {more} more' if more > 0 else shown
 
 
-def index() -> str:
+def words() -> str:
     """The words of all crates: what each says, its file, and the calls whose contracts cite it."""
     cited, lines = citations(), []
     for crate in crate_names():
@@ -118,7 +116,4 @@ def page_with(page: str, part: str) -> str:
     return made
 
 
-def pages() -> Dict[Path, str]:
-    """Each page that has a part of this kind, as the sources want it."""
-    parts = {EXAMPLES: examples(), INDEX: index()}
-    return {path: page_with(path.read_text(encoding='utf-8'), part) for path, part in parts.items()}
+PRINTED: Dict[str, Callable[[], str]] = {'tests': tests, 'words': words}

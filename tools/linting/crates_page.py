@@ -73,6 +73,6 @@ def crate_page_faults(page: str, uses: Dict[str, List[str]]) -> Iterator[str]:
 
 
 def architecture_faults() -> List[str]:
-    page = (TOP / 'docs' / 'ARCHITECTURE.md').read_text('utf-8')
+    page = (TOP / 'docs' / 'internals' / 'ARCHITECTURE.md').read_text('utf-8')
     uses = dependencies((TOP / 'crates.txt').read_text('utf-8'))
-    return [f'docs/ARCHITECTURE.md: {fault}' for fault in crate_page_faults(page, uses)]
+    return [f'docs/internals/ARCHITECTURE.md: {fault}' for fault in crate_page_faults(page, uses)]

@@ -41,6 +41,6 @@ RETIRED_NAMES = {
 }
 # Where one of them may be: the file, a text of its line, and why.
 ALLOWED = {
-    ('docs/BEHAVIOUR.md', 'CONN tells no more: out of memory'): 'a line that the server prints',
+    ('docs/reference/9p-server.md', 'CONN tells no more: out of memory'): 'printed by the server',
     ('crates/cs_serve/src/log.rt', 'tells no more'): 'printed by version 0.2.0; goes with the next',
 }

@@ -1,4 +1,4 @@
-"""The rules of order as docs/FORMATS.md has them, one after the other and without any shortcut."""
+"""The rules of order as docs/MODEL.md has them, one after the other and without any shortcut."""
 
 from __future__ import annotations
 

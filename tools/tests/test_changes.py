@@ -101,7 +101,7 @@ class OfTheSecondReading(InFolder):
         self.assertEqual(self.changes(str(EXAMPLES / 'store.trace'), '0'), [Changes(0, [], {})])
 
     def test_a_copy_of_the_start_tree_becomes_the_state(self) -> None:
-        """By the commands that FORMATS.md has: what is missing is removed, the rest laid out."""
+        """By the commands that crashfs.md has: what is missing is removed, the rest laid out."""
         trace = self.write('odd.trace', ODD)
         trees = Trees(ODD)
         for number in range(0, len(trees), self.step // 8):

@@ -77,8 +77,9 @@ class Manual(unittest.TestCase):
             {name: set(values_of(options)) for name, options in commands_of_program().items()},
         )
 
-    def test_the_trace_has_the_lines_of_the_formats(self) -> None:
-        formats = (DOCS / 'FORMATS.md').read_text('utf-8').split('### Lines')[1].split('\n### ')[0]
+    def test_the_trace_has_the_lines_of_its_page(self) -> None:
+        trace = (DOCS / 'reference' / 'trace.md').read_text('utf-8')
+        formats = trace.split('\n## Lines\n')[1].split('\n## ')[0]
         page = section('crashfs-trace.5', 'LINES') + section('crashfs-trace.5', 'VERSIONS')
         self.assertEqual(
             sorted(re.findall(r'^\{.*\}$', page, re.M)),

@@ -13,6 +13,8 @@ from typing import Dict, List, Tuple
 from .support import EXAMPLES, PATIENCE, TOOLS, InFolder, needs_strace
 
 TOP = TOOLS.parent
+DOCS = TOP / 'docs'
+PAGES = [TOP / 'README.md', *sorted(DOCS.rglob('*.md'))]
 README = (TOP / 'README.md').read_text('utf-8')
 MOST_LINES = 130
 BLOCK = re.compile(r'(?<=\n\n)(?:    .*\n|\n+(?=    ))+')
@@ -122,7 +124,7 @@ class Figures(unittest.TestCase):
         self.assertLessEqual(len(README.splitlines()), MOST_LINES)
 
     def test_the_figures_of_stores_are_those_of_their_table(self) -> None:
-        rows, text = rows_of('CHECKING.md'), ' '.join(README.split())
+        rows, text = rows_of('RESULTS.md'), ' '.join(README.split())
         for store, row in STORES.items():
             states, fail = rows[row][1], rows[row][3].partition(':')[0]
             found = re.search(rf'{store}\b[^,;]*? in (none|\d+) of (\d+)', text)
@@ -145,21 +147,23 @@ class Figures(unittest.TestCase):
 
 
 class Links(unittest.TestCase):
-    def test_each_anchor_is_a_heading(self) -> None:
-        for page in [TOP / 'README.md', *sorted((TOP / 'docs').glob('*.md'))]:
-            for target in re.findall(r'\]\(([^)\s]*#[^)\s]*)\)', page.read_text('utf-8')):
-                path, _, anchor = target.partition('#')
-                if '://' not in target:
-                    place = (page.parent / path).resolve() if path else page
+    def test_each_link_leads_to_a_file_and_a_heading(self) -> None:
+        for page in [*PAGES, TOP / 'SECURITY.md', TOP / 'CHANGELOG.md']:
+            for target in re.findall(r'\]\(([^)]*)\)', page.read_text('utf-8')):
+                path, _, anchor = ''.join(target.split()).partition('#')
+                if '://' in target:
+                    continue
+                place = (page.parent / path).resolve() if path else page
+                self.assertTrue(place.exists(), f'{page.name}: {target}')
+                if anchor:
                     self.assertIn(anchor, headings(place), f'{page.name}: {target}')
 
 
 def images() -> List[Tuple[Path, str, Path]]:
     """Each picture of a page: the page, the text in its place, and its file."""
-    pages = [TOP / 'README.md', *sorted((TOP / 'docs').glob('*.md'))]
     return [
         (page, ' '.join(found[1].split()), (page.parent / found[2]).resolve())
-        for page in pages
+        for page in PAGES
         for found in IMAGE.finditer(page.read_text('utf-8'))
     ]
 

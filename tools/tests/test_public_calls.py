@@ -9,7 +9,7 @@ from typing import Dict, List, NamedTuple, Set, Tuple
 
 TOP = Path(__file__).resolve().parents[2]
 LISTED = TOP / 'tools' / 'tests' / 'data' / 'public_calls.txt'
-PAGE = TOP / 'docs' / 'ARCHITECTURE.md'
+PAGE = TOP / 'docs' / 'internals' / 'ARCHITECTURE.md'
 
 
 class Row(NamedTuple):

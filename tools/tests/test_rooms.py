@@ -99,12 +99,12 @@ def rooms_of_page(page: str) -> Dict[str, Set[str]]:
 
 class Rooms(unittest.TestCase):
     def test_the_page_has_each_room_and_what_it_may_import(self) -> None:
-        page = (TOOLS.parent / 'docs' / 'ARCHITECTURE.md').read_text('utf-8')
+        page = (TOOLS.parent / 'docs' / 'internals' / 'ARCHITECTURE.md').read_text('utf-8')
         wanted = {room: imports - {room} for room, imports in ROOMS.items()}
         self.assertEqual(rooms_of_page(page), wanted)
 
     def test_the_key_files_are_there(self) -> None:
-        page = (TOOLS.parent / 'docs' / 'ARCHITECTURE.md').read_text('utf-8')
+        page = (TOOLS.parent / 'docs' / 'internals' / 'ARCHITECTURE.md').read_text('utf-8')
         table = page.split('\n## Key files\n', 1)[1].split('\n## ', 1)[0]
         files = re.findall(r'^\| `([^`]+)` \| \S', table, re.M)
         self.assertEqual(len(files), 12)

@@ -1,4 +1,4 @@
-"""The limits of a trace and its plan, as docs/BEHAVIOUR.md has them."""
+"""The limits of a trace and its plan, as docs/reference/crashfs.md has them."""
 
 BLOCK_BYTES = 4_096
 FILE_BYTES = 16_777_216

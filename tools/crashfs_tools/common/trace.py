@@ -1,4 +1,4 @@
-"""The lines of a trace, as docs/FORMATS.md has them: what they are, and how they are written."""
+"""The lines of a trace, by docs/reference/trace.md: what they are, and how they are written."""
 
 from __future__ import annotations
 

@@ -1,5 +1,5 @@
-"""A second reading of docs/FORMATS.md: the states of a trace, and what `list`, `picks` and `tar`
-write of them.
+"""A second reading of docs/MODEL.md and docs/reference: the states of a trace, and what `list`,
+`picks` and `tar` write of them.
 
 Nothing here is proved, and nothing is shared with the program `crashfs`. The tools use it if there
 is no program, and the tests compare the two.

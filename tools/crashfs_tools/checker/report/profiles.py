@@ -6,7 +6,7 @@ from typing import List
 
 from crashfs_tools.checker.findings.groups import Group
 
-# File systems that keep to a profile, as far as was seen (docs/CHECKING.md).
+# File systems that keep to a profile, as far as was seen (docs/DISKS.md).
 SEEN = {'journal': 'ext4, XFS'}
 
 
