@@ -11,7 +11,7 @@ from pathlib import Path
 from unittest import mock
 
 from crashfs_tools.checker.running.saving import Saver
-from crashfs_tools.common.command import run_guarded
+from crashfs_tools.common.own_faults import run_guarded
 
 from .support import FAKE, PATIENCE, TOOLS
 from .test_check_command import InStore
@@ -203,7 +203,7 @@ class OfItsOwn(InStore):
                 lines = printed.read().splitlines()
             self.assertEqual(
                 lines[-1],
-                "crashfs-check: a fault of its own: KeyError: 'a bug\\x1b' "
+                "crashfs-check: internal error: KeyError: 'a bug\\x1b' "
                 '(CRASHFS_TRACEBACK=1 shows where)',
             )
             self.assertEqual(len(lines) > 1, bool(variable))

@@ -5,6 +5,7 @@ import sys
 import unittest
 from unittest import mock
 
+from crashfs_tools.common.command import LINE_LETTERS, print_line
 from crashfs_tools.common.printable import print_utf8, printable
 
 
@@ -25,6 +26,19 @@ class Printable(unittest.TestCase):
         for text in ['Zürich', '東京', 'שלום', '👍', '\ufffd', 'a\\n b']:
             self.assertEqual(printable(text), text)
         self.assertEqual(printable('a\n\tb\x1b', '\n\t'), 'a\n\tb\\x1b')
+
+    def test_a_line_has_an_end_however_long_a_number_is(self):
+        path = '/'.join(['n' * 255] * 16)
+        for text, length in ((f'{path}: too long', None), ('no JSON: ' + '9' * 5_000_000 + '!', 1)):
+            with mock.patch('sys.stderr', io.StringIO()) as printed:
+                print_line('crashfs-check', text)
+            line = printed.getvalue()
+            if length is None:
+                self.assertEqual(line, f'crashfs-check: {text}\n')
+            else:
+                self.assertLess(len(line), LINE_LETTERS + 100)
+                self.assertTrue(line.startswith('crashfs-check: no JSON: 999'))
+                self.assertTrue(line.endswith('99!\n'))
 
     def test_output_is_utf_8_in_any_locale(self):
         for encoding in ('ascii', 'iso8859-1'):

@@ -6,7 +6,7 @@ import sys
 import unittest
 from unittest import mock
 
-from crashfs_tools.common import command, limits
+from crashfs_tools.common import limits, own_faults
 from crashfs_tools.recorder import main
 from crashfs_tools.recorder.mapped_files import MAPPED
 from crashfs_tools.common.trace import Start
@@ -63,16 +63,16 @@ class WithoutStrace(InRecordings):
             (status, shown.strip()),
             (
                 1,
-                "crashfs-record: an error of its own, KeyError: 'ours'; no trace is written "
+                "crashfs-record: internal error: KeyError: 'ours'; no trace is written "
                 '(CRASHFS_TRACEBACK=1 shows where)',
             ),
         )
-        with mock.patch.dict(os.environ, {command.TRACEBACK: '1'}):
+        with mock.patch.dict(os.environ, {own_faults.TRACEBACK: '1'}):
             status, shown = self.fails_in(place, KeyError('ours'), *words)
         self.assertIn('Traceback', shown)
         place = 'crashfs_tools.recorder.summary.summary'
         for error, told in [
-            (RecursionError('deep'), 'an error of its own, RecursionError: deep; the trace is'),
+            (RecursionError('deep'), 'internal error: RecursionError: deep; the trace is'),
             (OSError(5, 'Input/output error', 'x'), 'x: Input/output error; the trace is written'),
         ]:
             status, shown = self.fails_in(place, error, *words)

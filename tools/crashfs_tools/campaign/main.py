@@ -13,11 +13,11 @@ from crashfs_tools.common.command import (
     Refused,
     folder_of,
     print_line,
-    run_guarded,
     standard_output,
     write_whole,
 )
 from crashfs_tools.common.guard import Stopped, stop_by_exception
+from crashfs_tools.common.own_faults import run_guarded
 from crashfs_tools.common.printable import print_utf8, printable
 
 from .book import Book, KnownFailure, key_of, read_book

@@ -19,11 +19,11 @@ from crashfs_tools.common.command import (
     folder_of,
     found,
     print_line,
-    run_guarded,
     standard_output,
     write_whole,
 )
 from crashfs_tools.common.guard import Guard, Stopped, stop_by_exception
+from crashfs_tools.common.own_faults import run_guarded
 from crashfs_tools.common.printable import print_utf8
 from crashfs_tools.common.program import Crashfs, ProgramFault
 

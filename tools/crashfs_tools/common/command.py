@@ -12,9 +12,7 @@ import stat
 import sys
 import tempfile
 from contextlib import contextmanager, redirect_stdout
-from typing import Any, Callable, Dict, Iterable, Iterator, List, Tuple
-
-from .printable import printable
+from typing import Any, Dict, Iterable, Iterator, List, Tuple
 
 # How every file of text is written.
 TEXT: Dict[str, Any] = {'encoding': 'utf-8', 'errors': 'surrogateescape', 'newline': '\n'}
@@ -22,9 +20,8 @@ TEXT: Dict[str, Any] = {'encoding': 'utf-8', 'errors': 'surrogateescape', 'newli
 
 # The status of a text that could not be printed.
 NOT_PRINTED = 3
-# The variable that has a fault of a tool's own printed with its traceback.
-TRACEBACK = 'CRASHFS_TRACEBACK'
-FAULT_LETTERS = 500
+# No line is longer: a fault may name a number of millions of digits. A path has 4,096 bytes.
+LINE_LETTERS = 8192
 
 
 class Refused(Exception):
@@ -168,25 +165,6 @@ def mode_of(path: str) -> int:
     return 0o666 & ~umask
 
 
-def run_guarded(program: str, run: Callable[[], int], status: int) -> int:
-    """Runs a whole command. A fault of its own is one line, and a status that is no verdict; with
-    the variable TRACEBACK it has its traceback."""
-    try:
-        return run()
-    except Exception as fault:
-        if os.environ.get(TRACEBACK):
-            import traceback
-
-            traceback.print_exc()
-        print_line(program, f'{fault_text(fault)} ({TRACEBACK}=1 shows where)')
-        return status
-
-
-def fault_text(fault: Exception) -> str:
-    """A fault that nobody expected, in a line."""
-    return printable(f'a fault of its own: {type(fault).__name__}: {fault}'[:FAULT_LETTERS])
-
-
 @contextmanager
 def standard_output() -> Iterator[None]:
     """What is printed within this is written at its end; an OSError has the stream's name. A reader
@@ -214,10 +192,16 @@ def ended(status: int) -> str:
 
 
 def print_line(program: str, text: str) -> None:
-    """One line on standard error, if that can be written."""
+    """Prints one line on standard error, if that can be written."""
     if sys.stderr is None:
         return
     try:
-        print(f'{program}: {text}', file=sys.stderr, flush=True)
+        print(f'{program}: {shortened(text)}', file=sys.stderr, flush=True)
     except OSError:
         pass
+
+
+def shortened(text: str) -> str:
+    """A text without its middle, if it is longer than a line may be."""
+    half = LINE_LETTERS // 2
+    return text if len(text) <= LINE_LETTERS else f'{text[:half]} ... {text[-half:]}'

@@ -1,14 +1,18 @@
-"""The outermost handling of a command: its standard streams are open, and a fault of its own is one
-line instead of a traceback."""
+"""The outermost handling of a command: its standard streams are open, and an error of its own is
+one line in place of a traceback."""
 
 from __future__ import annotations
 
 import os
 import sys
-import traceback
+from typing import Callable
 
-from .command import TRACEBACK, print_line
+from .command import print_line
 from .printable import print_utf8, printable
+
+# The variable with which the traceback is printed too.
+TRACEBACK = 'CRASHFS_TRACEBACK'
+FAULT_LETTERS = 500
 
 
 def prepare_standard_streams() -> None:
@@ -26,11 +30,24 @@ def prepare_standard_streams() -> None:
     print_utf8()
 
 
-def print_own_fault(program: str, error: Exception, result: str) -> None:
-    """Prints that an error is a fault of the program's own, and what came of it."""
+def run_guarded(program: str, run: Callable[[], int], status: int) -> int:
+    """Runs a whole command and returns its status, or the given one, which is no verdict, if it
+    fails by an error of its own."""
+    try:
+        return run()
+    except Exception as error:
+        print_own_fault(program, error)
+        return status
+
+
+def print_own_fault(program: str, error: Exception, result: str = '') -> None:
+    """Prints that an error is the program's own, and what came of the run."""
     is_asked = bool(os.environ.get(TRACEBACK))
-    hint = '' if is_asked else f' ({TRACEBACK}=1 shows where)'
-    text = f'an error of its own, {type(error).__name__}: {error}; {result}{hint}'
-    print_line(program, printable(text))
     if is_asked:
+        # Few runs need it, and each start would take it.
+        import traceback
+
         traceback.print_exception(type(error), error, error.__traceback__)
+    what = f'internal error: {type(error).__name__}: {error}'[:FAULT_LETTERS]
+    what += f'; {result}' if result else ''
+    print_line(program, printable(f'{what} ({TRACEBACK}=1 shows where)'))
