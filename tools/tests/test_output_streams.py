@@ -40,7 +40,7 @@ class Lines(unittest.TestCase):
             ],
             [OPEN_F, '1 sendfile(1<pipe:[7]>, 3</d/f>, NULL, 99) = 8'],
             [OPEN_F, '1 splice(3</d/f>, NULL, 1<pipe:[7]>, NULL, 99, 0) = 8'],
-            ['1 vmsplice(1<pipe:[7]>, [{iov_base="one\ntwo\n", iov_len=8}], 1, 0) = 8'],
+            ['1 vmsplice(1<pipe:[7]>, [{iov_base="one\ntwo\n", iov_len=8}], 1, SPLICE_F_GIFT) = 8'],
             ['2 write(9<pipe:[7]>, "one\ntwo\n", 8) = 8'],
         ]:
             with self.subTest(log[-1]):

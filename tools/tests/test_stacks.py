@@ -34,13 +34,16 @@ IN_C = 'kv.c:4 store < kv.c:8 main'
 IN_CC = (
     r'kv.cc:8 kv::Log::append\(std::.*\) < kv.cc:12 kv::put\(kv::Log&, std::.*\) < kv.cc:17 main'
 )
+IN_RUST = 'kv.rs:8 .*kv::Log.*::append.* < kv.rs:13 kv::main.*'
 COMPILED = [
     ('kv.c', ['cc', '-w', '-g', '-O0', '-fPIE', '-pie'], IN_C),
     ('kv.c', ['cc', '-w', '-g', '-O0', '-no-pie'], IN_C),
     ('kv.c', ['clang', '-w', '-g', '-O0', '-fuse-ld=lld'], IN_C),
     ('kv.cc', ['g++', '-w', '-g', '-O0'], IN_CC),
     ('kv.cc', ['g++', '-w', '-g', '-O2'], IN_CC),
-    ('kv.rs', ['rustc', '-g', '-O'], 'kv.rs:8 .*kv::Log.*::append.* < kv.rs:13 kv::main.*'),
+    ('kv.rs', ['rustc', '-g', '-O'], IN_RUST),
+    # Of a debug build that rust-lld links strace finds no frame by its tables.
+    ('kv.rs', ['rustc', '-g', '-C', 'force-frame-pointers=yes'], IN_RUST),
     ('kv.go', ['go', 'build'], r'kv.go:8 main.* < kv.go:14 main.main'),
     (
         'kv.go',
@@ -104,6 +107,7 @@ class Frames(unittest.TestCase):
         trace = Trace(Header('u', 'u', 0o755), operations=[Sync(), Sync()], notes={0: 'a.c:1 f'})
         (line,) = summary.without_stack(trace)
         self.assertIn('1 operation without a note', line)
+        self.assertIn('Rust with -C force-frame-pointers=yes', line)
         trace.notes[1] = 'a.c:2 f'
         self.assertEqual(summary.without_stack(trace), [])
 

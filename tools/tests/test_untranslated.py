@@ -7,8 +7,13 @@ from crashfs_tools.common.trace import StartSymlink
 from .support import recording_of
 from .translated_calls import FILE, IN_DIRECTORY, OPEN_F, TWO_FILES
 
-# (what is told, the start tree, the log)
+# (what is reported, the start tree, the log)
 TROUBLES = [
+    (
+        '/jail: chroot: paths of that process mean other files from here on',
+        [],
+        ['1 chroot("/jail") = 0'],
+    ),
     (
         '/f: a file of O_TMPFILE that was synced before it had this name',
         [],

@@ -46,14 +46,16 @@ CASES = [
         FILE,
         [
             OPEN_F,
-            '1 read(0x3, 0x7ffc, 0x2) = 0x2',
+            '1 read(0x3, 0x7ffc, 0x1) = 0x1',
+            '1 readv(0x3, 0x7ffc, 0x1) = 0x1',
+            '1 read(0x3, 0x7ffc, 0x1) = 0x1',
             '1 write(3</d/f>, "L", 1) = 1',
             '1 lseek(3</d/f>, 0, SEEK_SET) = 0',
             '1 writev(3</d/f>, [{iov_base="J", iov_len=1}, {iov_base="E", iov_len=1}], 2) = 2',
             '1 pwrite64(3</d/f>, "!", 1, 9) = 1',
             '1 write(3</d/f>, "l", 1) = 1',
         ],
-        ['write /f 2 L', 'write /f 0 JE', 'write /f 9 !', 'write /f 2 l'],
+        ['write /f 3 L', 'write /f 0 JE', 'write /f 9 !', 'write /f 2 l'],
     ),
     (
         'duplicates share an offset, and O_APPEND writes at the end',

@@ -66,7 +66,8 @@ def without_stack(trace: Trace) -> List[str]:
         return []
     return [
         f'--stacks: {counted(missing, "operation")} without a note: no function of the program '
-        'itself was found in the stack'
+        'itself was found in the stack (with frame pointers strace finds more: compile with '
+        '-fno-omit-frame-pointer, Rust with -C force-frame-pointers=yes)'
     ]
 
 
