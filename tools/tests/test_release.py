@@ -20,6 +20,7 @@ from building.order import libraries
 from crashfs_tools import VERSION
 from releasing.archives import control_of, for_debian, write_package, write_tarball
 from releasing.layout import TOP, Item, Items, items_with
+from releasing.linking import kit_version
 from releasing.statements import (
     BUILT,
     GIVEN,
@@ -267,6 +268,11 @@ class Names(unittest.TestCase):
         self.assertEqual(kit[1], VERSION)
         readme = ' '.join((TOP / 'README.md').read_text('utf-8').split())
         self.assertEqual(set(re.findall(r'rattle-kit-\w+ logic \w+', readme)), {kit[2]})
+
+    @needed(shutil.which('rt') is not None, 'rt is not there')
+    def test_the_readme_names_the_kit_that_proves_it_here(self) -> None:
+        readme = ' '.join((TOP / 'README.md').read_text('utf-8').split())
+        self.assertIn(f'`{kit_version()}`', readme)
 
     def test_the_action_uses_its_inputs(self) -> None:
         text = (TOP / 'action.yml').read_text('utf-8')
