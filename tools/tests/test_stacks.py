@@ -105,11 +105,11 @@ class Frames(unittest.TestCase):
 
     def test_operations_without_a_note_are_counted(self):
         trace = Trace(Header('u', 'u', 0o755), operations=[Sync(), Sync()], notes={0: 'a.c:1 f'})
-        (line,) = summary.without_stack(trace)
+        (line,) = summary.operations_without_note(trace)
         self.assertIn('1 operation without a note', line)
         self.assertIn('Rust with -C force-frame-pointers=yes', line)
         trace.notes[1] = 'a.c:2 f'
-        self.assertEqual(summary.without_stack(trace), [])
+        self.assertEqual(summary.operations_without_note(trace), [])
 
     def test_the_frames_of_a_signal_are_no_call_s(self):
         frame = ' > /opt/store(put+0x24) [0x119d]'
@@ -141,7 +141,7 @@ class Frames(unittest.TestCase):
                 ],
             )
         ).calls
-        stacks.note_all(calls)
+        stacks.note_calls(calls)
         self.assertEqual(
             [call.note for call in calls],
             ['a.py:3 put', 'a.py:3 put', 'put (store)', 'a.py:3 put', 'a.py:3 put', '', ''],

@@ -15,6 +15,12 @@ TROUBLES = [
         ['1 chroot("/jail") = 0'],
     ),
     (
+        'standard output: tee: its bytes are not in the log',
+        [],
+        ['1 write(1<pipe:[7]>, "a\n", 2) = 2', '1 tee(5<pipe:[8]>, 1<pipe:[7]>, 9, 0) = 9'],
+    ),
+    ('/: io_submit: what is done by it is not in the log', [], ['1 io_submit(0x7f, 1, [{}]) = 1']),
+    (
         '/f: a file of O_TMPFILE that was synced before it had this name',
         [],
         [
@@ -179,7 +185,7 @@ class Troubles(unittest.TestCase):
         for are_notes, rows in [(False, TROUBLES), (True, NOTES)]:
             for wanted, start, log in rows:
                 with self.subTest(wanted):
-                    told = recording_of(log, start).troubles.values()
+                    told = recording_of(log, start).troubles.all_found()
                     self.assertEqual(len(told), 1, told)
                     self.assertTrue(str(told[0]).startswith(wanted), str(told[0]))
                     self.assertEqual(told[0].is_note, are_notes)
@@ -188,7 +194,7 @@ class Troubles(unittest.TestCase):
         for wanted, start, log in OLD_TROUBLES:
             with self.subTest(wanted):
                 recording = recording_of(log, start, version=3)
-                told = recording.troubles.values()
+                told = recording.troubles.all_found()
                 self.assertEqual(len(told), 1, told)
                 self.assertTrue(str(told[0]).startswith(wanted), str(told[0]))
                 self.assertEqual((recording.trace.version, recording.trace.operations), (3, []))

@@ -25,7 +25,7 @@ class LateStart:
         self.count += 1
         if not self.has_begun and self.is_wanted(said.text):
             self.has_begun = True
-            begin_here(self.recording)
+            restart_trace(self.recording)
 
     def is_wanted(self, text: str) -> bool:
         if self.wanted.isdigit():
@@ -33,10 +33,10 @@ class LateStart:
         return fnmatch.fnmatchcase(text, self.wanted)
 
 
-def begin_here(recording: Recording) -> None:
+def restart_trace(recording: Recording) -> None:
     """Begins the trace again. What wasn't synced up to here counts as durable."""
     header, start = start_lines(recording.tree.entries, recording.tree.files)
-    recording.begin(header)
+    recording.begin_trace(header)
     for line in start:
         recording.add_start(line)
     recording.troubles.forget_lines()

@@ -77,16 +77,18 @@ def in_order(calls: List[Call]) -> List[Tuple[int, Call]]:
     changes = ChangeIndex([call for call in calls if is_change(call)])
     for sync in calls:
         if sync.name in FILE_SYNCS or sync.name in WHOLE_SYNCS:
-            stand_apart(sync, changes.beside(sync), moments)
+            order_apart(sync, changes.overlapping(sync), moments)
     ordered = sorted(calls, key=lambda call: moments[id(call)])
     return [(moments[id(call)][0], call) for call in ordered]
 
 
 def is_change(call: Call) -> bool:
+    """Whether a call changes bytes, names or rights."""
     return call.name in DESCRIPTOR_CHANGES | NAME_CHANGES | RIGHT_CHANGES
 
 
 def moment_of(call: Call) -> Moment:
+    """The line that places a call in the trace, unless a sync and a change overlap."""
     begins = is_change(call) or call.name in ('close', 'close_range')
     return (call.begin if begins else call.end, 1)
 
@@ -99,7 +101,7 @@ class ChangeIndex:
         self.short = [call for call in changes if call.begin == call.end]
         self.lines = [call.begin for call in self.short]
 
-    def beside(self, sync: Call) -> List[Call]:
+    def overlapping(self, sync: Call) -> List[Call]:
         """The changes that overlap a sync."""
         first = bisect.bisect_left(self.lines, sync.begin)
         last = bisect.bisect_right(self.lines, sync.end)
@@ -116,7 +118,8 @@ def overlaps(sync: Call, change: Call) -> bool:
     return synced in changed
 
 
-def stand_apart(sync: Call, changes: List[Call], moments: Dict[int, Moment]) -> None:
+def order_apart(sync: Call, changes: List[Call], moments: Dict[int, Moment]) -> None:
+    """Orders a sync before the changes that overlap it, each of which is placed where it ends."""
     for change in changes:
         moments[id(change)] = (change.end, 1)
         moments[id(sync)] = min(moments[id(sync)], (change.end, 0))

@@ -70,21 +70,24 @@ class Scanner:
         self.seen: Dict[Tuple[int, int], int] = {}
 
     def scan(self) -> Scan:
-        self.below('')
+        """The whole directory; a link that it has no other name of is noted."""
+        self.scan_below('')
         for inode, path in self.firsts.items():
             if self.seen[inode] > 0:
                 self.found.noted.append((path, 'that it has a name outside the directory'))
         return self.found
 
-    def below(self, base: str) -> None:
+    def scan_below(self, base: str) -> None:
+        """Adds the entries of a directory, in the order of their names, and what is below them."""
         with os.scandir(self.top + base) as listed:
             names = sorted(entry.name for entry in listed)
         for name in names:
             path = f'{base}/{name}'
             if not self.ignored(path):
-                self.entry(path, os.lstat(self.top + path))
+                self.add_entry(path, os.lstat(self.top + path))
 
-    def entry(self, path: str, status: os.stat_result) -> None:
+    def add_entry(self, path: str, status: os.stat_result) -> None:
+        """Adds what a trace can have of a path, and notes what it can't."""
         fault = path_fault(path) or self.kind_fault(path, status)
         if fault:
             self.found.left_out.append((path, fault))
@@ -96,10 +99,10 @@ class Scanner:
         if attributes:
             self.found.attributes[path] = attributes
         if stat.S_ISREG(status.st_mode) and status.st_nlink > 1:
-            self.link(path, status)
+            self.note_link(path, status)
         self.found.entries.append(entry_of(self.top, path, status))
         if stat.S_ISDIR(status.st_mode):
-            self.below(path)
+            self.scan_below(path)
 
     def kind_fault(self, path: str, status: os.stat_result) -> str:
         """Why a trace can't have a file of this kind, or nothing."""
@@ -112,7 +115,8 @@ class Scanner:
         most = limits.file_bytes(self.version)
         return f'a file of more than {most} bytes' if status.st_size > most else ''
 
-    def link(self, path: str, status: os.stat_result) -> None:
+    def note_link(self, path: str, status: os.stat_result) -> None:
+        """Notes a path of a file that has several: its first, or a link to that."""
         inode = status.st_dev, status.st_ino
         first = self.firsts.setdefault(inode, path)
         self.seen[inode] = self.seen.get(inode, status.st_nlink) - 1
@@ -130,6 +134,7 @@ def attributes_of(path: str) -> Dict[str, bytes]:
 
 
 def kind_of(mode: int) -> str:
+    """What a file is that is no plain file and no directory, in words."""
     kinds = {
         stat.S_IFLNK: 'a symbolic link',
         stat.S_IFSOCK: 'a socket',

@@ -14,18 +14,18 @@ class Rule:
     takes back what those before it left out."""
 
     pattern: re.Pattern[str]
-    takes_back: bool
+    negates: bool
     directories: bool
 
     @staticmethod
     def of(glob: str) -> Rule:
-        takes_back = glob.startswith('!')
-        body = glob[1:] if takes_back else glob
+        negates = glob.startswith('!')
+        body = glob[1:] if negates else glob
         directories = body.endswith('/')
         body = body.rstrip('/')
         anchored = '/' in body
         pattern = ('' if anchored else '(?:.*/)?') + regex_of(body.lstrip('/'))
-        return Rule(re.compile(pattern, re.S), takes_back, directories)
+        return Rule(re.compile(pattern, re.S), negates, directories)
 
 
 def regex_of(glob: str) -> str:
@@ -105,7 +105,7 @@ class Ignore:
         for rule in self.rules:
             may_match = not rule.directories or not self.is_file(path)
             if may_match and rule.pattern.fullmatch(path.strip('/')):
-                ignored = not rule.takes_back
+                ignored = not rule.negates
         return ignored
 
     def is_file(self, path: str) -> bool:

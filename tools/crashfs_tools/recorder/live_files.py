@@ -114,7 +114,7 @@ class LiveFiles:
             if path not in self.tree.nodes:
                 self.tree.add(path, Node.unknown())
         for path, why in scan.noted:
-            self.recording.note(f'the start tree leaves out {why}', path)
+            self.recording.report_note(f'the start tree leaves out {why}', path)
 
     def report(self, what: str, where: str) -> None:
         """Reports what the trace doesn't have."""
@@ -138,7 +138,7 @@ class LiveFiles:
     def relative_path(self, path: str, follows: bool = False) -> Optional[str]:
         """A path as the trace has it; None for one outside the directory, or ignored. follows says
         that a symbolic link at its end means what it refers to."""
-        below = self.resolver.below(self.resolver.resolved(path, follows))
+        below = self.resolver.path_below(self.resolver.resolve(path, follows))
         return None if below is None or self.ignored(below) else below
 
     def path_argument(
@@ -215,7 +215,7 @@ class LiveFiles:
             if file.stream is streams.standard[1]:
                 streams.set_standard_output(shown.text)
             return file.stream
-        return None if file is not None else streams.find(shown.number, shown.text)
+        return None if file is not None else streams.find_stream(shown.number, shown.text)
 
     # Changes
 
@@ -231,7 +231,7 @@ class LiveFiles:
             made = Mkdir(path, owner, group, node.mode)
         elif node.link is not None:
             made = Symlink(path, owner, group, node.link)
-            if not self.recording.may_have(symbolic_link(path)):
+            if not self.recording.raise_version_for(symbolic_link(path)):
                 self.report('a symbolic link was made', path)
                 return
         if self.recording.add(made):

@@ -64,8 +64,8 @@ class LogFilter:
             return not self.has_mapped and self.top not in line
         return False
 
-    def note(self, name: str, line: str) -> None:
-        """Takes a whole line that is read: it may make a descriptor, or map a file."""
+    def note_result(self, name: str, line: str) -> None:
+        """Notes what a whole call made that was read: a descriptor that may count, or a mapping."""
         if name in MAPPERS:
             self.has_mapped |= self.top in line
         elif name in MAKERS:

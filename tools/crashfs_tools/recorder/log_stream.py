@@ -54,10 +54,10 @@ class LogStream:
         self.opened = threading.Event()
         self.thread = threading.Thread(target=self.read, daemon=True)
 
-    def begin(self) -> None:
+    def start(self) -> None:
         self.thread.start()
 
-    def end(self) -> Log:
+    def finish(self) -> Log:
         """The log, when strace has ended; LogError if it isn't strace's. fault says why it could
         not be kept whole."""
         self.release()
@@ -76,6 +76,7 @@ class LogStream:
                 time.sleep(0.001)
 
     def read(self) -> None:
+        """Reads the pipe to its end, in the thread."""
         descriptor = os.open(self.pipe, os.O_RDONLY)
         self.opened.set()
         enlarge_pipe(descriptor)
@@ -87,7 +88,7 @@ class LogStream:
         finally:
             os.close(descriptor)
         if self.mapped is not None:
-            self.mapped.end(self.lines)
+            self.mapped.finish(self.lines)
         self.close_kept()
 
     def process_line(self, line: Optional[str], lines: PipeLines) -> bool:
@@ -102,10 +103,10 @@ class LogStream:
         if line is None:
             return None
         self.lines += 1
-        self.keep(line)
+        self.keep_line(line)
         self.read_line(line.rstrip('\n'))
         if self.mapped is not None:
-            self.mapped.note(line, self.lines)
+            self.mapped.note_mapping(line, self.lines)
         stopped = STOPPED.match(line)
         return int(stopped[1]) if stopped else None
 
@@ -113,7 +114,7 @@ class LogStream:
         """Reads a line. After one that isn't strace's no other is read, and COMMAND runs on."""
         try:
             if self.log_error is None:
-                self.reader.line(self.lines, line)
+                self.reader.read_line(self.lines, line)
         except LogError as error:
             self.log_error = LogError(f'{error}, in line {self.lines}')
 
@@ -153,7 +154,7 @@ class LogStream:
                 later.append(stopped)
         return later
 
-    def keep(self, line: str) -> None:
+    def keep_line(self, line: str) -> None:
         """Keeps a line. After one that can't be kept no other is tried, and COMMAND runs on."""
         try:
             if self.kept is not None and self.fault is None:

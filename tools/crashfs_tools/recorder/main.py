@@ -24,7 +24,7 @@ from .log_filter import LogFilter
 from .live_files import LiveFiles, StartConditions, no_link
 from .log_stream import LogStream
 from .mapped_files import FileCopies, MappedFiles
-from .options import NAME, RecordOptions, check, read_options
+from .options import NAME, RecordOptions, refuse_bad_options, read_options
 from .output_streams import SayEach
 from .own_path import NOTE as OWN_PATH
 from .own_path import files_with_path
@@ -68,7 +68,7 @@ def run_command(options: RecordOptions, guard: Guard) -> RecordedRun:
         status = running.run()
     finally:
         left = guard.end_processes()
-    log = stream.end()
+    log = stream.finish()
     if log.first is None:
         raise Refused('strace recorded nothing (it may not trace here: see its message)')
     if not log.is_whole:
@@ -127,7 +127,7 @@ def link_of(path: str) -> Optional[str]:
 
 
 def record(options: RecordOptions) -> int:
-    check(options)
+    refuse_bad_options(options)
     Crashfs.find(options.crashfs)
     before = scan(options.directory, options.ignored, options.version or NEWEST)
     settings = TraceSettings(
@@ -149,7 +149,7 @@ def record(options: RecordOptions) -> int:
     translate(options, files, run)
     write_trace(options, recording)
     try:
-        return finish(options, recording, before, run)
+        return report_end(options, recording, before, run)
     except OSError as error:
         print_text(f'{error.filename or options.out}: {error.strerror}; {WRITTEN}')
     except Exception as error:
@@ -163,18 +163,18 @@ def write_trace(options: RecordOptions, recording: Recording) -> None:
     write_whole(options.out, (line + '\n' for line in recording.trace.lines()), mode)
 
 
-def finish(options: RecordOptions, recording: Recording, before: Scan, run: RecordedRun) -> int:
+def report_end(options: RecordOptions, recording: Recording, before: Scan, run: RecordedRun) -> int:
     """Compares the trace, which is written, prints what it doesn't have, and returns the status."""
     found = summary.final_report(recording, options, summary.ending_of(run.status, run.stops))
     how = summary.NOT_COMPARED
     if options.from_log is None:
-        how = summary.compare(options, recording, before, found)
+        how = summary.compare_directory(options, recording, before, found)
     also = [BEGINS] if recording.begins_later else []
     also += [NEW_VERSION % recording.new_version] if recording.new_version else []
-    also += summary.without_stack(recording.trace) if options.stacks else []
+    also += summary.operations_without_note(recording.trace) if options.stacks else []
     for line in found.lines + found.notes + also:
         print_text(line)
-    print_text(summary.summary(options, recording, how))
+    print_text(summary.last_line(options, recording, how))
     return found.status
 
 
@@ -194,8 +194,10 @@ def translate(options: RecordOptions, files: LiveFiles, run: RecordedRun) -> Non
         recording.report(f'a process that COMMAND left could not be ended: {run.left}', '/')
     recording.streams.set_standard_output(run.output)
     if options.stacks or any(call.frames for call in run.log.calls):
-        for program in stacks.note_all(run.log.calls):
-            print_text(f'--stacks: no source line of {program} is known{stacks.reason()}')
+        for program in stacks.note_calls(run.log.calls):
+            print_text(
+                f'--stacks: no source line of {program} is known{stacks.missing_addr2line()}'
+            )
     wanted = options.begin_after
     start = None if wanted is None else LateStart(recording, wanted)
     Translator(files, run.log, run.copies).run()
@@ -204,7 +206,7 @@ def translate(options: RecordOptions, files: LiveFiles, run: RecordedRun) -> Non
             f'no acknowledged line is {wanted}: the trace begins with COMMAND', '--begin-after'
         )
     for path in files_with_path(recording.trace, files.conditions.top):
-        recording.note(OWN_PATH, path)
+        recording.report_note(OWN_PATH, path)
     operations = recording.trace.operations
     if options.from_log is not None and all(isinstance(it, Say) for it in operations):
         raise Refused(

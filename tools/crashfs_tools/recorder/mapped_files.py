@@ -88,7 +88,7 @@ class MappedFiles:
         self.descriptors: List[int] = []
         self.last: Dict[int, Bytes] = {}
 
-    def note(self, line: str, number: int) -> None:
+    def note_mapping(self, line: str, number: int) -> None:
         """Looks for a mapping in a line of strace's. Its file is held open from then on, since
         it may be renamed or unlinked later."""
         match = MAPPED.match(line)
@@ -99,13 +99,14 @@ class MappedFiles:
             return
         for way in (path, f'/proc/{match[1]}/fd/{match[2]}'):
             try:
-                self.hold(os.open(way, os.O_RDONLY), number)
+                self.hold_open(os.open(way, os.O_RDONLY), number)
                 return
             except OSError:
                 continue
         self.copies.missed.append(path[len(self.top.rstrip('/')) :])
 
-    def hold(self, descriptor: int, number: int) -> None:
+    def hold_open(self, descriptor: int, number: int) -> None:
+        """Keeps a mapped file open, once for all its mappings; number is the line of this one."""
         status = os.fstat(descriptor)
         inode = status.st_dev, status.st_ino
         if inode in self.inodes:
@@ -132,8 +133,8 @@ class MappedFiles:
             mapped |= stopped_processes.inodes_mapped(process)
         return {number for (_, inode), number in self.inodes.items() if str(inode) in mapped}
 
-    def end(self, line: int) -> None:
-        """The last copy, of what the program left."""
+    def finish(self, line: int) -> None:
+        """Takes the last copy, of what the program left, and closes the files."""
         self.copy(line, 0, True)
         for descriptor in self.descriptors:
             os.close(descriptor)

@@ -21,7 +21,7 @@ class Mapping:
     def end(self) -> int:
         return self.address + self.length
 
-    def part(self, first: int, last: int) -> Mapping:
+    def part_between(self, first: int, last: int) -> Mapping:
         """The part between two addresses, as far as the mapping reaches."""
         begin, end = max(first, self.address), min(last, self.end)
         offset = self.offset + begin - self.address
@@ -35,30 +35,31 @@ class Memory:
     mappings: List[Mapping] = field(default_factory=list)
 
     def map(self, mapping: Mapping) -> None:
+        """Adds a mapping, in the place of what is mapped at its addresses."""
         self.unmap(mapping.address, mapping.length)
         self.mappings.append(mapping)
 
     def unmap(self, address: int, length: int) -> None:
         """Unmaps a range, also if another mapping takes its place."""
-        end = address + rounded(length)
+        end = address + in_whole_pages(length)
         kept = []
         for mapping in self.mappings:
-            kept.append(mapping.part(mapping.address, address))
-            kept.append(mapping.part(end, mapping.end))
+            kept.append(mapping.part_between(mapping.address, address))
+            kept.append(mapping.part_between(end, mapping.end))
         self.mappings = [mapping for mapping in kept if mapping.length > 0]
 
     def move(self, old: int, old_length: int, new: int, new_length: int, keeps: bool) -> None:
         """Moves a mapping, as mremap does; the old range stays mapped only if `keeps`."""
-        moved = [part for part, _ in self.parts(old, old_length or 1)]
+        moved = [part for part, _ in self.parts_in(old, old_length or 1)]
         if not keeps and old_length:
             self.unmap(old, old_length)
         for part in moved[:1]:
-            self.map(replace(part, address=new, length=rounded(new_length)))
+            self.map(replace(part, address=new, length=in_whole_pages(new_length)))
 
-    def parts(self, address: int, length: int) -> Iterator[Tuple[Mapping, Tuple[int, int]]]:
+    def parts_in(self, address: int, length: int) -> Iterator[Tuple[Mapping, Tuple[int, int]]]:
         """The parts of mappings in a range, each with its offset in its file and its length."""
         for mapping in self.mappings:
-            part = mapping.part(address, address + length)
+            part = mapping.part_between(address, address + length)
             if part.length > 0:
                 yield part, (part.offset, part.length)
 
@@ -66,6 +67,6 @@ class Memory:
         return Memory(list(self.mappings))
 
 
-def rounded(length: int) -> int:
+def in_whole_pages(length: int) -> int:
     """A length in whole pages of 4,096 bytes."""
     return -(-length // 4_096) * 4_096

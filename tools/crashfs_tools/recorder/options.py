@@ -77,13 +77,13 @@ def parser() -> argparse.ArgumentParser:
     made.add_argument('--version', action='version', version=version_of(NAME))
     made.add_argument('directory', metavar='DIR', help='the directory that COMMAND changes')
     made.add_argument('out', metavar='OUT.trace', help='the trace to write; - is standard output')
-    add_what_is_recorded(made)
-    add_the_trace(made)
-    add_logs(made)
+    add_recording_options(made)
+    add_trace_options(made)
+    add_log_options(made)
     return made
 
 
-def add_what_is_recorded(made: argparse.ArgumentParser) -> None:
+def add_recording_options(made: argparse.ArgumentParser) -> None:
     made.add_argument(
         '--mapped',
         action='store_true',
@@ -94,7 +94,7 @@ def add_what_is_recorded(made: argparse.ArgumentParser) -> None:
         '--ignore',
         metavar='GLOB',
         action='append',
-        type=glob,
+        type=checked_glob,
         default=[],
         help='leave out files that match, by the rules of .gitignore (may be ' 'repeated)',
     )
@@ -104,7 +104,7 @@ def add_what_is_recorded(made: argparse.ArgumentParser) -> None:
         action='append',
         default=[],
         dest='acknowledged',
-        type=descriptor,
+        type=descriptor_to_acknowledge,
         help="take the acknowledged lines from COMMAND's descriptor N, not from "
         f"standard output; `{SOCKETS}`: from each connection that it accepts "
         '(may be repeated)',
@@ -130,7 +130,7 @@ def add_what_is_recorded(made: argparse.ArgumentParser) -> None:
     )
 
 
-def add_the_trace(made: argparse.ArgumentParser) -> None:
+def add_trace_options(made: argparse.ArgumentParser) -> None:
     made.add_argument(
         '--begin-after',
         metavar='LINE',
@@ -169,7 +169,7 @@ def add_the_trace(made: argparse.ArgumentParser) -> None:
     )
 
 
-def add_logs(made: argparse.ArgumentParser) -> None:
+def add_log_options(made: argparse.ArgumentParser) -> None:
     made.add_argument('--keep-log', metavar='FILE', help="keep strace's log")
     made.add_argument(
         '--from-log',
@@ -185,7 +185,7 @@ def add_logs(made: argparse.ArgumentParser) -> None:
     )
 
 
-def glob(text: str) -> str:
+def checked_glob(text: str) -> str:
     """A pattern of --ignore, as it is."""
     try:
         Rule.of(text)
@@ -194,7 +194,7 @@ def glob(text: str) -> str:
     return text
 
 
-def descriptor(word: str) -> str:
+def descriptor_to_acknowledge(word: str) -> str:
     if word != SOCKETS and not word.isdigit():
         raise argparse.ArgumentTypeError(f'{word} is neither a number nor `{SOCKETS}`')
     return word
@@ -214,7 +214,7 @@ def read_options(arguments: List[str]) -> RecordOptions:
     return RecordOptions(command=command, **vars(values))
 
 
-def check(options: RecordOptions) -> None:
+def refuse_bad_options(options: RecordOptions) -> None:
     """Refuses, before anything runs, options that can't work."""
     if not os.path.isdir(options.directory):
         raise Refused(f'{options.directory} is no directory')

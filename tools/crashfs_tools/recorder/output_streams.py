@@ -49,9 +49,9 @@ class OutputStream:
     is_held: bool = False
 
     def texts_of(self, data: bytes, moment: int) -> List[bytes]:
-        """Takes the bytes of a write, and returns the texts that it acknowledges."""
+        """The texts that a write of these bytes acknowledges; moment counts earlier changes."""
         if self.each is SayEach.WRITE:
-            texts = [as_line(data)] if data else []
+            texts = [written_as_line(data)] if data else []
         else:
             texts = self.complete_lines(data, moment)
         self.lines += len(texts)
@@ -75,7 +75,7 @@ class OutputStream:
         return [line[:-1] if line.endswith(b'\r') else line for line in lines]
 
 
-def as_line(data: bytes) -> bytes:
+def written_as_line(data: bytes) -> bytes:
     r"""The bytes of a write as one line: without the line's end, and with escapes (`\n`, `\r`,
     `\x80`) for other line feeds, carriage returns, and bytes that aren't UTF-8."""
     for end in (b'\n', b'\r'):
@@ -101,9 +101,10 @@ class OutputStreams:
     standard: Dict[int, OutputStream] = field(default_factory=dict)
 
     def __post_init__(self) -> None:
-        self.standard = {1: self.new(OUTPUT, 1), 2: self.new(ERRORS, 2)}
+        self.standard = {1: self.new_stream(OUTPUT, 1), 2: self.new_stream(ERRORS, 2)}
 
-    def new(self, name: str, number: int) -> OutputStream:
+    def new_stream(self, name: str, number: int) -> OutputStream:
+        """A stream that acknowledges something if its descriptor is asked for."""
         return OutputStream(name, str(number) in self.acknowledged, self.each or SayEach.LINE)
 
     def is_asked(self, number: int) -> bool:
@@ -114,24 +115,26 @@ class OutputStreams:
         """The streams that COMMAND may start with, by their descriptors."""
         asked = [int(number) for number in self.acknowledged if number.isdigit()]
         named = {
-            number: self.by_text.setdefault(f'{number}', self.new(f'descriptor {number}', number))
+            number: self.by_text.setdefault(
+                f'{number}', self.new_stream(f'descriptor {number}', number)
+            )
             for number in asked
             if number > 2
         }
         return {**self.standard, **named}
 
     def set_standard_output(self, text: Optional[str]) -> None:
-        """Takes the pipe that is COMMAND's standard output."""
+        """Makes a pipe COMMAND's standard output."""
         if text is not None and text.startswith('pipe:'):
             self.by_text.setdefault(text, self.standard[1])
 
     def add_connection(self, text: Optional[str]) -> None:
-        """Takes a connection that COMMAND accepted."""
+        """Adds a connection that COMMAND accepted, if connections are asked for."""
         if SOCKETS in self.acknowledged and text is not None:
             each = SayEach.LINE if text in self.with_lines else SayEach.WRITE
             self.by_text[text] = OutputStream('a socket', True, self.each or each)
 
-    def find(self, number: int, text: Optional[str]) -> Optional[OutputStream]:
+    def find_stream(self, number: int, text: Optional[str]) -> Optional[OutputStream]:
         """The stream of a descriptor that isn't known as a standard one. Two descriptors of a
         device may be two streams."""
         if text is None:
@@ -140,9 +143,10 @@ class OutputStreams:
         if known is not None or not self.is_asked(number):
             return known
         key = f'{number}<{text}>' if text.startswith('/dev/') else text
-        return self.by_text.setdefault(key, self.new(f'descriptor {number}', number))
+        return self.by_text.setdefault(key, self.new_stream(f'descriptor {number}', number))
 
-    def all(self) -> Iterator[OutputStream]:
+    def all_streams(self) -> Iterator[OutputStream]:
+        """Each stream once."""
         yield from dict.fromkeys([*self.standard.values(), *self.by_text.values()])
 
 

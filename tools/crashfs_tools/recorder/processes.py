@@ -74,7 +74,7 @@ class Process:
     paths: PathContext
     memory: Memory = field(default_factory=Memory)
 
-    def child(self, fork: Call) -> Process:
+    def forked_child(self, fork: Call) -> Process:
         """The process that a fork makes."""
         flags = ' '.join(fork.words)
         shares_memory = 'CLONE_VM' in flags or fork.name == 'vfork'

@@ -51,7 +51,7 @@ class TraceSettings:
     version: Optional[int] = None
 
 
-def place_of(operation: Operation) -> str:
+def path_of(operation: Operation) -> str:
     """The path that an operation is about."""
     if isinstance(operation, (Rename, Link)):
         return operation.source
@@ -99,7 +99,7 @@ class Recording:
     def __init__(self, header: Header, settings: TraceSettings) -> None:
         self.settings = settings
         self.new_version = ''
-        self.begin(header)
+        self.begin_trace(header)
         self.streams = OutputStreams(settings.acknowledged, settings.each)
         self.troubles = Troubles()
         self.differing: Set[str] = set()
@@ -108,7 +108,7 @@ class Recording:
         self.begins_later = False
         self.changes = 0
 
-    def begin(self, header: Header) -> None:
+    def begin_trace(self, header: Header) -> None:
         """Begins the trace, in the oldest version that it may have."""
         profile, block = self.settings.profile, self.settings.block
         version = self.settings.version or WRITTEN_VERSION
@@ -116,14 +116,14 @@ class Recording:
         self.tree = Tree(header.owner, header.group, header.mode, block, version, profile)
         self.new_version = f'--trace-version {NEWEST}' if version >= NEWEST else ''
         if profile == JOURNAL:
-            self.may_have(f'--profile {JOURNAL}')
+            self.raise_version_for(f'--profile {JOURNAL}')
 
     def add_start(self, line: StartLine) -> bool:
         """Adds a start line to the trace, and returns whether its version may have it."""
-        if isinstance(line, StartSymlink) and not self.may_have(symbolic_link(line.path)):
+        if isinstance(line, StartSymlink) and not self.raise_version_for(symbolic_link(line.path)):
             return False
         if isinstance(line, Start) and len(line.data or b'') > limits.FILE_BYTES:
-            self.may_have(large_file(line.path))
+            self.raise_version_for(large_file(line.path))
         self.trace.start.append(line)
         self.tree.start(line)
         return True
@@ -133,12 +133,13 @@ class Recording:
         line = self.trace.line_of_operation(len(self.trace.operations)) - 1
         self.troubles.add(what, where, None if self.call is None else line, is_note)
 
-    def note(self, what: str, where: str) -> None:
-        """Reports what no trace has, and what changes no verdict."""
+    def report_note(self, what: str, where: str) -> None:
+        """Reports what no trace has, and what decides about no crash state."""
         self.report(what, where, is_note=True)
 
-    def may_have(self, what: str) -> bool:
-        """Whether the trace may have what only the newest version has; it then has this version."""
+    def raise_version_for(self, what: str) -> bool:
+        """Gives the trace the newest version, for this reason, unless --trace-version names one.
+        Returns whether it has the newest now."""
         if self.trace.version < NEWEST and self.settings.version is None:
             self.trace.version = self.tree.version = NEWEST
             self.new_version = what
@@ -150,11 +151,11 @@ class Recording:
         if not self.has_line(operation):
             return self.add_in_older_version(operation)
         if limits.FILE_BYTES < end_of_change(operation) <= limits.LARGE_FILE_BYTES:
-            self.may_have(large_file(place_of(operation)))
+            self.raise_version_for(large_file(path_of(operation)))
         fault = self.tree.fault(operation)
         if fault:
             name = self.call.name if self.call else 'a change'
-            self.report(f'{name} is left out: {fault}', place_of(operation))
+            self.report(f'{name} is left out: {fault}', path_of(operation))
             return False
         self.tree.apply(operation)
         if self.call is not None and self.call.note:
@@ -177,15 +178,17 @@ class Recording:
         return self.add(Fsync(operation.path))
 
     def add_output(self, stream: OutputStream, data: bytes) -> None:
-        """Bytes that COMMAND wrote to a stream: each whole line is acknowledged, or each write."""
+        """Adds bytes that COMMAND wrote to a stream: an acknowledgement for each whole line, or for
+        each write."""
         for text in stream.texts_of(data, self.changes):
             if stream.is_acknowledged:
                 self.acknowledge(stream, text)
 
     def acknowledge(self, stream: OutputStream, text: bytes) -> None:
+        """Adds an acknowledgement; reports one that the trace has only in part."""
         said = Say.cut(text)
         if said.text.encode() != text and stream.each is SayEach.WRITE:
-            self.note('an acknowledgement is cut at 1,024 bytes', stream.name)
+            self.report_note('an acknowledgement is cut at 1,024 bytes', stream.name)
         elif said.text.encode() != text:
             self.report('a line is cut at 1,024 bytes, or is no UTF-8', stream.name)
         self.add(said)
@@ -193,7 +196,7 @@ class Recording:
 
     def end_streams(self) -> None:
         """Ends the last line of each stream, if that has no end."""
-        for stream in self.streams.all():
+        for stream in self.streams.all_streams():
             if stream.pieces:
                 self.add_output(stream, b'\n')
                 stream.is_held = stream.gaps > 0

@@ -20,16 +20,16 @@ class Resolver:
         self.inside, self.outside = inside, outside
         self.known: dict[str, Optional[str]] = {}
 
-    def below(self, path: Optional[str]) -> Optional[str]:
+    def path_below(self, path: Optional[str]) -> Optional[str]:
         """The part of a whole path below the directory, `/` for itself; None for one outside."""
         if path is None or path == self.top:
             return None if path is None else '/'
         prefix = self.top.rstrip('/')
         return path[len(prefix) :] if path.startswith(prefix + '/') else None
 
-    def resolved(self, path: str, follows: bool) -> Optional[str]:
-        """A whole path without symbolic links; None if there are too many. A link at its end is
-        left if it isn't to be followed."""
+    def resolve(self, path: str, follows: bool) -> Optional[str]:
+        """A whole path without symbolic links; None if there are too many. `follows` says whether a
+        link at its end is followed."""
         follows = follows or path.endswith('/')
         here, left = '/', names_of(path)
         # The directory's own path has none.
@@ -55,7 +55,7 @@ class Resolver:
 
     def link_of(self, path: str) -> Optional[str]:
         """The target of the symbolic link at a whole path; None if there is none."""
-        below = self.below(path)
+        below = self.path_below(path)
         if below is not None:
             return None if below == '/' else self.inside(below)
         if path not in self.known:
@@ -64,5 +64,5 @@ class Resolver:
 
 
 def names_of(path: str) -> List[str]:
-    """The names of a path, the first one last."""
+    """The names of a path, in reverse."""
     return [name for name in reversed(path.split('/')) if name not in ('', '.')]

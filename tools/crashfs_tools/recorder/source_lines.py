@@ -75,13 +75,13 @@ def source_frames(addresses: Iterable[Address]) -> Dict[Address, List[Frame]]:
         by_file.setdefault(path, []).append(offset)
     found: Dict[Address, List[Frame]] = {}
     for path, offsets in by_file.items():
-        for offset, frames in zip(offsets, ask(str(tool), path, offsets)):
+        for offset, frames in zip(offsets, run_addr2line(str(tool), path, offsets)):
             if frames:
                 found[path, offset] = frames
     return found
 
 
-def ask(tool: str, path: str, offsets: List[int]) -> List[List[Frame]]:
+def run_addr2line(tool: str, path: str, offsets: List[int]) -> List[List[Frame]]:
     """What addr2line prints for offsets of a file. Each is where a call returns to: the call is
     before it."""
     segments = segments_of(path)

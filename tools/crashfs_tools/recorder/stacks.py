@@ -37,7 +37,7 @@ LIBRARY_SOURCE = re.compile(
 SHOWN = 3
 
 
-def environment(before: Dict[str, str]) -> Dict[str, str]:
+def environment_with_hook(before: Dict[str, str]) -> Dict[str, str]:
     """The environment with the hook, which Python programs load by themselves."""
     paths = [HOOK, *filter(None, [before.get('PYTHONPATH')])]
     return {**before, 'PYTHONPATH': os.pathsep.join(paths)}
@@ -54,7 +54,7 @@ def is_python(path: str) -> bool:
     return name.startswith(('python', 'pypy')) or first.startswith(b'#!') and b'python' in first
 
 
-def note_all(calls: List[Call]) -> List[str]:
+def note_calls(calls: List[Call]) -> List[str]:
     """Gives each call its note. A Python program's line goes before the interpreter's frames.
     Returns the programs of which no source line is known."""
     frames = {id(call): program_frames(call.frames) for call in calls}
@@ -120,6 +120,6 @@ def is_own(function: str) -> bool:
     return function not in STARTS and not RUNTIME.match(function)
 
 
-def reason() -> str:
-    """Why no source line is known, as far as it can be seen."""
+def missing_addr2line() -> str:
+    """The likely reason why no source line is known: that there is no addr2line."""
     return ' (addr2line is not there)' if shutil.which('addr2line') is None else ''

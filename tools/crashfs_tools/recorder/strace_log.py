@@ -96,12 +96,13 @@ class LogReader:
         """Reads a whole log; LogError if a line isn't as strace writes it."""
         for number, line in enumerate(lines, 1):
             try:
-                self.line(number, line.rstrip('\n'))
+                self.read_line(number, line.rstrip('\n'))
             except LogError as error:
                 raise LogError(f'{error}, in line {number}') from error
         return self.log
 
-    def line(self, number: int, line: str) -> None:
+    def read_line(self, number: int, line: str) -> None:
+        """Reads the line with this number: a call, a part of one, a frame, or an event."""
         if self.filter is not None and self.filter.is_needless(line):
             self.shown = None
             return
@@ -120,15 +121,16 @@ class LogReader:
             line = f'{resumed[1]} {waiting.name}({waiting.head}{resumed[3]}'
         match = LINE.match(line)
         if match:
-            self.call(match, begin, number)
+            self.add_call(match, begin, number)
             if self.filter is not None:
-                self.filter.note(match[2], line)
+                self.filter.note_result(match[2], line)
         elif not line.startswith(FRAME):
-            self.event(number, line)
+            self.add_event(number, line)
         elif self.shown is not None:
             self.shown.frames.append(line[len(FRAME) :])
 
-    def call(self, match: re.Match[str], begin: int, end: int) -> None:
+    def add_call(self, match: re.Match[str], begin: int, end: int) -> None:
+        """Adds a whole call, with the lines at which it began and ended."""
         process, name, text, result, tail = match.groups()
         self.processes.add(int(process))
         if self.log.first is None:
@@ -150,18 +152,20 @@ class LogReader:
         )
         self.log.calls.append(self.shown)
 
-    def event(self, number: int, line: str) -> None:
+    def add_event(self, number: int, line: str) -> None:
+        """Adds what a line that is no call says: that a process ended, or changed its number."""
         self.shown = None
         ended, superseded = ENDED.match(line), SUPERSEDED.match(line)
         if ended:
             self.log.ended.append(int(ended[1]))
-            self.mark(number, int(ended[1]), EXIT, 0)
+            self.add_mark(number, int(ended[1]), EXIT, 0)
         elif superseded:
-            self.mark(number, int(superseded[1]), SUPERSEDE, int(superseded[2]))
+            self.add_mark(number, int(superseded[1]), SUPERSEDE, int(superseded[2]))
         elif self.log.cut is None and BEGUN.match(line):
             self.log.cut = number
 
-    def mark(self, number: int, process: int, name: str, result: int) -> None:
+    def add_mark(self, number: int, process: int, name: str, result: int) -> None:
+        """Adds an event as a call without arguments."""
         nothing = arguments.Descriptor(-1, None, False)
         self.log.calls.append(Call(process, name, [], result, nothing, number, number))
 

@@ -100,18 +100,18 @@ class StraceRun:
         try:
             environment = self.guard.environment
             if self.options.stacks:
-                environment = stacks.environment(environment)
+                environment = stacks.environment_with_hook(environment)
             child = subprocess.Popen(
                 self.line,
                 cwd=self.options.directory,
                 stdout=subprocess.PIPE,
                 env=environment,
-                pass_fds=inherited(self.options.acknowledged),
+                pass_fds=inherited_descriptors(self.options.acknowledged),
             )
             self.strace = child.pid
             assert child.stdout is not None
             self.output = f'pipe:[{os.fstat(child.stdout.fileno()).st_ino}]'
-            self.stream.begin()
+            self.stream.start()
             with CallProgress(NAME, lambda: len(self.stream.reader.log.calls)):
                 self.pass_output(child, child.stdout.fileno())
                 return self.status_of(child)
@@ -132,7 +132,7 @@ class StraceRun:
             ready = select.select([source, waiting], [], [], seconds)[0]
             if waiting in ready:
                 os.read(waiting, 64)
-            self.send_wanted()
+            self.send_noted_signal()
             piece = os.read(source, 65_536) if source in ready else None
             if piece == b'' or piece is None and not ready and child.poll() is not None:
                 break
@@ -148,7 +148,7 @@ class StraceRun:
             try:
                 return child.wait(0.2)
             except subprocess.TimeoutExpired:
-                self.send_wanted()
+                self.send_noted_signal()
 
     def note_stop(self, number: int, _: object) -> None:
         """Notes a signal. The first one is passed to COMMAND, unless the terminal sent it there."""
@@ -162,14 +162,14 @@ class StraceRun:
         if number != signal.SIGINT or not is_on_terminal():
             self.wanted = number
 
-    def send_wanted(self) -> None:
-        """Sends COMMAND the signal that is wanted, as soon as it has begun; a kill again and
-        again, since a process may have just forked."""
+    def send_noted_signal(self) -> None:
+        """Sends COMMAND the signal that was noted, as soon as it has begun. A kill is repeated,
+        since a process may have just forked."""
         if self.wanted is not None and self.guard.signal(self.wanted, spared=self.strace):
             self.wanted = self.wanted if self.wanted == signal.SIGKILL else None
 
 
-def inherited(acknowledged: Sequence[str]) -> List[int]:
+def inherited_descriptors(acknowledged: Sequence[str]) -> List[int]:
     """The descriptors that acknowledge something and that COMMAND inherits. Those that the recorder
     has opened itself aren't inherited."""
     numbers = [int(number) for number in acknowledged if number.isdigit() and int(number) > 2]

@@ -49,9 +49,9 @@ def final_report(
 ) -> FinalReport:
     """What the trace doesn't have, without the result of the comparison."""
     found = FinalReport()
-    troubles = recording.troubles.values()
+    troubles = recording.troubles.all_found()
     found.lines = [f'not in the trace: {trouble}' for trouble in troubles if not trouble.is_note]
-    found.notes = [f'not in the trace: {line}' for line in notes_of(troubles)]
+    found.notes = [f'not in the trace: {line}' for line in noted_lines(troubles)]
     if ending is not None:
         found.lines += ['COMMAND ' + ending, *relative_hints(options)]
     if not options.no_say:
@@ -59,13 +59,13 @@ def final_report(
     return found
 
 
-def without_stack(trace: Trace) -> List[str]:
+def operations_without_note(trace: Trace) -> List[str]:
     """How many operations --stacks found no function for, if there are some."""
     missing = len(trace.operations) - len(trace.notes)
     if not missing:
         return []
     return [
-        f'--stacks: {counted(missing, "operation")} without a note: no function of the program '
+        f'--stacks: {count_text(missing, "operation")} without a note: no function of the program '
         'itself was found in the stack (with frame pointers strace finds more: compile with '
         '-fno-omit-frame-pointer, Rust with -C force-frame-pointers=yes)'
     ]
@@ -81,7 +81,7 @@ def relative_hints(options: RecordOptions) -> List[str]:
     ]
 
 
-def notes_of(troubles: List[Trouble]) -> List[str]:
+def noted_lines(troubles: List[Trouble]) -> List[str]:
     """What is only noted, each thing once with its first path."""
     by_what: Dict[str, List[Trouble]] = {}
     for trouble in troubles:
@@ -89,14 +89,14 @@ def notes_of(troubles: List[Trouble]) -> List[str]:
             by_what.setdefault(trouble.what, []).append(trouble)
     return [
         str(found[0])
-        + (f', and of {counted(len(found) - 1, "path")} more' if len(found) > 1 else '')
+        + (f', and of {count_text(len(found) - 1, "path")} more' if len(found) > 1 else '')
         for found in by_what.values()
     ]
 
 
 def acknowledgement_faults(recording: Recording) -> List[str]:
     """Why no loss can be seen: nothing was acknowledged, or all at once."""
-    streams = list(recording.streams.all())
+    streams = list(recording.streams.all_streams())
     counted_ones = [stream for stream in streams if stream.is_acknowledged and stream.lines]
     lines = sum(stream.lines for stream in counted_ones)
     writes = sum(stream.writes for stream in counted_ones)
@@ -104,7 +104,7 @@ def acknowledgement_faults(recording: Recording) -> List[str]:
         stream.lines for stream in streams if stream.name == ERRORS and not stream.is_acknowledged
     )
     if lines == 0:
-        where = f', and {counted(errors, "line")} on standard error' if errors else ''
+        where = f', and {count_text(errors, "line")} on standard error' if errors else ''
         hint = ' (--say-fd 2 takes these)' if errors else ''
         return [
             f'no line was acknowledged{where}: no loss can be seen{hint}; --no-say if that is '
@@ -115,12 +115,13 @@ def acknowledgement_faults(recording: Recording) -> List[str]:
             f'all {lines:,} acknowledged lines came in one write: is standard output flushed '
             'after each? (--no-say if that is intended)'
         ]
-    return [line for stream in counted_ones for line in held_text(stream)]
+    return [line for stream in counted_ones for line in held_line_faults(stream)]
 
 
-def held_text(stream: OutputStream) -> List[str]:
-    """Whether writes may have acknowledged something before their line was complete. One change
-    between two of them is usual: a program prints what it does, and then that it is done."""
+def held_line_faults(stream: OutputStream) -> List[str]:
+    """A sentence if a line was begun long before it was complete, as it may have acknowledged
+    something meanwhile. One change between two writes of a line is usual: a program prints what it
+    does, and then that it is done."""
     if stream.is_held:
         what = 'its last text has no line feed, so it counts from the end'
     elif stream.most_gaps > 1:
@@ -133,14 +134,17 @@ def held_text(stream: OutputStream) -> List[str]:
     ]
 
 
-def compare(options: RecordOptions, recording: Recording, before: Scan, found: FinalReport) -> str:
-    """Compares the directory with the last state, adds what differs, and returns the verdict."""
+def compare_directory(
+    options: RecordOptions, recording: Recording, before: Scan, found: FinalReport
+) -> str:
+    """Compares the directory with the trace's last state, adds to `found` what differs, and returns
+    the result in words."""
     try:
         now = scan(options.directory, options.ignored, options.version or NEWEST)
     except OSError as error:
         found.lines.append(f'{error.filename}: {error.strerror}: {NOT_COMPARED}')
         return NOT_COMPARED
-    reported = recording.troubles.places() | recording.differing
+    reported = recording.troubles.reported_paths() | recording.differing
     for last in last_states(options, recording):
         try:
             entries = last.entries(options.out)
@@ -151,7 +155,7 @@ def compare(options: RecordOptions, recording: Recording, before: Scan, found: F
             + left_out_at_the_end(before, now, reported)
             + links_that_differ(now, recording.tree, reported)
         )
-        found.notes += notes_on(before, now, recording.troubles.values())
+        found.notes += notes_on(before, now, recording.troubles.all_found())
         verdict = 'differs from' if different else 'equals'
         but = ', except for what is reported' if reported and not different else ''
         found.lines += different
@@ -163,58 +167,62 @@ def last_states(options: RecordOptions, recording: Recording) -> List[LastState]
     """The ways to compute the last state: the program, if it can read the trace, then a replay."""
     if not os.path.isfile(options.out):
         return [Replayed(recording.trace.lines())]
-    program = None if is_long(recording) else Crashfs.find(options.crashfs)
+    program = None if needs_windows(recording) else Crashfs.find(options.crashfs)
     return ([ByProgram(program)] if program else []) + [Replayed()]
 
 
-def is_long(recording: Recording) -> bool:
-    """Whether the program takes the trace only in windows."""
+def needs_windows(recording: Recording) -> bool:
+    """Whether a trace is too long for one plan: it is checked in windows."""
     return recording.tree.micro_operations > MICRO_OPERATIONS
 
 
-def text_of(recording: Recording) -> str:
+def trace_text(recording: Recording) -> str:
     return ''.join(line + '\n' for line in recording.trace.lines())
 
 
-def summary(options: RecordOptions, recording: Recording, how: str) -> str:
+def last_line(options: RecordOptions, recording: Recording, how: str) -> str:
     """The last line: what the trace has."""
     trace = recording.trace
     counts = [
-        counted(len(trace.start), 'start line'),
-        counted(len(trace.operations), 'operation'),
-        counted(recording.tree.micro_operations, 'micro-operation'),
-        states(options, recording),
-        acknowledged(recording),
+        count_text(len(trace.start), 'start line'),
+        count_text(len(trace.operations), 'operation'),
+        count_text(recording.tree.micro_operations, 'micro-operation'),
+        states_text(options, recording),
+        acknowledged_text(recording),
     ]
     return f'{options.out}: {", ".join(counts)}; {how}'
 
 
-def acknowledged(recording: Recording) -> str:
+def acknowledged_text(recording: Recording) -> str:
+    """How many lines are acknowledged, and by which streams."""
     lines = sum(isinstance(one, Say) for one in recording.trace.operations)
     names = dict.fromkeys(
-        stream.name for stream in recording.streams.all() if stream.is_acknowledged and stream.lines
+        stream.name
+        for stream in recording.streams.all_streams()
+        if stream.is_acknowledged and stream.lines
     )
-    return counted(lines, 'acknowledged line') + (f' ({", ".join(names)})' if names else '')
+    return count_text(lines, 'acknowledged line') + (f' ({", ".join(names)})' if names else '')
 
 
-def states(options: RecordOptions, recording: Recording) -> str:
+def states_text(options: RecordOptions, recording: Recording) -> str:
     """How many states the check has, by the program or else by the second reading."""
-    if is_long(recording):
+    if needs_windows(recording):
         return IN_WINDOWS
     program = Crashfs.find(options.crashfs)
     if program is not None and os.path.isfile(options.out):
         try:
-            return counted(program.states(options.out), 'state')
+            return count_text(program.states(options.out), 'state')
         except ProgramFault as fault:
             if is_too_large(fault):
                 return IN_WINDOWS
     try:
-        return counted(count_states(text_of(recording)), 'state')
+        return count_text(count_states(trace_text(recording)), 'state')
     except ReadingFault as fault:
         return IN_WINDOWS if is_too_large(fault) else f'no states ({fault})'
 
 
-def counted(count: int, what: str) -> str:
+def count_text(count: int, what: str) -> str:
+    """A number with what it counts, as `1 state` or `2 states`."""
     return f'{count:,} {what}' + ('' if count == 1 else 's')
 
 

@@ -65,9 +65,10 @@ class Translator:
             where = f', in line {self.recording.call.end}' if self.recording.call else ''
             raise LogError(f'{error}{where}') from error
         self.recording.call = None
-        self.end()
+        self.add_rest()
 
     def translate_calls(self) -> None:
+        """Translates all calls in the order of their operations."""
         if SOCKETS in self.recording.streams.acknowledged:
             self.recording.streams.with_lines = connections_with_lines(self.log.calls)
         ordered = call_order.in_order(self.log.calls)
@@ -82,8 +83,8 @@ class Translator:
             call.words = [] if call.name in WRITES else call.words
         self.files.add_ended_syncs(None)
 
-    def end(self) -> None:
-        """Adds what is left when all calls are translated."""
+    def add_rest(self) -> None:
+        """Adds what comes after the last call: unfinished lines of output, the last copies."""
         self.recording.end_streams()
         for copy in self.copies.taken:
             if copy.process == 0:
@@ -93,9 +94,10 @@ class Translator:
         self.report_links()
 
     def translate_call(self, call: Call) -> None:
+        """Translates a call: one that returned, that failed, that was cut, or an event."""
         is_mark = call.name in (EXIT, SUPERSEDE)
         if not is_mark and not call.is_cut and call.result >= 0:
-            self.handle(call)
+            self.translate_returned(call)
             return
         # The program was stopped and copied from after a call that failed, too.
         for copy in self.stores.get(id(call), []):
@@ -103,7 +105,7 @@ class Translator:
         if call.name == EXIT:
             self.files.processes.pop(call.process, None)
         elif call.name == SUPERSEDE:
-            self.supersede(call)
+            self.take_number(call)
         elif call.is_cut:
             self.report_cut(call)
 
@@ -111,7 +113,7 @@ class Translator:
         """Reports a change that its thread's end cut: the log doesn't show whether it was made."""
         if not call_order.is_change(call):
             return
-        process = self.process(call.process, call.end)
+        process = self.process_of(call.process, call.end)
         stream = self.files.stream_of(process, call)
         path = call.descriptor().path
         below = self.files.relative_path(path) if path else None
@@ -123,9 +125,9 @@ class Translator:
                 where,
             )
 
-    def handle(self, call: Call) -> None:
+    def translate_returned(self, call: Call) -> None:
         """Translates a call that returned, with what was stored before it and at once after it."""
-        process = self.process(call.process, call.end)
+        process = self.process_of(call.process, call.end)
         handler = HANDLERS.get(call.name) or SOCKET_HANDLERS.get(call.name)
         own = self.changed_file(process, call)
         # What was stored before the call is before it; but a copy of the file that the
@@ -177,26 +179,28 @@ class Translator:
         self.newest[number] = copy
         return False
 
-    def process(self, number: int, moment: int) -> Process:
-        """The process of a call. A child may call before its parent's fork has returned."""
+    def process_of(self, number: int, moment: int) -> Process:
+        """The process with this number, which calls at this line. A child may call before its
+        parent's fork has returned."""
         known = self.files.processes
         if number not in known:
             if number == self.log.first:
                 known[number] = self.files.first_process()
             else:
-                known[number] = self.child(number, moment)
+                known[number] = self.new_process(number, moment)
         return known[number]
 
-    def child(self, number: int, moment: int) -> Process:
+    def new_process(self, number: int, moment: int) -> Process:
+        """A process that hasn't called yet, as the newest fork before this line made it."""
         forks = [fork for fork in self.parents.get(number, []) if fork.begin <= moment]
         if not forks:
             self.files.report('a process whose parent is not in the log', '/')
             conditions = self.files.conditions
             return Process(Descriptors(), PathContext(conditions.top, conditions.umask))
-        return self.process(forks[-1].process, moment).child(forks[-1])
+        return self.process_of(forks[-1].process, moment).forked_child(forks[-1])
 
-    def supersede(self, call: Call) -> None:
-        """A thread's exec takes the number of its process."""
+    def take_number(self, call: Call) -> None:
+        """Gives a thread that calls exec the number of its process, as the system does."""
         known = self.files.processes
         if call.result in known:
             known[call.process] = known.pop(call.result)

@@ -38,9 +38,9 @@ class Troubles:
         for trouble in self.found.values():
             trouble.lines.clear()
 
-    def places(self) -> Set[str]:
+    def reported_paths(self) -> Set[str]:
         """The paths of which something is reported that may make them differ at the end."""
         return {trouble.where for trouble in self.found.values() if not trouble.is_note}
 
-    def values(self) -> List[Trouble]:
+    def all_found(self) -> List[Trouble]:
         return list(self.found.values())

@@ -39,7 +39,9 @@ def set_mode(files: LiveFiles, node: Optional[Node], word: str) -> None:
     if node is None or path is None:
         return
     if mode & ~PERMISSIONS:
-        files.recording.note(f'it gets the mode bits {mode & ~PERMISSIONS:o}, beyond 777', path)
+        files.recording.report_note(
+            f'it gets the mode bits {mode & ~PERMISSIONS:o}, beyond 777', path
+        )
     if mode & PERMISSIONS != files.recording.tree.entries[path].mode:
         node.has_new_rights = files.recording.add(Chmod(path, mode & PERMISSIONS))
 
@@ -88,7 +90,7 @@ def on_attribute(files: LiveFiles, process: Process, call: Call) -> None:
             set_mode(files, node, f'{acl.mode_of(entries):o}')
             if acl.is_mode(entries):
                 return
-    files.recording.note('its extended attributes change, which no trace has', path)
+    files.recording.report_note('its extended attributes change, which no trace has', path)
 
 
 def attribute_node(files: LiveFiles, process: Process, call: Call) -> Optional[Node]:

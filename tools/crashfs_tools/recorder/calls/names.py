@@ -181,7 +181,7 @@ def replace_name(files: LiveFiles, node: Node, path: str) -> None:
 
 def rename_directory(files: LiveFiles, node: Node, source: str, target: str) -> None:
     """Renames a directory in the trace, if its version may have that."""
-    if source in node.traced_paths and files.recording.may_have(renamed_directory(source)):
+    if source in node.traced_paths and files.recording.raise_version_for(renamed_directory(source)):
         if files.recording.add(Rename(source, target)):
             files.tree.move_traced(source, target)
             return
@@ -236,14 +236,14 @@ def name_temporary_file(files: LiveFiles, node: Node, path: str) -> None:
 
 
 def on_symlink(files: LiveFiles, process: Process, call: Call) -> None:
-    make_link(files, files.path_argument(process, call, 1), call.word(0))
+    make_symbolic_link(files, files.path_argument(process, call, 1), call.word(0))
 
 
 def on_symlinkat(files: LiveFiles, process: Process, call: Call) -> None:
-    make_link(files, files.path_argument_at(process, call, 1), call.word(0))
+    make_symbolic_link(files, files.path_argument_at(process, call, 1), call.word(0))
 
 
-def make_link(files: LiveFiles, path: Optional[str], word: str) -> None:
+def make_symbolic_link(files: LiveFiles, path: Optional[str], word: str) -> None:
     """Makes a symbolic link."""
     target = arguments.path(word) or ''
     fault = target_fault(target)
@@ -254,14 +254,14 @@ def make_link(files: LiveFiles, path: Optional[str], word: str) -> None:
 
 
 def on_mknod(files: LiveFiles, process: Process, call: Call) -> None:
-    make_node(files, process, files.path_argument(process, call, 0), call.word(1))
+    make_file(files, process, files.path_argument(process, call, 0), call.word(1))
 
 
 def on_mknodat(files: LiveFiles, process: Process, call: Call) -> None:
-    make_node(files, process, files.path_argument_at(process, call, 0), call.word(2))
+    make_file(files, process, files.path_argument_at(process, call, 0), call.word(2))
 
 
-def make_node(files: LiveFiles, process: Process, path: Optional[str], mode: str) -> None:
+def make_file(files: LiveFiles, process: Process, path: Optional[str], mode: str) -> None:
     if path is None:
         return
     if 'S_IFREG' in mode or not mode.startswith('S_IF'):

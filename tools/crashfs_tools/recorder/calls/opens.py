@@ -13,19 +13,19 @@ from crashfs_tools.recorder.strace_log import Call
 
 
 def on_open(files: LiveFiles, process: Process, call: Call) -> None:
-    path = files.path_argument(process, call, 0, follows(call.word(1)))
+    path = files.path_argument(process, call, 0, follows_last_link(call.word(1)))
     open_path(files, process, call, call.word(0), path, call.word(1), call.word(2))
 
 
 def on_openat(files: LiveFiles, process: Process, call: Call) -> None:
-    path = files.path_argument_at(process, call, 0, follows(call.word(2)))
+    path = files.path_argument_at(process, call, 0, follows_last_link(call.word(2)))
     open_path(files, process, call, call.word(1), path, call.word(2), call.word(3))
 
 
 def on_openat2(files: LiveFiles, process: Process, call: Call) -> None:
     how = call.word(2)
     mode = re.search(r'mode=(0[0-7]*)', how)
-    path = files.path_argument_at(process, call, 0, follows(how))
+    path = files.path_argument_at(process, call, 0, follows_last_link(how))
     open_path(files, process, call, call.word(1), path, how, mode[1] if mode else '')
 
 
@@ -34,7 +34,7 @@ def on_creat(files: LiveFiles, process: Process, call: Call) -> None:
     open_path(files, process, call, call.word(0), path, 'O_WRONLY|O_CREAT|O_TRUNC', call.word(1))
 
 
-def follows(flags: str) -> bool:
+def follows_last_link(flags: str) -> bool:
     """Whether an open follows a symbolic link at its path's end."""
     return 'O_NOFOLLOW' not in flags and 'O_EXCL' not in flags
 
@@ -56,7 +56,7 @@ def open_path(
         )
         return
     if known is not None:
-        node = reopen(files, known, flags)
+        node = reopen_file(files, known, flags)
     elif call.made.text is not None and not call.made.deleted:
         made = call.made.path and files.relative_path(call.made.path)
         node = node_to_open(files, process, made, flags, mode)
@@ -66,7 +66,7 @@ def open_path(
     process.descriptors.put(call.result, file, 'O_CLOEXEC' in flags)
 
 
-def reopen(files: LiveFiles, known: OpenFile, flags: str) -> Optional[Node]:
+def reopen_file(files: LiveFiles, known: OpenFile, flags: str) -> Optional[Node]:
     """Opens a file again by its descriptor, also one that has no name any more."""
     node = known.node
     if node is not None and 'O_TRUNC' in flags and node.size:
@@ -115,14 +115,16 @@ def on_close_range(files: LiveFiles, process: Process, call: Call) -> None:
             descriptors.close(number)
 
 
-def duplicate(files: LiveFiles, process: Process, call: Call, closed_by_exec: bool) -> None:
+def duplicate_descriptor(
+    files: LiveFiles, process: Process, call: Call, closed_by_exec: bool
+) -> None:
     """Duplicates a descriptor; of one that acknowledges something, both are one stream."""
     old, streams = call.descriptor(), files.recording.streams
     if old.number == call.result:
         return
     file = process.descriptors.files.get(old.number)
     if file is None and streams.is_asked(old.number):
-        file = OpenFile(None, stream=streams.find(old.number, old.text))
+        file = OpenFile(None, stream=streams.find_stream(old.number, old.text))
         process.descriptors.files[old.number] = file
     if file is not None and file.stream is not None and streams.is_asked(call.result):
         file.stream.is_acknowledged = True
@@ -130,13 +132,13 @@ def duplicate(files: LiveFiles, process: Process, call: Call, closed_by_exec: bo
 
 
 def on_dup(files: LiveFiles, process: Process, call: Call) -> None:
-    duplicate(files, process, call, 'O_CLOEXEC' in call.word(2))
+    duplicate_descriptor(files, process, call, 'O_CLOEXEC' in call.word(2))
 
 
 def on_fcntl(files: LiveFiles, process: Process, call: Call) -> None:
     number, command = call.descriptor().number, call.word(1)
     if command.startswith('F_DUPFD'):
-        duplicate(files, process, call, 'CLOEXEC' in command)
+        duplicate_descriptor(files, process, call, 'CLOEXEC' in command)
     elif command == 'F_SETFD' and 'FD_CLOEXEC' in call.word(2):
         process.descriptors.closed_by_exec.add(number)
     elif command == 'F_SETFD':

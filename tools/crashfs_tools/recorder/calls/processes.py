@@ -12,7 +12,7 @@ from crashfs_tools.recorder.strace_log import Call
 
 def on_clone(files: LiveFiles, process: Process, call: Call) -> None:
     if call.result > 0 and call.result not in files.processes:
-        files.processes[call.result] = process.child(call)
+        files.processes[call.result] = process.forked_child(call)
 
 
 def on_execve(files: LiveFiles, process: Process, call: Call) -> None:
@@ -24,7 +24,7 @@ def on_chdir(files: LiveFiles, process: Process, call: Call) -> None:
     if path is not None:
         place = process.paths
         full = os.path.join(place.directory, path)
-        place.directory = files.resolver.resolved(full, True) or os.path.normpath(full)
+        place.directory = files.resolver.resolve(full, True) or os.path.normpath(full)
 
 
 def on_fchdir(files: LiveFiles, process: Process, call: Call) -> None:

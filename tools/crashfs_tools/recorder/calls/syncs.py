@@ -4,7 +4,7 @@ from __future__ import annotations
 
 from crashfs_tools.common.trace import Sync
 from crashfs_tools.recorder.arguments import integer
-from crashfs_tools.recorder.mappings import Mapping, rounded
+from crashfs_tools.recorder.mappings import Mapping, in_whole_pages
 from crashfs_tools.recorder.processes import Process
 from crashfs_tools.recorder.live_files import LiveFiles
 from crashfs_tools.recorder.strace_log import Call
@@ -42,7 +42,7 @@ def on_syncfs(files: LiveFiles, process: Process, call: Call) -> None:
 def on_sync_file_range(files: LiveFiles, process: Process, call: Call) -> None:
     file = files.open_file(process, call)
     if file is not None and file.node is not None and file.node.traced_path is not None:
-        files.recording.note(
+        files.recording.report_note(
             'sync_file_range: it promises nothing of a crash, and is left out',
             file.node.traced_path,
         )
@@ -50,7 +50,7 @@ def on_sync_file_range(files: LiveFiles, process: Process, call: Call) -> None:
 
 def on_mmap(files: LiveFiles, process: Process, call: Call) -> None:
     """Maps a file, and unmaps what was mapped at that address."""
-    length = rounded(integer(call.word(1)))
+    length = in_whole_pages(integer(call.word(1)))
     process.memory.unmap(call.result, length)
     file = process.descriptors.files.get(call.descriptor(4).number)
     if file is None or file.node is None or 'MAP_SHARED' not in call.word(3):
@@ -78,7 +78,7 @@ def report_mapped(files: LiveFiles, process: Process, address: int, length: int)
     """Reports files that are mapped for writing, unless copies show what is stored."""
     if files.has_copies:
         return
-    for part, _ in process.memory.parts(address, length):
+    for part, _ in process.memory.parts_in(address, length):
         if part.node.traced_path is not None:
             files.report(NOT_FOLLOWED, part.node.traced_path)
 
@@ -87,8 +87,8 @@ def on_msync(files: LiveFiles, process: Process, call: Call) -> None:
     """Syncs the pages in the range, and no others."""
     if 'MS_SYNC' not in call.word(2):
         return
-    length = rounded(integer(call.word(1)))
-    for part, (offset, covered) in process.memory.parts(integer(call.word(0)), length):
+    length = in_whole_pages(integer(call.word(1)))
+    for part, (offset, covered) in process.memory.parts_in(integer(call.word(0)), length):
         files.sync_range(part.node, offset, covered)
 
 
