@@ -1,13 +1,18 @@
-"""Which pictures there are, each made from a check of an example."""
+"""Which pictures there are; most are made from checks of examples."""
 
 from __future__ import annotations
 
 from pathlib import Path
 from typing import Dict
 
+from .arrows import arrows_picture
+from .border import border_picture
 from .checked import checked
+from .session import Session
+from .sets import sets_picture
 from .states import states_picture
 from .timeline import timeline_picture
+from .windows import windows_picture
 
 TOP = Path(__file__).resolve().parents[2]
 IMAGES = TOP / 'docs' / 'images'
@@ -27,7 +32,12 @@ def pictures() -> Dict[Path, str]:
     session = checked(str(sqlite / 'full.trace'), [str(sqlite / 'recover.sh')])
     check = [str(tutorial / 'check.py'), str(tutorial / 'kv.py'), *PUTS]
     toy = checked(str(tutorial / 'first.trace'), check)
+    modelled = Session(toy, tutorial / 'first.trace')
     return {
         IMAGES / 'sqlite-full.svg': states_picture(session),
         IMAGES / 'failing-state.svg': timeline_picture(toy, COMPACTION, VERDICT),
+        IMAGES / 'model.svg': sets_picture(modelled),
+        IMAGES / 'needs.svg': arrows_picture(modelled),
+        IMAGES / 'tools.svg': border_picture(),
+        IMAGES / 'windows.svg': windows_picture(),
     }

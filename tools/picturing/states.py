@@ -102,12 +102,13 @@ def rows_by_loss(drawing: Drawing) -> List[str]:
 
 def draw_key(picture: Picture) -> None:
     """Adds what rows, columns and colours are, in the corner that has no states."""
-    bottom, picture.y = picture.y, picture.y - 4 * LINE - 8
+    bottom, picture.y = picture.y, picture.y - 5 * LINE - 8
     for sign, (colour, words) in RESULTS.items():
         picture.parts.append(area(MARGIN, picture.y + 9, 11, 11, colour))
         picture.line(words, x=MARGIN + 18)
     picture.line('\u2192 how much of the session had begun', 'grey')
     picture.line('\u2193 the step that the crash lost (top: none)', 'grey')
+    picture.line('equal states are drawn at each of their places', 'grey')
     picture.y = bottom
 
 
@@ -115,13 +116,15 @@ def alternative(checked: Checked, drawing: Drawing) -> str:
     """What the picture shows, in words."""
     group = checked.report.groups()[0]
     assert group.lost is not None
+    failing = sum(one.count for one in checked.report.groups())
     signs = ''.join([*rows_of(drawing), *rows_by_loss(drawing)]).replace(' ', '')
     return (
-        f'Each of {len(signs):,} squares is a crash state. Columns are how much of the session had '
+        f'Each of {len(signs):,} squares is a crash state; equal states have several. Columns are '
+        'how much of the session had '
         'begun, and rows the step that the crash lost; the rows below have the states with other '
         f'losses. After each of the {len(acknowledged(checked))} acknowledged rows there is a red '
         f'row: the states that lost {group.lost.text}, and so that row. In all '
-        f'{signs.count("b"):,} squares are red.'
+        f'{signs.count("b"):,} squares are red, of {failing} different states.'
     )
 
 

@@ -25,6 +25,7 @@ FONTS = """text { font: 14px sans-serif; fill: var(--ink) }
 .code { font: 13px ui-monospace, Menlo, Consolas, monospace; white-space: pre }
 .title { font-weight: bold }
 .end { text-anchor: end }
+.middle { text-anchor: middle }
 """
 
 
@@ -44,6 +45,11 @@ def text(x: float, y: float, words: str, classes: str = '') -> str:
 
 def area(x: float, y: float, width: float, height: float, classes: str) -> str:
     return f'<rect x="{x:g}" y="{y:g}" width="{width:g}" height="{height:g}" class="{classes}"/>'
+
+
+def curve(steps: str, classes: str) -> str:
+    """A line along the steps of a path."""
+    return f'<path d="{steps}" class="{classes}"/>'
 
 
 @dataclass

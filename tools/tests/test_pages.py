@@ -16,18 +16,9 @@ TOP = TOOLS.parent
 DOCS = TOP / 'docs'
 PAGES = [TOP / 'README.md', *sorted(DOCS.rglob('*.md'))]
 README = (TOP / 'README.md').read_text('utf-8')
-MOST_LINES = 130
+MOST_LINES = 120
 BLOCK = re.compile(r'(?<=\n\n)(?:    .*\n|\n+(?=    ))+')
 UNPROVED = re.compile(r'^unproved: .*\n', re.M)
-# Commands of the README that no test runs, with the reason.
-NOT_RUN = {
-    'apt-get install git python3 strace': 'it needs root and a network',
-    'tools/test': 'it runs these tests',
-    'tools/build': 'it needs the toolchain, and 150 minutes of processor time',
-    'PATH="$PWD/crates/crashfs/out:$PATH"': 'it needs the proved program',
-    'sleep infinity | crashfs serve examples/start.trace --users examples/users '
-    '--listen localhost:5640': 'it needs the proved program; crates/serve_bench runs such servers',
-}
 # What a reader has in the place of these two: here the store of the tutorial, and its check.
 PUTS = 'a=1 a=2 compact b=3'
 STAND_INS = {
@@ -113,10 +104,6 @@ class Commands(InFolder):
         self.assertEqual(first[0], 'mkdir store')
         last = [self.printed(command) for command in first][-1]
         self.assertEqual(last, reports()['first.trace'].replace('first.trace', 'my.trace'))
-
-    def test_each_other_command_is_named_with_a_reason(self) -> None:
-        ran = {it for it in commands() if 'config.trace' in it} | set(commands()[:3])
-        self.assertEqual(set(commands()) - ran, set(NOT_RUN))
 
 
 class Figures(unittest.TestCase):

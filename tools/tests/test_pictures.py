@@ -48,8 +48,11 @@ class Pictures(unittest.TestCase):
                 is_code = 'code' in one.getAttribute('class')
                 width = len(one.firstChild.data) * (7.9 if is_code else 6.9)
                 place = float(one.getAttribute('x'))
-                at_end = 'end' in one.getAttribute('class').split()
-                self.assertLessEqual(width, place if at_end else WIDTH - place, one.toxml())
+                classes = one.getAttribute('class').split()
+                room = place if 'end' in classes else WIDTH - place
+                if 'middle' in classes:
+                    room, width = min(place, WIDTH - place), width / 2
+                self.assertLessEqual(width, room, one.toxml())
 
     def test_each_state_has_a_dash_of_its_colour(self) -> None:
         text = next(text for path, text in drawn().items() if path.name == 'sqlite-full.svg')
@@ -59,6 +62,27 @@ class Pictures(unittest.TestCase):
             cells = sum((int(step.partition('M')[0]) + 1) // 5 for step in steps)
             lengths[one.getAttribute('class').split()[1]] += cells
         self.assertEqual(lengths, {'good': 835 - 52, 'bad': 52})
+
+    def test_each_set_of_the_session_is_a_column(self) -> None:
+        text = next(text for path, text in drawn().items() if path.name == 'model.svg')
+        cells = [
+            one.getAttribute('class')
+            for one in minidom.parseString(text).getElementsByTagName('rect')
+            if one.getAttribute('class') in ('good', 'bad', 'none')
+        ]
+        # 14 micro-operations and 30 sets; two of 12 members fail.
+        self.assertEqual(len(cells), 14 * 30)
+        self.assertEqual(cells.count('bad'), 12 + 13)
+
+    def test_nothing_leads_from_the_last_row_to_the_rename(self) -> None:
+        text = next(text for path, text in drawn().items() if path.name == 'needs.svg')
+        self.assertIn('13 needs 11 (P5) and 12 (P5)', text)
+        self.assertIn('missing: nothing makes 13 need 10', text)
+
+    def test_the_second_window_begins_at_what_no_sync_made_durable(self) -> None:
+        text = next(text for path, text in drawn().items() if path.name == 'windows.svg')
+        self.assertIn('window 1 has 0 to 22; window 2 has 16 to 39;', text)
+        self.assertIn('Number 16 is never synced', text)
 
 
 class Parts(unittest.TestCase):

@@ -1,0 +1,66 @@
+"""A picture of the tools, what passes between them, and the border of what is proved."""
+
+from __future__ import annotations
+
+from typing import NamedTuple, Sequence
+
+from .svg import MARGIN, WIDTH, Picture, area, curve, text
+
+LEFT, WIDE, HIGH, GAP = 130, 200, 40, 38
+STYLE = """.box { fill: var(--paper); stroke: var(--grey) }
+.proved { fill: none; stroke: var(--good); stroke-width: 2.5; stroke-dasharray: 7 4 }
+.arrow { fill: none; stroke: var(--ink); stroke-width: 1.3 }
+"""
+ALTERNATIVE = (
+    'From top to bottom: your program runs under strace; crashfs-record turns its calls into a '
+    'trace; crashfs makes the crash states of the trace; crashfs-check lays each out as a '
+    'directory, runs your recovery in it, and writes the report. A border marks crashfs: what it '
+    'makes of a trace is proved. The other tools are Python, and tested.'
+)
+
+
+class Box(NamedTuple):
+    """A part of the tools: its name, what it is, and what it passes to the next one."""
+
+    name: str
+    about: str
+    passes: str
+
+
+BOXES: Sequence[Box] = (
+    Box('your program', 'under strace', 'system calls'),
+    Box('crashfs-record', 'Python, tested', 'a trace: a text file'),
+    Box('crashfs', 'Rattle, proved', 'states: trees of files'),
+    Box('crashfs-check', 'Python, tested', 'a directory for each state'),
+    Box('your recovery', 'in each state', 'good, or the cause'),
+    Box('the report', '', ''),
+)
+
+
+def draw_box(picture: Picture, box: Box) -> None:
+    """Adds a part, and an arrow from it with what it passes on."""
+    top, middle = picture.y, LEFT + WIDE / 2
+    picture.parts.append(area(LEFT, top, WIDE, HIGH, 'box'))
+    at = top + (17 if box.about else 25)
+    picture.parts.append(text(middle, at, box.name, 'title middle'))
+    if box.about:
+        picture.parts.append(text(middle, top + 34, box.about, 'grey middle'))
+    if box.passes:
+        steps = f'M{middle:g} {top + HIGH}v{GAP}m-4 -6l4 6l4 -6'
+        picture.parts.append(curve(steps, 'arrow'))
+        picture.parts.append(text(middle + 10, top + HIGH + 20, box.passes))
+    picture.y += HIGH + (GAP if box.passes else 0)
+
+
+def border_picture() -> str:
+    """The picture, as SVG."""
+    picture = Picture('The tools, and the border of what is proved', ALTERNATIVE)
+    picture.y = MARGIN + 4
+    for box in BOXES:
+        if box.name == 'crashfs':
+            frame = f'x="{MARGIN}" y="{picture.y - 8:g}" width="{WIDTH - 2 * MARGIN}"'
+            picture.parts.append(f'<rect {frame} height="{HIGH + 16}" rx="6" class="proved"/>')
+            picture.parts.append(text(MARGIN + 10, picture.y + 17, 'proved:', 'title'))
+            picture.parts.append(text(MARGIN + 10, picture.y + 34, 'by the rules'))
+        draw_box(picture, box)
+    return picture.svg(STYLE)
