@@ -11,17 +11,18 @@ from __future__ import annotations
 
 import argparse
 import json
-import multiprocessing
 import os
 import platform
 import sys
+from functools import partial
 from pathlib import Path
-from typing import Dict, Iterator, List, Optional, Set, Tuple
+from typing import Iterator, List, Optional, Set, Tuple
 
 from crashfs_tools.common.command import Refused
 from crashfs_tools.common.guard import Guard
 from crashfs_tools.disks.filesystems import lacking, named
 from crashfs_tools.disks.pool import become_worker
+from crashfs_tools.disks.workers import Workers
 
 from .disk_sessions import PROFILE_OF, SessionMaker, SessionResult, table, text_of
 from .random_sessions import session
@@ -74,10 +75,15 @@ class Run:
     def make(self, folder: str) -> None:
         """Makes the sessions that aren't there yet."""
         tasks = self.missing()
-        context = multiprocessing.get_context('fork')
-        start = (folder, self.names, self.words.operations, os.getpid())
-        with context.Pool(min(self.words.jobs, len(tasks)), begin_worker, start) as pool:
-            for count, result in enumerate(pool.imap_unordered(result_of, tasks), 1):
+        makers = {one.name: SessionMaker(one, folder) for one in named(self.names)}
+
+        def result_of(task: Task) -> SessionResult:
+            name, seed = task
+            return makers[name].result(seed, session(seed, self.words.operations))
+
+        begin = partial(become_worker, os.getpid())
+        with Workers(self.words.jobs, begin, result_of) as workers:
+            for count, result in enumerate(workers.results(tasks), 1):
                 self.keep(result)
                 print(f'\r{count} of {len(tasks)} sessions', end='', file=sys.stderr, flush=True)
         print(file=sys.stderr)
@@ -90,23 +96,6 @@ class Run:
             trace = session(result.seed, self.words.operations)
             name = f'{result.filesystem}-{result.seed}.trace'
             (self.words.dir / name).write_text(text_of(trace), 'utf-8')
-
-
-# The makers of this worker, by file system, and how many operations a session has.
-OF_WORKER: Dict[str, SessionMaker] = {}
-OPERATIONS: List[int] = []
-
-
-def begin_worker(folder: str, names: List[str], operations: int, parent: int) -> None:
-    become_worker(parent)
-    OPERATIONS.append(operations)
-    for one in named(names):
-        OF_WORKER[one.name] = SessionMaker(one, folder)
-
-
-def result_of(task: Task) -> SessionResult:
-    name, seed = task
-    return OF_WORKER[name].result(seed, session(seed, OPERATIONS[0]))
 
 
 def refuse(names: List[str]) -> Optional[str]:

@@ -11,12 +11,13 @@ from crashfs_tools.common.command import Refused
 from crashfs_tools.common.sparse import PAGE_BYTES, SparseBytes
 from crashfs_tools.common.trace import Start, StartLine, Trace, Write
 
-LOOP_CONTROL = '/dev/loop-control'
+from .loops import LOOP_CONTROL
+
 MEBIBYTE = 1 << 20
 # So many images of each file system a process has at once: the start, the disk, and its copy.
 IMAGES = 3
-# The programs that images are made and mounted by, besides `mkfs`.
-PROGRAMS = ('mount', 'fallocate')
+# The programs that images are made by, besides `mkfs`.
+PROGRAMS = ('fallocate',)
 EXT_BLOCKS = ('-q', '-F', '-b', '4096')
 LAZY = ('-E', 'lazy_itable_init=0,lazy_journal_init=0')
 

@@ -14,6 +14,7 @@ from crashfs_tools.common.command import Refused
 from crashfs_tools.common.file_bytes import data_ranges
 
 from .filesystems import FileSystem
+from .loops import attached
 
 CLONE_NEWNS = 0x00020000
 MS_REC, MS_PRIVATE = 0x4000, 0x40000
@@ -46,14 +47,23 @@ def dig_holes(image: str) -> None:
 
 @contextmanager
 def mounted(filesystem: FileSystem, image: str, point: str) -> Iterator[str]:
-    """Within this an image is mounted at a directory."""
+    """Within this an image is mounted at a directory. The loop device is free again when it is
+    unmounted."""
     os.makedirs(point, exist_ok=True)
-    options = ','.join(filter(None, (filesystem.options, 'loop')))
-    run(['mount', '-t', filesystem.kind, '-o', options, image, point])
+    with attached(image) as device:
+        mount(filesystem, device, point)
     try:
         yield point
     finally:
         unmount(point)
+
+
+def mount(filesystem: FileSystem, device: str, point: str) -> None:
+    """Mounts by the system call: the program `mount` takes four times as long."""
+    words = [os.fsencode(word) for word in (device, point, filesystem.kind, filesystem.options)]
+    if libc.mount(*words[:3], 0, words[3]):
+        why = os.strerror(ctypes.get_errno())
+        raise Refused(f'--disks: an image of {filesystem.name} can not be mounted: {why}')
 
 
 def unmount(point: str) -> None:

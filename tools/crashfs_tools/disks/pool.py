@@ -3,10 +3,10 @@
 from __future__ import annotations
 
 import ctypes
-import multiprocessing
 import os
 import resource
 import signal
+from functools import partial
 from typing import Callable, Dict, Iterator, List, NamedTuple, Sequence, Tuple
 
 from crashfs_tools.common.entry import Entries
@@ -18,6 +18,7 @@ from .disk import Crash, Disk, joined
 from .filesystems import FileSystem
 from .levers import Lever
 from .moments import Moment
+from .workers import Workers
 
 PR_SET_PDEATHSIG = 1
 Found = List[Tuple[Entries, Crash]]
@@ -53,32 +54,14 @@ class DiskPool:
         are done, and with how many there are."""
         tasks = self.tasks()
         found: Dict[str, Found] = {name: [] for name in self.makers}
-        context = multiprocessing.get_context('fork')
-        pool = context.Pool(min(jobs, len(tasks)), begin_worker, (self, os.getpid()))
-        try:
-            for count, (name, crashes) in enumerate(pool.imap_unordered(crashes_of, tasks), 1):
+        with Workers(jobs, partial(become_worker, os.getpid()), self.crash) as workers:
+            for count, (name, crashes) in enumerate(workers.results(tasks), 1):
                 found[name] += crashes
                 on_step(count, len(tasks))
-        finally:
-            pool.terminate()
-            pool.join()
         return {name: joined(in_order(crashes)) for name, crashes in found.items()}
 
     def crash(self, task: Task) -> Tuple[str, Found]:
         return task.name, list(self.makers[task.name].crashes(task.moment, self.levers))
-
-
-# The pool of this worker: it comes by the fork, and isn't sent with each task.
-OF_WORKER: List[DiskPool] = []
-
-
-def crashes_of(task: Task) -> Tuple[str, Found]:
-    return OF_WORKER[0].crash(task)
-
-
-def begin_worker(pool: DiskPool, parent: int) -> None:
-    OF_WORKER[:] = [pool]
-    become_worker(parent)
 
 
 def become_worker(parent: int) -> None:
