@@ -12,8 +12,12 @@ LISTED = TOP / 'tools' / 'tests' / 'data' / 'public_calls.txt'
 PAGE = TOP / 'docs' / 'internals' / 'ARCHITECTURE.md'
 
 
+# What the table says of names that a crate doesn't have itself.
+ELSEWHERE = re.compile(r'((?:`\w+`(?:, )?)+)(?: in (\w+))?(?: is `(\w+)`)?')
+
+
 class Row(NamedTuple):
-    """A row of the table: names that one expects in a crate, and where they are."""
+    """A part of a row: names that one expects in a crate, and where they are."""
 
     crate: str
     names: List[str]
@@ -22,14 +26,19 @@ class Row(NamedTuple):
 
 
 def rows_of(page: str) -> List[Row]:
-    """The rows of the table of the public surface."""
+    """What the table of the public surface says, by names that are in one place."""
     section = page.split('## The public surface', 1)[1].split('\n## ', 1)[0]
     rows = []
     for line in section.splitlines():
         cells = [cell.strip() for cell in line.strip('|').split('|')]
-        if len(cells) == 5 and cells[0].startswith('cs_'):
-            names, called = (re.findall('`([^`]+)`', cells[place]) for place in (1, 3))
-            rows.append(Row(cells[0], names, cells[2], called or names))
+        if len(cells) == 3 and cells[0].startswith('cs_'):
+            crate, own = cells[0], re.findall('`([^`]+)`', cells[1])
+            rows.append(Row(crate, own, crate, own))
+            for part in filter(None, cells[2].split('; ')):
+                found = ELSEWHERE.match(part)
+                assert found is not None, part
+                names = re.findall(r'\w+', found[1])
+                rows.append(Row(crate, names, found[2] or crate, [found[3]] if found[3] else names))
     return rows
 
 
