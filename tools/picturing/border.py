@@ -58,8 +58,8 @@ def border_picture() -> str:
     picture.y = MARGIN + 4
     for box in BOXES:
         if box.name == 'crashfs':
-            frame = f'x="{MARGIN}" y="{picture.y - 8:g}" width="{WIDTH - 2 * MARGIN}"'
-            picture.parts.append(f'<rect {frame} height="{HIGH + 16}" rx="6" class="proved"/>')
+            frame = f'x="{MARGIN}" y="{picture.y - 6:g}" width="{WIDTH - 2 * MARGIN}"'
+            picture.parts.append(f'<rect {frame} height="{HIGH + 12}" rx="6" class="proved"/>')
             picture.parts.append(text(MARGIN + 10, picture.y + 17, 'proved:', 'title'))
             picture.parts.append(text(MARGIN + 10, picture.y + 34, 'by the rules'))
         draw_box(picture, box)
