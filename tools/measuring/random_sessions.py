@@ -74,7 +74,7 @@ class Session:
             self.trace.start.append(StartSymlink('/e/c', *ROOT, 'a'))
         self.tree = tree_of(self.trace)
         for line in self.trace.start:
-            self.tree.start(line)
+            self.tree.add_start(line)
 
     def chance(self, times: int) -> bool:
         """Once in so many times."""

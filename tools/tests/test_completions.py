@@ -61,7 +61,7 @@ class OfProgram(unittest.TestCase):
 
     def help_of(self, *words: str) -> str:
         assert FOUND is not None
-        return FOUND.text([*words, '--help'])
+        return FOUND.output_of([*words, '--help'])
 
     def printed_options(self, command: str) -> Dict[str, Tuple[str, str, Tuple[str, ...]]]:
         """Each option of a command's help: its value, its help, the values that are known."""

@@ -92,8 +92,8 @@ class Planning(InFolder):
 class Printing(Reader):
     """A program that prints profiles: it says that the set of the first place is no ordered one."""
 
-    def text(self, words: List[str], _environment: Any = None) -> str:
-        lines = super().text(words).splitlines()
+    def output_of(self, words: List[str], _environment: Any = None) -> str:
+        lines = super().output_of(words).splitlines()
         if words[0] != 'list':
             return '\n'.join(lines)
         found = []

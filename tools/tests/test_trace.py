@@ -211,9 +211,9 @@ class Traces(unittest.TestCase):
 
     def test_an_operation_that_the_program_would_refuse_is_a_fault(self):
         tree = Tree('u', 'u', 0o755)
-        tree.start(Start('/d', 'u', 'u', 0o755, None))
-        tree.start(Start('/d/f', 'u', 'u', 0o644, b''))
-        tree.start(StartLink('/d/g', '/d/f'))
+        tree.add_start(Start('/d', 'u', 'u', 0o755, None))
+        tree.add_start(Start('/d/f', 'u', 'u', 0o644, b''))
+        tree.add_start(StartLink('/d/g', '/d/f'))
         deep = '/d' * (limits.PATH_NAMES + 1)
         for operation, told in [
             (Creat('/d/f', 'u', 'u', 0), 'there already'),

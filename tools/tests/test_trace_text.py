@@ -8,7 +8,7 @@ from crashfs_tools.common.trace import Creat, Say, TraceError
 from crashfs_tools.common.trace_read import read_numbered
 from crashfs_tools.common.trace_text import (
     fields_of_lines,
-    has_much,
+    is_large_trace,
     read_text,
     root_owner,
     with_syncs,
@@ -71,7 +71,7 @@ class Much(unittest.TestCase):
             ([HEADER, grown, grown], True),
             ([HEADER, '{"op":"say","text":"' + 'x' * 1000 + '"}'], True),
         ):
-            self.assertEqual(has_much(lines, 2, 1_000), expected, lines)
+            self.assertEqual(is_large_trace(lines, 2, 1_000), expected, lines)
 
 
 if __name__ == '__main__':

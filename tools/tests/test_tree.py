@@ -27,8 +27,8 @@ from crashfs_tools.common.tree import Tree, start_lines
 def small_tree() -> Tree:
     """A tree with a file of two paths, one of one path, and a directory."""
     tree = Tree('r', 'g', 0o755)
-    tree.start(Start('/a', 'u', 'g', 0o644, b'one'))
-    tree.start(StartLink('/b', '/a'))
+    tree.add_start(Start('/a', 'u', 'g', 0o644, b'one'))
+    tree.add_start(StartLink('/b', '/a'))
     for operation in (Mkdir('/d', 'u', 'g', 0o700), Creat('/d/f', 'u', 'g', 0o600)):
         tree.apply(operation)
     return tree
@@ -38,7 +38,7 @@ class Links(unittest.TestCase):
     def test_a_write_shows_at_each_path_of_its_file_and_at_no_other(self) -> None:
         tree = small_tree()
         start = Start('/c', 'u', 'g', 0o644, b'one')
-        tree.start(start)
+        tree.add_start(start)
         tree.apply(Write('/b', 3, b'more'))
         shown = {path: entry.data for path, entry in tree.entries.items()}
         self.assertEqual((shown['/a'], shown['/b'], shown['/c']), (b'onemore', b'onemore', b'one'))
@@ -66,9 +66,9 @@ def tree_4(profile: str) -> Tree:
     """A tree of version 4 with two directories, a file in each and a symbolic link."""
     tree = Tree('r', 'g', 0o755, 512, 4, profile)
     for path in ('/d', '/e'):
-        tree.start(Start(path, 'u', 'g', 0o755, None))
-    tree.start(Start('/d/f', 'u', 'g', 0o644, b'x' * 5000))
-    tree.start(StartSymlink('/e/l', 'u', 'g', 'f'))
+        tree.add_start(Start(path, 'u', 'g', 0o755, None))
+    tree.add_start(Start('/d/f', 'u', 'g', 0o644, b'x' * 5000))
+    tree.add_start(StartSymlink('/e/l', 'u', 'g', 'f'))
     return tree
 
 

@@ -74,7 +74,7 @@ class Reader:
                 picks = read_picks(file.read())
         return plan_of(reading, '--holes' in options, picks)
 
-    def text(self, words, _environment=None):
+    def output_of(self, words, _environment=None):
         """What the program would print."""
         options = read_options(words)
         try:
@@ -254,7 +254,7 @@ class Cuts(InWindows):
         text += 3 * (write('/big', 40_960) + sync('/big')) + log_of(4).partition(sync('/'))[2]
         for states, begins in ((93, [0, 17, 28, 38]), (94, [0, 10, 28, 38])):
             with mock.patch.object(limits, 'STATES', states), mock.patch.object(
-                Reader, 'text', autospec=True, side_effect=Reader.text
+                Reader, 'output_of', autospec=True, side_effect=Reader.output_of
             ) as asked:
                 _, results = self.windows(text, 60)
             plans = [call for call in asked.mock_calls if '--holes' in call.args[1]]

@@ -11,7 +11,7 @@ from typing import List, Optional
 
 from crashfs_tools.common.command import (
     Refused,
-    folder_of,
+    folder_to_write,
     print_line,
     standard_output,
     write_whole,
@@ -85,7 +85,7 @@ def run_campaign(arguments: List[str]) -> int:
     try:
         options = read_options(arguments)
         if options.html is not None:
-            folder_of(options.html)
+            folder_to_write(options.html)
         campaign = Campaign(options)
     except Refused as refused:
         print_line(NAME, str(refused))

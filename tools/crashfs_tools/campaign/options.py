@@ -9,7 +9,7 @@ import shlex
 from dataclasses import dataclass
 from typing import List, Optional, Tuple
 
-from crashfs_tools.common.command import Refused, found, halves, parse
+from crashfs_tools.common.command import Refused, with_program_path, split_command, parse
 from crashfs_tools.common.version import version_of
 
 NAME = 'crashfs-campaign'
@@ -99,15 +99,15 @@ def parser() -> argparse.ArgumentParser:
 
 def read_options(arguments: List[str]) -> CampaignOptions:
     values, commands = parse(parser(), arguments)
-    session, recovery = halves(commands)
+    session, recovery = split_command(commands)
     if not session or not recovery:
         parser().error('two commands are needed: -- SESSION [ARG].. -- RECOVERY [ARG]..')
     if values.start is not None and not os.path.isdir(values.start):
         raise Refused(f'{values.start} is no directory')
     return CampaignOptions(
         values.results,
-        found(session),
-        found(recovery),
+        with_program_path(session),
+        with_program_path(recovery),
         values.seeds,
         values.start and os.path.abspath(values.start),
         shlex.split(values.record),

@@ -16,8 +16,8 @@ from crashfs_tools.checker.running.runner import keep_descriptors
 from crashfs_tools.checker.states.plan import PlanError
 from crashfs_tools.common.command import (
     Refused,
-    folder_of,
-    found,
+    folder_to_write,
+    with_program_path,
     print_line,
     standard_output,
     write_whole,
@@ -47,7 +47,7 @@ def check(options: Options) -> int:
 
         need(options.disks)
     program = Crashfs.find_or_read(options.crashfs, options.unproved)
-    options.command = found(options.command)
+    options.command = with_program_path(options.command)
     keep_descriptors()
     with Guard('crashfs-check-') as guard:
         checking = Checking(options, program, guard)
@@ -69,7 +69,7 @@ def refuse_outputs(options: Options) -> None:
     """Refuses files that can't be written, or that would be written over TRACE or each other."""
     taken = {} if options.trace is None else {os.path.realpath(options.trace): 'TRACE'}
     for name, path in outputs_of(options).items():
-        folder_of(path)
+        folder_to_write(path)
         other = taken.setdefault(os.path.realpath(path), name)
         is_device = path != '-' and os.path.exists(path) and not os.path.isfile(path)
         if other != name and not is_device:

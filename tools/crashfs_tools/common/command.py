@@ -28,8 +28,8 @@ class Refused(Exception):
     """Bad input: one line that says what is wrong."""
 
 
-def halves(words: List[str]) -> Tuple[List[str], List[str]]:
-    """The words before the first `--`, and COMMAND behind it."""
+def split_command(words: List[str]) -> Tuple[List[str], List[str]]:
+    """The words before the first `--`, and COMMAND, which is after it."""
     if '--' not in words:
         return words, []
     place = words.index('--')
@@ -40,13 +40,13 @@ def parse(
     parser: argparse.ArgumentParser, words: List[str]
 ) -> Tuple[argparse.Namespace, List[str]]:
     """The options and arguments before the first `--`, and COMMAND."""
-    before, command = halves(words)
+    before, command = split_command(words)
     shown = io.StringIO()
     try:
         with redirect_stdout(shown):
             values, more = parser.parse_known_args(before)
     except SystemExit:
-        print_shown(parser.prog, shown.getvalue())
+        print_help(parser.prog, shown.getvalue())
         raise
     if more and not command and not more[0].startswith('-'):
         parser.error(f'put -- before COMMAND ({more[0]})')
@@ -55,8 +55,8 @@ def parse(
     return values, command
 
 
-def print_shown(program: str, text: str) -> None:
-    """Prints what --help shows: argparse itself fails, or says nothing, if it can't."""
+def print_help(program: str, text: str) -> None:
+    """Prints what --help shows. argparse itself would fail, or print nothing, if it can't."""
     try:
         with standard_output():
             print(text, end='')
@@ -65,8 +65,9 @@ def print_shown(program: str, text: str) -> None:
         raise SystemExit(NOT_PRINTED) from error
 
 
-def found(command: List[str]) -> List[str]:
-    """COMMAND with its program's whole path: it is started in another directory."""
+def with_program_path(command: List[str]) -> List[str]:
+    """COMMAND with the whole path of its program, since it is started in another directory; Refused
+    if there is no such program."""
     name = command[0]
     path = shutil.which(name)
     if path is None:
@@ -81,8 +82,8 @@ def relative_arguments(command: List[str]) -> List[str]:
     return [word for word in command[1:] if not os.path.isabs(word) and os.path.exists(word)]
 
 
-def folder_of(path: str) -> str:
-    """The directory of a file that will be written; Refused where it can be seen that it won't."""
+def folder_to_write(path: str) -> str:
+    """The directory of a file that will be written; Refused if it can't be written."""
     folder = os.path.dirname(os.path.realpath(path))
     if not os.path.isdir(folder):
         raise Refused(f'{path}: its directory is not there')
@@ -181,8 +182,8 @@ def standard_output() -> Iterator[None]:
             raise OSError(error.errno, error.strerror, 'standard output') from error
 
 
-def ended(status: int) -> str:
-    """How a process ended, from the status that Popen has."""
+def ending_text(status: int) -> str:
+    """How a process ended, in words, from the status that Popen has."""
     if status >= 0:
         return f'ended with status {status}'
     try:

@@ -67,6 +67,7 @@ def children_by_parents(process: int) -> Set[int]:
 
 
 def processes() -> Iterator[int]:
+    """The numbers of all processes."""
     return (int(name) for name in os.listdir('/proc') if name.isdigit())
 
 
@@ -133,12 +134,12 @@ def kill(child: int) -> None:
     except OSError:
         return
     if session != os.getsid(0) and group > 1:
-        attempt(os.killpg, group)
-    attempt(os.kill, child)
+        send_kill(os.killpg, group)
+    send_kill(os.kill, child)
 
 
-def attempt(send: Callable[[int, int], None], target: int) -> None:
-    """Sends a kill, which another user's process refuses."""
+def send_kill(send: Callable[[int, int], None], target: int) -> None:
+    """Kills a process or a group by `send`, unless it is another user's or is gone."""
     try:
         send(target, signal.SIGKILL)
     except OSError:
@@ -153,6 +154,6 @@ def reap(child: int) -> bool:
         return True
 
 
-def shown(left: Dict[int, str]) -> str:
-    """Processes as a report names them."""
+def processes_text(left: Dict[int, str]) -> str:
+    """Processes in words, each by its number and its program."""
     return ', '.join(f'{process} ({name})' for process, name in sorted(left.items()))

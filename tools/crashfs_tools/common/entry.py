@@ -31,7 +31,7 @@ class Entry:
     def write(self, at: int, data: bytes) -> None:
         """Puts bytes into a file, in place. It grows if they end past its end."""
         end = at + len(data)
-        whole = self.growing(end)
+        whole = self.bytes_to_change(end)
         if isinstance(whole, SparseBytes):
             whole.write(at, data)
             return
@@ -40,16 +40,16 @@ class Entry:
 
     def resize(self, length: int) -> None:
         """Cuts the bytes of a file, or adds zeros, in place."""
-        whole = self.growing(length)
+        whole = self.bytes_to_change(length)
         if isinstance(whole, SparseBytes):
             whole.resize(length)
             return
         del whole[length:]
         whole.extend(bytes(length - len(whole)))
 
-    def growing(self, length: int = 0) -> Union[bytearray, SparseBytes]:
-        """The bytes of a file that gets a length, to be changed in place: of a large file without
-        its pages of zeros."""
+    def bytes_to_change(self, length: int = 0) -> Union[bytearray, SparseBytes]:
+        """The bytes of a file that may get this length, to be changed in place: of a large file
+        without its pages of zeros."""
         if length > limits.FILE_BYTES and not isinstance(self.data, SparseBytes):
             self.data = SparseBytes.of(bytes(self.data or b''))
         if not isinstance(self.data, (bytearray, SparseBytes)):
@@ -61,4 +61,5 @@ Entries = Dict[str, Entry]
 
 
 def parent_of(path: str) -> str:
+    """The path of the directory that has a path's last name."""
     return path.rpartition('/')[0] or '/'

@@ -54,7 +54,7 @@ class Guard:
         self.watcher = os.fork()
         if self.watcher == 0:
             os.close(self.alive)
-            self.watch(waiting)
+            self.run_watcher(waiting)
         signal.pthread_sigmask(signal.SIG_SETMASK, before)
         os.close(waiting)
         return self
@@ -79,7 +79,7 @@ class Guard:
             self.left.update(descendants.end_children({self.watcher, *self.left, *spared}))
         return self.left
 
-    def signal(self, number: int, spared: int) -> int:
+    def send_signal(self, number: int, spared: int) -> int:
         """Sends a signal to all that came of this process or was started with the environment, but
         for one process, and returns to how many."""
         sent = 0
@@ -104,7 +104,7 @@ class Guard:
             if os.path.lexists(path):
                 print_line(self.prefix.rstrip('-'), f'{path} could not be removed')
 
-    def watch(self, waiting: int) -> None:
+    def run_watcher(self, waiting: int) -> None:
         """The second process: it never returns."""
         try:
             for number in STOPS:
@@ -164,7 +164,7 @@ def end_bearers(token: str) -> None:
         is_late = time.monotonic() > begun + descendants.CLEANING_SECONDS
         for process in found:
             if is_late or descendants.name_of(process) != descendants.CLEANER:
-                descendants.attempt(os.kill, process)
+                descendants.send_kill(os.kill, process)
         time.sleep(0.01)
 
 

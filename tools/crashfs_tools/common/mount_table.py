@@ -40,22 +40,25 @@ class MountTable:
     def unmount(self, points: Mapping[int, str]) -> List[str]:
         """Unmounts what is there, the last one first, also if it is in use. Returns what stays."""
         for point in reversed(list(points.values())):
-            any(succeeds([*words, point]) for words in UNMOUNTS)
+            any(run_quietly([*words, point]) for words in UNMOUNTS)
         left = self.below('/')
         return [point for number, point in points.items() if left.get(number) == point]
 
 
 def read_points() -> Dict[int, str]:
+    """The mount points that the system has now, by number."""
     with open(TABLE, 'rb') as lines:
         fields = [line.split(b' ') for line in lines]
-    return {int(one[0]): os.fsdecode(OCTAL.sub(letter, one[4])) for one in fields}
+    return {int(one[0]): os.fsdecode(OCTAL.sub(byte_of_escape, one[4])) for one in fields}
 
 
-def letter(match: re.Match[bytes]) -> bytes:
+def byte_of_escape(match: re.Match[bytes]) -> bytes:
+    """The byte of an escape, such as `\\040` for a blank."""
     return bytes([int(match[1], 8)])
 
 
-def succeeds(words: List[str]) -> bool:
+def run_quietly(words: List[str]) -> bool:
+    """Runs a command without its output, and returns whether it succeeded."""
     try:
         ran = subprocess.run(
             words,

@@ -17,7 +17,7 @@ from itertools import groupby
 from typing import Any, Dict, FrozenSet, Iterator, List, Optional, Tuple
 
 from .archive import ArchiveFault, Member, members
-from .command import Refused, ended
+from .command import Refused, ending_text
 from .entry import Entries
 
 PACKAGE = os.path.dirname(os.path.dirname(os.path.realpath(__file__)))
@@ -54,7 +54,11 @@ class ProgramFault(Exception):
         self.text = error_text.decode('utf-8', 'replace').strip()
         lines = self.text.splitlines()
         # A command line parser prints its usage after its first line.
-        line = lines[0 if status == UNKNOWN_OPTION else -1] if lines else f'crashfs {ended(status)}'
+        line = (
+            lines[0 if status == UNKNOWN_OPTION else -1]
+            if lines
+            else f'crashfs {ending_text(status)}'
+        )
         super().__init__(line)
         self.status = status
 
@@ -91,17 +95,17 @@ class Crashfs:
 
     def for_version(self, version: int) -> Crashfs:
         """This program, or the second reading if the program takes no traces of a version."""
-        if self.unproved or version < NEW_VERSION or self.takes(version):
+        if self.unproved or version < NEW_VERSION or self.reads_version(version):
             return self
         return Crashfs(READING, unproved=True, refused_version=version)
 
-    def takes(self, version: int) -> bool:
-        """Whether the program takes traces of a version: it is given one that has no lines."""
+    def reads_version(self, version: int) -> bool:
+        """Whether the program reads traces of a version: it is given one that has no lines."""
         with tempfile.NamedTemporaryFile('w', suffix='.trace') as file:
             file.write(EMPTY_TRACE % version)
             file.flush()
             try:
-                self.text(['list', '--trace', file.name])
+                self.output_of(['list', '--trace', file.name])
             except ProgramFault as fault:
                 return REFUSED not in fault.text
         return True
@@ -110,7 +114,7 @@ class Crashfs:
     def has_changes(self) -> bool:
         """Whether it has `tar --changes`."""
         try:
-            return '--changes' in self.text(['tar', '--help'])
+            return '--changes' in self.output_of(['tar', '--help'])
         except ProgramFault:
             return False
 
@@ -118,13 +122,13 @@ class Crashfs:
     def picks_options(self) -> FrozenSet[str]:
         """The options of its `picks`; none of the second reading, which is asked in another way."""
         try:
-            shown = '' if self.unproved else self.text(['picks', '--help'])
+            shown = '' if self.unproved else self.output_of(['picks', '--help'])
         except ProgramFault:
             shown = ''
         return frozenset(re.findall(r'--[a-z]+', shown))
 
-    def text(self, words: List[str], environment: Optional[Dict[str, str]] = None) -> str:
-        """What a command prints; ProgramFault where its status isn't 0."""
+    def output_of(self, words: List[str], environment: Optional[Dict[str, str]] = None) -> str:
+        """The standard output of a command; ProgramFault if its status isn't 0."""
         child = self.start(words, environment)
         out, error_text = child.communicate()
         if child.returncode != 0:
@@ -171,14 +175,14 @@ class Crashfs:
             fault = None
         error_text = read_to_end(child, streams)
         if child.returncode != 0 or fault is not None:
-            how = f'crashfs tar {ended(child.returncode)}'
+            how = f'crashfs tar {ending_text(child.returncode)}'
             raise ProgramFault(
                 child.returncode, error_text or (f'{how}; {fault}' if fault else how).encode()
             )
 
-    def states(self, trace: str, holes: bool = True) -> int:
+    def count_states(self, trace: str, holes: bool = True) -> int:
         """How many states a trace has: its prefixes, and with a hole each."""
-        lines = self.text(['list', '--trace', trace, *(['--holes'] if holes else [])])
+        lines = self.output_of(['list', '--trace', trace, *(['--holes'] if holes else [])])
         last = lines.rstrip('\n').rpartition('\n')[2].split(' ')
         if last[0] != 'state' or not last[1:2] or not last[1].isdigit():
             raise ProgramFault(0, b'crashfs: what it printed is no list')

@@ -155,12 +155,12 @@ def parts_of(begin: int, data: bytes) -> Iterator[Part]:
     """The parts of some bytes that are at a place."""
     at = 0
     for gap in GAP.finditer(data):
-        yield from stripped(begin + at, data[at : gap.start()])
+        yield from without_edge_zeros(begin + at, data[at : gap.start()])
         at = gap.end()
-    yield from stripped(begin + at, data[at:])
+    yield from without_edge_zeros(begin + at, data[at:])
 
 
-def stripped(at: int, data: bytes) -> Iterator[Part]:
+def without_edge_zeros(at: int, data: bytes) -> Iterator[Part]:
     """A part without zeros at its edges, if anything is left; long texts in it are parts."""
     left = data.strip(b'\0')
     at, end = at + len(data) - len(data.lstrip(b'\0')), 0

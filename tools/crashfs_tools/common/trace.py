@@ -232,7 +232,7 @@ class Trace:
     block: int = BLOCK_SIZES[-1]
     notes: Dict[int, str] = field(default_factory=dict)
 
-    def has(self, kind: Type[Any]) -> bool:
+    def has_kind(self, kind: Type[Any]) -> bool:
         """Whether the trace's version has a kind of line."""
         return SINCE.get(kind, 1) <= self.version
 
@@ -245,6 +245,7 @@ class Trace:
             yield as_json(self.operation_values(place, operation))
 
     def version_values(self) -> Dict[str, Any]:
+        """The keys and values with which the header begins."""
         values: Dict[str, Any] = {'trace': self.version}
         if self.version >= 2:
             values['profile'] = self.profile
@@ -253,6 +254,7 @@ class Trace:
         return values
 
     def operation_values(self, place: int, operation: Operation) -> Dict[str, Any]:
+        """The keys and values of an operation's line."""
         if self.version < SINCE[Fdatasync] and isinstance(operation, Fdatasync):
             operation = FsyncRange(operation.path, 0, limits.FILE_BYTES)
         values = {'op': KIND_OF[type(operation)], **values_of(operation, self.version)}
@@ -266,7 +268,8 @@ class Trace:
 
 
 def start_line(entry: StartLine, version: int) -> str:
-    values = values_of(in_parts(entry) if version >= 4 else entry, version)
+    """A start line of a version, as JSON."""
+    values = values_of(in_parts_if_shorter(entry) if version >= 4 else entry, version)
     if isinstance(entry, StartLink):
         return as_json({'start': 'link', **values})
     if isinstance(entry, StartSymlink):
@@ -276,7 +279,7 @@ def start_line(entry: StartLine, version: int) -> str:
     return as_json({'start': 'file', **values})
 
 
-def in_parts(entry: StartLine) -> StartLine:
+def in_parts_if_shorter(entry: StartLine) -> StartLine:
     """A start line whose file is written in parts, if that is shorter."""
     if not isinstance(entry, Start) or not isinstance(entry.data, bytes):
         return entry

@@ -53,8 +53,8 @@ class TraceLine(NamedTuple):
         return f'{text}, {self.details}' if self.details else text
 
     @property
-    def kind(self) -> str:
-        """What lines of the same statement of a program have in common."""
+    def statement(self) -> str:
+        """Equal for the lines that one statement of a program makes, however often it runs."""
         return ' '.join([self.word, without_numbers(self.path), without_numbers(self.target)])
 
     def is_apart_from(self, other: TraceLine) -> bool:
@@ -90,6 +90,7 @@ def line_in_words(number: int, fields: Dict[str, Any]) -> TraceLine:
 
 
 def details_of(fields: Dict[str, Any]) -> str:
+    """What a line says besides its paths, but for the bytes."""
     if fields['op'] == 'say':
         text: str = fields['text']
         return text if len(text) <= LARGEST_SAY else f'{text[:LARGEST_SAY]}..'

@@ -49,7 +49,7 @@ def replay(lines: Iterable[str]) -> Tree:
     for number, trace in read_lines(lines):
         tree = tree or tree_of(trace)
         while trace.start:
-            tree.start(trace.start.pop())
+            tree.add_start(trace.start.pop())
         while trace.operations:
             operation = trace.operations.pop()
             fault = tree.fault(operation)
@@ -104,7 +104,7 @@ def profiles_of(version: int) -> Tuple[str, ...]:
 def read_line(trace: Trace, fields: Dict[str, Any]) -> None:
     note = fields.pop('note', None) if trace.version >= 3 else None
     made = kind_of(fields)
-    if not trace.has(made):
+    if not trace.has_kind(made):
         raise ValueError(f'{fields} in a trace of version {trace.version}')
     item: Any = made(**read_values(fields, made, trace.version))
     if 'start' in fields:

@@ -23,7 +23,7 @@ class TraceText(NamedTuple):
 
 
 def fields_of_line(number: int, line: str) -> Any:
-    """What the JSON of a line says; TraceError if it is no JSON."""
+    """The value that the JSON of a line has; TraceError if it is no JSON."""
     try:
         return json.loads(line)
     except ValueError as error:
@@ -84,7 +84,7 @@ def without_says(text: str) -> str:
     return '\n'.join(line for number, line in enumerate(lines, 1) if number not in says)
 
 
-def has_much(lines: Iterable[str], most_entries: int, most_bytes: int) -> bool:
+def is_large_trace(lines: Iterable[str], most_entries: int, most_bytes: int) -> bool:
     """Whether a trace has so many start lines, or so many bytes in its lines and in what they make
     files grow to."""
     entries = size = 0

@@ -72,20 +72,22 @@ class Tree:
     def micro_operations(self) -> int:
         return self.steps_of_all + (self.steps_of_version_4 if self.version >= 4 else 0)
 
-    def start(self, entry: StartLine) -> None:
+    def add_start(self, entry: StartLine) -> None:
+        """Adds what a start line says."""
         if isinstance(entry, StartLink):
-            self.link(entry.source, entry.path)
+            self.add_link(entry.source, entry.path)
         elif isinstance(entry, StartSymlink):
-            self.make(entry.path, symlink_of(entry))
+            self.add_new(entry.path, symlink_of(entry))
         else:
             data = entry.data.copy() if isinstance(entry.data, SparseBytes) else entry.data
-            self.make(entry.path, Entry(entry.owner, entry.group, entry.mode, data))
+            self.add_new(entry.path, Entry(entry.owner, entry.group, entry.mode, data))
 
-    def make(self, path: str, entry: Entry) -> None:
+    def add_new(self, path: str, entry: Entry) -> None:
+        """Adds a new file, directory or symbolic link."""
         self.entries[path], self.files[path] = entry, self.records
         self.records += 1
 
-    def link(self, source: str, target: str) -> None:
+    def add_link(self, source: str, target: str) -> None:
         """Gives a file another path."""
         self.entries[target], self.files[target] = self.entries[source], self.files[source]
         self.records += 1
@@ -111,6 +113,7 @@ class Tree:
         return None
 
     def new_fault(self, path: str) -> Optional[str]:
+        """Why nothing can be made at a path."""
         parent = self.entries.get(parent_of(path))
         if parent is None or not parent.is_directory:
             return f'{parent_of(path)} is no directory of the trace'
@@ -121,12 +124,14 @@ class Tree:
         return path_fault(path)
 
     def unlink_fault(self, path: str) -> Optional[str]:
+        """Why a path can't be unlinked."""
         entry = self.entries.get(path)
         if entry is None:
             return f'{path} is not there'
         return f'{path} is a directory' if entry.is_directory else None
 
     def file_fault(self, path: str) -> Optional[str]:
+        """Why a path is no file that has bytes."""
         return self.unlink_fault(path) or self.link_fault(path)
 
     def rights_fault(self, operation: Union[Chmod, Chown, Fsync]) -> Optional[str]:
@@ -165,18 +170,20 @@ class Tree:
 
     def records_fault(self, operation: Rename) -> Optional[str]:
         """Why there is no room for a rename, which counts if it goes into another directory."""
-        is_counted = self.version >= 4 and self.goes_elsewhere(operation)
+        is_counted = self.version >= 4 and self.changes_directory(operation)
         if is_counted and self.records >= limits.RECORDS:
             return f'more than {limits.RECORDS} files and directories'
         return None
 
-    def goes_elsewhere(self, operation: Rename) -> bool:
-        """Whether a rename is one into another directory that isn't nothing."""
+    def changes_directory(self, operation: Rename) -> bool:
+        """Whether a rename moves something into another directory; onto the same file it moves
+        nothing."""
         source, target = operation.source, operation.target
         is_nothing = self.files[source] == self.files.get(target)
         return parent_of(source) != parent_of(target) and not is_nothing
 
     def rmdir_fault(self, path: str) -> Optional[str]:
+        """Why a path is no empty directory."""
         entry = self.entries.get(path)
         if entry is None or not entry.is_directory:
             return f'{path} is no directory of the trace'
@@ -185,6 +192,7 @@ class Tree:
         return f'{path} has entries' if full else None
 
     def size_fault(self, operation: Operation) -> Optional[str]:
+        """Why a file can't get the size that an operation gives it."""
         end, most = 0, limits.file_bytes(self.version)
         if isinstance(operation, Write):
             end = operation.offset + len(operation.data) if operation.data else 0
@@ -199,25 +207,25 @@ class Tree:
         if isinstance(operation, (Creat, Mkdir)):
             data = b'' if isinstance(operation, Creat) else None
             entry = Entry(operation.owner, operation.group, operation.mode, data)
-            self.make(operation.path, entry)
+            self.add_new(operation.path, entry)
         elif isinstance(operation, Symlink):
-            self.make(operation.path, symlink_of(operation))
+            self.add_new(operation.path, symlink_of(operation))
         elif isinstance(operation, (Unlink, Rmdir)):
             del self.entries[operation.path], self.files[operation.path]
         elif isinstance(operation, Link):
-            self.link(operation.source, operation.target)
+            self.add_link(operation.source, operation.target)
         elif isinstance(operation, Rename):
-            self.rename(operation)
-        self.steps_of_all += self.steps(operation)
+            self.apply_rename(operation)
+        self.steps_of_all += self.apply_in_place(operation)
 
-    def rename(self, operation: Rename) -> None:
-        """A rename onto another path of the same file, or of a directory onto itself, does
-        nothing."""
+    def apply_rename(self, operation: Rename) -> None:
+        """Renames, with what is below a directory. A rename onto another path of the same file, or
+        of a directory onto itself, does nothing."""
         source, target = operation.source, operation.target
         if self.files[source] == self.files.get(target):
             return
         is_directory = self.entries[source].is_directory
-        if self.goes_elsewhere(operation):
+        if self.changes_directory(operation):
             self.records += self.version >= 4
             self.steps_of_version_4 += self.profile == BLOCKS and not is_directory
         below = source + '/'
@@ -228,18 +236,18 @@ class Tree:
             self.files[moved] = self.files.pop(path)
         self.steps_of_all += 1
 
-    def steps(self, operation: Operation) -> int:
-        """The number of micro-operations in all versions, with the bytes of a write or truncate put
-        in place, and the rights of a chmod or chown."""
+    def apply_in_place(self, operation: Operation) -> int:
+        """Changes bytes, length or rights as an operation does that changes no names. Returns how
+        many micro-operations the operation has in all versions, but for a rename."""
         if isinstance(operation, Write):
-            return self.write(operation)
+            return self.apply_write(operation)
         if isinstance(operation, Truncate):
-            return self.truncate(operation)
+            return self.apply_truncate(operation)
         if isinstance(operation, (Chmod, Chown)):
             return self.set_rights(operation)
         return int(isinstance(operation, (Creat, Mkdir, Symlink, Unlink, Rmdir, Link, Say)))
 
-    def write(self, operation: Write) -> int:
+    def apply_write(self, operation: Write) -> int:
         entry = self.entries[operation.path]
         size = len(entry.data or b'')
         if not operation.data:
@@ -247,18 +255,18 @@ class Tree:
         end = operation.offset + len(operation.data)
         entry.write(operation.offset, operation.data)
         self.steps_of_version_4 += grows_past_page(size, end)
-        return int(end > size) + self.blocks(operation.offset, end)
+        return int(end > size) + self.count_blocks(operation.offset, end)
 
-    def truncate(self, operation: Truncate) -> int:
+    def apply_truncate(self, operation: Truncate) -> int:
         entry, length = self.entries[operation.path], operation.length
         size = len(entry.data or b'')
         entry.resize(length)
         zeros_end = min(page_end(length), size)
         if length < zeros_end:
-            self.steps_of_version_4 += self.blocks(length, zeros_end)
+            self.steps_of_version_4 += self.count_blocks(length, zeros_end)
         return int(size != length)
 
-    def blocks(self, begin: int, end: int) -> int:
+    def count_blocks(self, begin: int, end: int) -> int:
         """How many blocks have bytes from a place of a file to another."""
         return (end - 1) // self.block - begin // self.block + 1
 
@@ -273,6 +281,7 @@ class Tree:
 
 
 def symlink_of(made: Union[Symlink, StartSymlink]) -> Entry:
+    """The entry of a symbolic link, which has all rights."""
     return Entry(made.owner, made.group, 0o777, None, made.link)
 
 

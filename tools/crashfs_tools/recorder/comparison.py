@@ -53,7 +53,7 @@ class ByProgram(LastState):
         self.program = program
 
     def entries(self, trace: str) -> Entries:
-        return self.program.tree(trace, self.program.states(trace, holes=False) - 1)
+        return self.program.tree(trace, self.program.count_states(trace, holes=False) - 1)
 
 
 def differences(directory: Scan, last: Entries, reported: Iterable[str]) -> List[str]:
@@ -115,8 +115,8 @@ def links_that_differ(directory: Scan, last: Tree, reported: Iterable[str]) -> L
     """Lines on paths that are one file in the directory, and two in the trace, or the other way."""
     known = set(reported)
     groups: Dict[int, List[str]] = {}
-    for path, entry in last.entries.items():
-        groups.setdefault(id(entry), []).append(path)
+    for path, number in last.files.items():
+        groups.setdefault(number, []).append(path)
     traced = {path: min(group) for group in groups.values() for path in group}
     lines = []
     for path in sorted(traced.keys() & {entry.path for entry in directory.entries}):

@@ -82,7 +82,7 @@ class LiveFiles:
             source = scan.links.get(entry.path)
             if source is None:
                 self.add_scanned(entry, node_of(entry), entry)
-            elif self.recording.trace.has(StartLink):
+            elif self.recording.trace.has_kind(StartLink):
                 self.add_scanned(entry, self.tree.nodes[source], StartLink(entry.path, source))
             else:
                 self.add_scanned(entry, node_of(entry), entry)

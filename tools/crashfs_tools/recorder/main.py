@@ -81,7 +81,7 @@ def run_command(options: RecordOptions, guard: Guard) -> RecordedRun:
         status,
         tuple(running.stops),
         running.output,
-        descendants.shown(left),
+        descendants.processes_text(left),
         stream.fault.strerror if stream.fault else '',
     )
 

@@ -7,7 +7,7 @@ import os
 from dataclasses import dataclass, field
 from typing import List, Optional
 
-from crashfs_tools.common.command import Refused, folder_of, found, parse
+from crashfs_tools.common.command import Refused, folder_to_write, with_program_path, parse
 from crashfs_tools.common.trace import BLOCK_SIZES, BLOCKS, JOURNAL, PROFILES
 from crashfs_tools.common.version import version_of
 
@@ -223,7 +223,7 @@ def refuse_bad_options(options: RecordOptions) -> None:
     for path in (options.out, options.keep_log):
         if path is None or path == '-':
             continue
-        folder = folder_of(path)
+        folder = folder_to_write(path)
         if (folder + '/').startswith(options.directory.rstrip('/') + '/'):
             raise Refused(f'{path} would be in {options.directory}, which is recorded')
-    options.command = found(options.command) if options.command else []
+    options.command = with_program_path(options.command) if options.command else []

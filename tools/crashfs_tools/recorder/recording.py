@@ -125,7 +125,7 @@ class Recording:
         if isinstance(line, Start) and len(line.data or b'') > limits.FILE_BYTES:
             self.raise_version_for(large_file(line.path))
         self.trace.start.append(line)
-        self.tree.start(line)
+        self.tree.add_start(line)
         return True
 
     def report(self, what: str, where: str, is_note: bool = False) -> None:
@@ -168,7 +168,7 @@ class Recording:
         """Whether the trace's version has a line for an operation: version 3 has one for an
         fdatasync, too."""
         kind = FsyncRange if isinstance(operation, Fdatasync) else type(operation)
-        return self.trace.has(kind)
+        return self.trace.has_kind(kind)
 
     def add_in_older_version(self, operation: Operation) -> bool:
         """Adds an operation that the trace's version has no line for, as far as it can."""

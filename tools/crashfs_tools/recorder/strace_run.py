@@ -165,7 +165,7 @@ class StraceRun:
     def send_noted_signal(self) -> None:
         """Sends COMMAND the signal that was noted, as soon as it has begun. A kill is repeated,
         since a process may have just forked."""
-        if self.wanted is not None and self.guard.signal(self.wanted, spared=self.strace):
+        if self.wanted is not None and self.guard.send_signal(self.wanted, spared=self.strace):
             self.wanted = self.wanted if self.wanted == signal.SIGKILL else None
 
 

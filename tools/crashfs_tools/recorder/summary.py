@@ -6,7 +6,7 @@ import os
 from dataclasses import dataclass, field
 from typing import Dict, List, Optional, Tuple
 
-from crashfs_tools.common.command import ended, relative_arguments
+from crashfs_tools.common.command import ending_text, relative_arguments
 from crashfs_tools.common.limits import MICRO_OPERATIONS
 from crashfs_tools.common.program import Crashfs, ProgramFault, is_too_large
 from crashfs_tools.common.trace import Say, Trace
@@ -211,7 +211,7 @@ def states_text(options: RecordOptions, recording: Recording) -> str:
     program = Crashfs.find(options.crashfs)
     if program is not None and os.path.isfile(options.out):
         try:
-            return count_text(program.states(options.out), 'state')
+            return count_text(program.count_states(options.out), 'state')
         except ProgramFault as fault:
             if is_too_large(fault):
                 return IN_WINDOWS
@@ -229,4 +229,4 @@ def count_text(count: int, what: str) -> str:
 def ending_of(status: int, stops: Tuple[int, ...]) -> Optional[str]:
     """How COMMAND failed, or None; a signal that was passed to it is no failure."""
     passed = [-number for number in stops] + [128 + number for number in stops]
-    return None if status == 0 or status in passed else ended(status)
+    return None if status == 0 or status in passed else ending_text(status)

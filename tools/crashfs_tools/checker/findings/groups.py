@@ -119,7 +119,7 @@ class Group:
 
     @property
     def key(self) -> Tuple[object, ...]:
-        kinds = [line.kind if line else '' for line in (self.kept, self.lost)]
+        kinds = [line.statement if line else '' for line in (self.kept, self.lost)]
         if not self.is_reproducible:
             return without_numbers(self.cause), self.result
         return (

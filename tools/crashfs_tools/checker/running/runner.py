@@ -14,7 +14,7 @@ from itertools import accumulate
 from typing import Callable, Dict, List, NamedTuple, Optional, Set
 
 from crashfs_tools.common import descendants
-from crashfs_tools.common.command import Refused, ended
+from crashfs_tools.common.command import Refused, ending_text
 from crashfs_tools.common.mount_table import MountTable
 from crashfs_tools.common.program import last_line
 from crashfs_tools.common.trace_lines import without_numbers
@@ -183,7 +183,8 @@ class Checker:
 
     def process_outcome(self) -> Outcome:
         return Outcome(
-            NO_ANSWER, f'a process that it left could not be ended: {descendants.shown(self.left)}'
+            NO_ANSWER,
+            f'a process that it left could not be ended: {descendants.processes_text(self.left)}',
         )
 
     def unmount(self, directory: str, before: Set[int]) -> List[str]:
@@ -252,7 +253,7 @@ class Checker:
             return Outcome(NO_ANSWER, f'it had not ended after {self.timeout:g} seconds', output)
         if end is End.FLOODED:
             return Outcome(NO_ANSWER, f'it printed more than {MOST_BYTES >> 20} MB', output)
-        how = f'status {status}' if status > 0 else ended(status).replace('was ', '')
+        how = f'status {status}' if status > 0 else ending_text(status).replace('was ', '')
         line = last_line(printed)[:CAUSE_LETTERS]
         if status < 0:
             line = f'{how}: {line}' if line else how

@@ -11,7 +11,7 @@ from crashfs_tools.common.command import TEXT, Refused
 from crashfs_tools.common.guard import Guard
 from crashfs_tools.common.limits import RUNS
 from crashfs_tools.common.program import Crashfs
-from crashfs_tools.common.trace_text import has_much, root_owner
+from crashfs_tools.common.trace_text import is_large_trace, root_owner
 
 from .pace import Pace, TooSlow
 from .progress import Progress
@@ -175,4 +175,4 @@ class Trying:
 def has_large_trees(trace: str) -> bool:
     """Whether a trace's trees take longer to be laid out than to be looked at."""
     with open(trace, **TEXT) as lines:
-        return has_much(lines, MUCH_ENTRIES, MUCH_BYTES)
+        return is_large_trace(lines, MUCH_ENTRIES, MUCH_BYTES)

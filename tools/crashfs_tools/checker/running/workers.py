@@ -13,7 +13,7 @@ from functools import partial
 from typing import Any, Callable, Dict, List, NoReturn, Optional, Set
 
 from crashfs_tools.checker.states.layout import Layout
-from crashfs_tools.common.command import Refused, ended
+from crashfs_tools.common.command import Refused, ending_text
 from crashfs_tools.common.descendants import NoReaper, become_reaper
 from crashfs_tools.common.guard import STOPS, end_bearers, with_token
 from crashfs_tools.common.program import ProgramFault
@@ -186,7 +186,7 @@ class Workers:
         self.workers.remove(worker)
         os.close(worker.pipe)
         if status != 0:
-            raise Refused(f'a process of this check {ended(status)}')
+            raise Refused(f'a process of this check {ending_text(status)}')
 
     def end(self, end_processes: Callable[[Set[int]], object]) -> None:
         """Ends all: first the commands, by what is passed, which spares processes. It waits a

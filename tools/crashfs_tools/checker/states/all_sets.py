@@ -77,7 +77,7 @@ class ProgramSets:
 
     def lines(self, words: List[str]) -> Optional[List[str]]:
         try:
-            text = self.program.text(
+            text = self.program.output_of(
                 ['picks', '--trace', self.read.trace, *words], self.environment
             )
         except ProgramFault as fault:

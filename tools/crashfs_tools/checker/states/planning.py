@@ -152,7 +152,7 @@ class Planner:
     def ask(self, words: List[str]) -> str:
         """What the program prints; an option that it lacks is reported as such."""
         try:
-            return self.program.text(words, self.guard.environment)
+            return self.program.output_of(words, self.guard.environment)
         except ProgramFault as fault:
             raise self.refused(words[0], fault) from fault
 

@@ -63,7 +63,7 @@ class Session:
 def start_tree(trace: Trace) -> Tree:
     tree = tree_of(trace)
     for entry in trace.start:
-        tree.start(entry)
+        tree.add_start(entry)
     return tree
 
 
