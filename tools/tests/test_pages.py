@@ -137,6 +137,7 @@ class Links(unittest.TestCase):
     def test_each_link_leads_to_a_file_and_a_heading(self) -> None:
         for page in [*PAGES, TOP / 'SECURITY.md', TOP / 'CHANGELOG.md']:
             for target in re.findall(r'\]\(([^)]*)\)', page.read_text('utf-8')):
+                self.assertTrue(target, page.name)
                 path, _, anchor = ''.join(target.split()).partition('#')
                 if '://' in target:
                     continue
