@@ -1,15 +1,15 @@
 -- The classes of a scene's sets, and the sets that differ.
-use Rattle.std.proofs.Common.{◌≡◌, ℕ, zero, suc, ◌<◌, ◌≤◌, ◌==◌, ◌&&◌, ◌||◌, ltb, Bool, true, false, cond, Result, Ok, Err, IfErr}
-use Rattle.std.proofs.Common.{List, [], ◌∷◌, ◌++◌, refl, sym, ap, ◌∙◌, arith, ⊎_elim, fold, get_or, length, map, replicate, subst}
-use Rattle.std.proofs.lemmas.Bool.{and_parts, cases_Bool, cases_lt, eq-eqb, eqb-true, false_from_ne_true, false≢true, lt-ltb}
-use Rattle.std.proofs.lemmas.Bool.Decides.{Decides-eqb, same_from_decides}
+use Rattle.std.proofs.Common.{◌≡◌, ◌↔◌, ℕ, ◌<◌, ◌≤◌, ◌&&◌, ◌||◌, ltb, Bool, true, false, cond, Result, Ok, Err, IfErr}
+use Rattle.std.proofs.Common.{List, [], ◌∷◌, ◌++◌, refl, sym, ap, ◌∙◌, arith, ⊎_elim, fold, get_or, length, map, subst}
+use Rattle.std.proofs.lemmas.Bool.{and_parts, cases_Bool, cases_lt, false_from_ne_true, false≢true, lt-ltb}
+use Rattle.std.proofs.lemmas.Bool.Decides.{same_from_decides}
 use Rattle.std.proofs.lemmas.List.Elements.{All-contains, All-head, All-map, All-nil, All-push, All-tail}
 use Rattle.std.proofs.lemmas.Option.{slice_get_past}
 use Rattle.std.specs.List.{All, Contains, list_any}
 use Rattle.std.specs.Option.{option_map_or}
 use Rattle.cs_apm.specs.Orders.{needs_in}
 use Rattle.cs_apm.specs.Sets as micros
-use Rattle.cs_plan.specs.Scenes.{Scene, order_in}
+use Rattle.cs_plan.specs.Scenes.{Scene, micros_of, order_in}
 use Rattle.cs_sets.specs.declared.row.Row.{Row}
 use Rattle.cs_sets.specs.Bits.{has_place}
 use Rattle.cs_sets.specs.Chains.{IsBackward, by_chain}
@@ -18,25 +18,21 @@ use Rattle.cs_sets.specs.Every.{every}
 use Rattle.cs_sets.specs.Following.{chosen}
 use Rattle.cs_sets.specs.Places.{places_of}
 use Rattle.cs_sets.specs.Orders as places
-use Rattle.cs_sets.specs.Rows.{bit_in, needed_in}
+use Rattle.cs_sets.specs.Rows.{needed_in}
 use Rattle.cs_sets.specs.Sets.{IsAllowed, is_member}
 use Rattle.cs_sets.specs.Laws.Complete.{each_allowed, has_each}
 use Rattle.cs_sets.specs.Laws.Following.{chosen_same}
 use Rattle.cs_sets.specs.Laws.Holes.{listed}
-use Rattle.cs_sets.specs.Laws.Members.{or_false}
 use Rattle.cs_sets.specs.Laws.Reaching.{chains_backward, chains_reach, every_reach, every_same}
 use Rattle.cs_different.specs.Seen.{none_seen, same_seen, see}
-use Rattle.cs_different.specs.Sets.{LeaveSame, leave_same, says_left, tree_left}
+use Rattle.cs_different.specs.Sets.{IsLeavable, LeaveSame, leave_same}
+use Rattle.cs_different.specs.Wants.{Wants}
 use Rattle.cs_different.proofs.Alike.{left_is_like, left_told}
-use Rattle.cs_different.proofs.Seeing.{seen_says, wanted_from}
+use Rattle.cs_different.proofs.Running.{seen_by}
+use Rattle.cs_different.proofs.SeenLeaves.{seen_leaves}
+use Rattle.cs_different.proofs.Seeing.{seen_says}
 
 -- ---- rows
-
-pub none_wanted : (row : Row) → ((k : ℕ) → has_place row k ≡ false) → (n z k : ℕ) → bit_in (replicate n row) z k ≡ false
-unfolding bit_in
-none_wanted row none zero z k = refl
-none_wanted row none (suc n) z zero = none z
-none_wanted row none (suc n) z (suc k) = none_wanted row none n z k
 
 -- for each of n places, the places that need it by any chain
 pub record AreColumns (needs : ℕ → ℕ → Bool) (n : ℕ) (rows : List Row) : Type 0 where
@@ -195,31 +191,19 @@ module _ (s : Scene) (wants : ℕ → ℕ → Bool) (rows : List Row) (are : Are
       ∙ ap (firsts (leave_alike like (see wants) none_seen)) (columns_same needs back n rows are)
       ∙ firsts_agree P (leave_alike like (see wants) none_seen) (leave_same s) agree (every needs n) (each_allowed needs back n)
 
--- ---- nothing is wanted
+-- ---- what is seen, by what is wanted
 
-fold_seen : (wants : ℕ → ℕ → Bool) → ((z k : ℕ) → wants z k ≡ false) → (xs : List ℕ) (seen : ℕ → Bool) (i : ℕ)
-    → fold (see wants) seen xs i ≡ (is_member xs i || seen i)
-fold_seen wants none [] seen i = refl
-fold_seen wants none (x ∷ xs) seen i =
-    fold_seen wants none xs (see wants seen x) i
-    ∙ ap (λ b. is_member xs i || (i == x && b || seen i)) (wanted_from wants x seen (λ z t. absurd (false≢true (sym (none z x) ∙ t))))
-    ∙ turn (is_member xs i) (i == x) (x == i) (seen i) (turned i x)
-  where
-    turned : (i x : ℕ) → (i == x) ≡ (x == i)
-    turned i x = same_from_decides (i == x) (x == i) (λ t. sym (eqb-true i x t), λ e. eq-eqb i x (sym e)) (Decides-eqb x i)
-
-    turn : (a b c d : Bool) → b ≡ c → (a || (b && true || d)) ≡ (c || a || d)
-    turn true true c d e = ap (λ v. v || true || d) e
-    turn true false c d e = ap (λ v. v || true || d) e
-    turn false true c d e = ap (λ v. v || false || d) e
-    turn false false c d e = ap (λ v. v || false || d) e
-
-pub all_seen : (wants : ℕ → ℕ → Bool) → ((z k : ℕ) → wants z k ≡ false) → (needs : ℕ → ℕ → Bool) → IsBackward needs → (n : ℕ)
-    → (places : List ℕ) → IsAllowed needs n places → chosen (state_of (see wants) none_seen places) n ≡ places
-all_seen wants none needs back n places allowed =
-    chosen_same (state_of (see wants) none_seen places) (is_member places) n
-    (λ i low. fold_seen wants none places none_seen i ∙ or_false (is_member places i))
-    ∙ sym (listed needs back n places allowed)
-
-pub same_left : (s : Scene) (a b : List ℕ) → b ≡ a → LeaveSame s a b
-same_left s a b e = record { trees = sym (ap (tree_left s) e); says = sym (ap (says_left s) e) }
+pub law_of : (s : Scene) (wants : ℕ → ℕ → Bool) → ((z k : ℕ) → wants z k ≡ true → Wants s z k) → IsBackward (needs_in (order_in s))
+    → length (order_in s) ≡ length (micros_of s).ops
+    → ((p : List ℕ) → micros.IsAllowed (needs_in (order_in s)) (length (order_in s)) p ↔ IsLeavable s p)
+    → (places : List ℕ) → IsAllowed (needs_in (order_in s)) (length (order_in s)) places
+    → LeaveSame s places (chosen (state_of (see wants) none_seen places) (length (order_in s)))
+law_of s wants are back same told places allowed =
+    let m = length (order_in s) in
+    let n = length (micros_of s).ops in
+    let is : places ≡ chosen (is_member places) n =
+    listed (needs_in (order_in s)) back m places allowed ∙ ap (chosen (is_member places)) same in
+    let e : chosen (fold (see wants) none_seen places) m ≡ chosen (seen_by wants (is_member places) n) n =
+    ap (λ v. chosen (fold (see wants) none_seen v) m) is ∙ ap (chosen (seen_by wants (is_member places) n)) same in
+    subst (LeaveSame s places) (sym e)
+    (seen_leaves s wants are places ((told places).0 (allowed_of (needs_in (order_in s)) m places allowed)) is)

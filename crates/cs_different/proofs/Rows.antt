@@ -1,7 +1,8 @@
 -- Rows as tests.
 use Rattle.std.proofs.Common.{◌≡◌, ℕ, zero, suc, ◌+◌, ◌<◌, ◌≤◌, ◌==◌, ◌&&◌, ◌||◌, not, Bool, true, false, List, [], ◌∷◌, ◌++◌, Some}
-use Rattle.std.proofs.Common.{get_or, length, length-append, refl, ap, ◌∙◌, sym, arith, ltb, ⊎_elim}
-use Rattle.std.proofs.lemmas.Bool.{cases_eq, cases_lt, eq-eqb, ne_eqb, lt-ltb, le-ltb}
+use Rattle.std.proofs.Common.{get_or, length, length-append, refl, ap, ◌∙◌, sym, arith, ltb, subst, ⊎_elim}
+use Rattle.std.proofs.lemmas.Bool.{cases_eq, cases_lt, eq-eqb, false≢true, ne_eqb, lt-ltb, le-ltb}
+use Rattle.std.proofs.lemmas.Option.{slice_get_past}
 use Rattle.std.proofs.lemmas.List.{get_or_push, get_or_append_left}
 use Rattle.std.specs.Prelude.{slice_get}
 use Rattle.std.specs.Option.{option_map_or}
@@ -76,3 +77,25 @@ pushed_row old new row n p e before is i j low =
     (let l : i < length old = omega (arith, low, ne) in
     ap (λ r. has_place r j) (get_or_append_left old (row ∷ []) row i l) ∙ sym (needed_read old i j row l) ∙ before i j l))
     (cases_eq i (length old))
+
+pub bits_past : (rows : List Row) (z k : ℕ) → length rows ≤ k → bit_in rows z k ≡ false
+unfolding bit_in
+bits_past rows z k high = ap (λ o. option_map_or (λ row. has_place row z) o false) (slice_get_past rows k high)
+
+-- what is known of the bits of each row, and of one row more
+pub pushed_bits : (P : ℕ → ℕ → Type 0) (old new : List Row) (row : Row) → new ≡ old ++ row ∷ []
+    → ((z k : ℕ) → bit_in old z k ≡ true → P z k) → ((z : ℕ) → has_place row z ≡ true → P z (length old))
+    → (z k : ℕ) → bit_in new z k ≡ true → P z k
+pushed_bits P old new row e before last z k t = ⊎_elim
+    (λ (low : k < length old).
+    before z k (bit_read old k z row low ∙ ap (λ r. has_place r z) (sym (get_or_append_left old (row ∷ []) row k low))
+    ∙ sym (bit_read (old ++ row ∷ []) k z row (omega (arith, low, length-append old (row ∷ [])))) ∙ ap (λ v. bit_in v z k) (sym e) ∙ t))
+    (λ (high : length old ≤ k). ⊎_elim
+    (λ (same : k ≡ length old).
+    subst (P z) (sym same) (last z (ap (λ r. has_place r z) (sym (get_or_push old row row k (sym same)))
+    ∙ sym (bit_read (old ++ row ∷ []) k z row (omega (arith, same, length-append old (row ∷ [])))) ∙ ap (λ v. bit_in v z k) (sym e) ∙ t)))
+    (λ (ne : k ≡ length old → ⊥).
+    absurd (false≢true (sym (bits_past (old ++ row ∷ []) z k (omega (arith, high, ne, length-append old (row ∷ []))))
+    ∙ ap (λ v. bit_in v z k) (sym e) ∙ t)))
+    (cases_eq k (length old)))
+    (cases_lt k (length old))

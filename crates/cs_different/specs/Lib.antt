@@ -5,3 +5,4 @@ pub mod Seen
 pub mod Classing
 pub mod Sets
 pub mod Refusals
+pub mod Wants

@@ -1,10 +1,9 @@
 //! Those sets of a scene's micro-operations that differ in what they leave.
-ghost use Rattle.std.specs.Prelude.{◌≡◌, ◌≤◌, ℕ, false, length, map, IfErr, IfOk};
+ghost use Rattle.std.specs.Prelude.{◌≡◌, ◌≤◌, length, map, IfErr, IfOk};
 ghost use Rattle.cs_apm.specs.Orders as micros;
 ghost use Rattle.cs_plan.specs.Scenes.{order_in};
 ghost use Rattle.cs_sets.specs.Orders.{needs_in};
 ghost use Rattle.cs_sets.specs.Places.{places_of};
-ghost use Rattle.cs_sets.specs.Rows.{bit_in};
 ghost use Rattle.cs_different.specs.Refusals.{IsRefused};
 ghost use Rattle.cs_different.specs.Sets.{AreDifferent};
 
@@ -12,22 +11,13 @@ use crate::classes::class_sets;
 use crate::columns::columns_of;
 use crate::fault::DifferentFault;
 use crate::finding::firsts_of;
+use crate::wanting::wants_of;
 use cs_apm::laws::rules_are_sentences;
 use cs_names::laws::know;
 use cs_plan::Scene;
 use cs_same_states::Parts;
 use cs_sets::{Order, Row};
 use std::alloc::{AllocError, Global};
-
-/// A row without places for each place, so that none wants another.
-fn wants_of(alloc: Global, count: usize) -> Result<Vec<Row>, AllocError>
-    ensures long { IfOk result (λ wanted. length wanted.items ≡ count) }
-    ensures none { IfOk result (λ wanted. (z k : ℕ) → bit_in wanted.items z k ≡ false) }
-{
-    let none = Row::empty();
-    let wanted = vec![in alloc; none; count]?;
-    Ok(wanted)
-}
 
 /// Of all sets of the scene's micro-operations that a crash may leave, the first of those that
 /// leave equal trees and as many acknowledged lines, ascending. `order` is that of the scene.
@@ -48,9 +38,11 @@ pub fn different_sets(
     know(order.len());
     // By this law, what the order allows is what the rules allow.
     rules_are_sentences(scene.micros());
+    // that the order has as many places as there are micro-operations
+    know(scene.order());
     let parts = Parts::of(alloc, scene)?;
     let needed = columns_of(alloc, order)?;
-    let wanted = wants_of(alloc, order.len())?;
+    let wanted = wants_of(alloc, scene, &parts)?;
     let classes = class_sets(alloc, wanted.as_slice(), needed.as_slice())?;
     let sets = firsts_of(alloc, scene, &parts, classes.as_slice(), most)?;
     Ok(sets)

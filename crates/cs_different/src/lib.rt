@@ -9,6 +9,8 @@ mod digest;
 mod fault;
 mod finding;
 mod leaving;
+mod searching;
+mod wanting;
 
 pub use different::different_sets;
 pub use fault::DifferentFault;

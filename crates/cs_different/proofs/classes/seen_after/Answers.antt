@@ -1,6 +1,6 @@
 use Rattle.std.proofs.Common.{◌∙◌}
 use Rattle.cs_sets.specs.Rows.{bit_in}
-use Rattle.cs_different.proofs.Wanting.{found_wanted, seen_not, seen_too}
+use Rattle.cs_different.proofs.Within.{found_wanted, seen_not, seen_too}
 use Rattle.cs_different.proofs.classes.seen_after.Goals as goal
 
 pub returns-then-is_within : goal.returns-then-is_within

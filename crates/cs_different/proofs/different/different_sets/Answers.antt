@@ -1,10 +1,10 @@
-use Rattle.std.proofs.Common.{rules, false, ◌≡◌, ◌⊎◌, ◌↔◌, ◌<◌, ℕ, List, IfErr, inl, inr, sym, ap, ◌∙◌, ⊎_elim, length, map, subst}
+use Rattle.std.proofs.Common.{rules, ◌≡◌, true, ◌⊎◌, ◌↔◌, ◌<◌, ℕ, List, IfErr, inl, inr, sym, ap, ◌∙◌, ⊎_elim, length, map, subst}
 use Rattle.std.specs.List.{All}
 use Rattle.cs_apm.specs.Orders as micros
 use Rattle.cs_apm.specs.Orders.{needs_of, order_of}
 use Rattle.cs_apm.specs.Sets as sets
 use Rattle.cs_micro.specs.Micros.{Micros}
-use Rattle.cs_plan.specs.Scenes.{order_in}
+use Rattle.cs_plan.specs.Scenes.{micros_of, order_in}
 use Rattle.cs_sets.specs.declared.row.Row.{Row}
 use Rattle.cs_sets.specs.Chains.{IsBackward}
 use Rattle.cs_sets.specs.Different.{firsts, state_of}
@@ -15,11 +15,12 @@ use Rattle.cs_sets.specs.Rows.{bit_in, needed_in}
 use Rattle.cs_sets.specs.Sets.{IsAllowed}
 use Rattle.cs_different.specs.Sets.{AreDifferent, IsLeavable, LeaveSame, leave_same}
 use Rattle.cs_different.specs.Seen.{none_seen, see}
+use Rattle.cs_different.specs.Wants.{Wants}
 use Rattle.cs_different.specs.Refusals.{IsRefused}
 use Rattle.cs_different.specs.declared.classes.TheConstants.{CLASSES}
 use Rattle.cs_different.specs.declared.fault.DifferentFault.{DifferentFault}
 use Rattle.cs_different.specs.declared.fault.DifferentFault.TheVariants.{Memory, More, TooMany}
-use Rattle.cs_different.proofs.Gluing.{AreColumns, all_seen, classes_found, columns_at, columns_backward, columns_same, err_weaker, leavable, same_left}
+use Rattle.cs_different.proofs.Gluing.{AreColumns, classes_found, columns_at, columns_backward, columns_same, err_weaker, law_of, leavable}
 use Rattle.cs_different.proofs.Alike.{left_is_like, left_told}
 use Rattle.cs_different.proofs.Firsts.{firsts_are}
 use Rattle.cs_different.proofs.different.different_sets.Goals as goal
@@ -68,14 +69,15 @@ firsts_of-requires-clause-sets c =
     columns_at s c.args.order.now rows c.in_ok-needed.needed.items c.as_slice-2.ensures.value c.in_ok-needed.ensures.long
     c.in_ok-needed.ensures.chains c.requires.long c.requires.needs in
     let wants = bit_in c.as_slice.result.now in
-    let none : (z k : ℕ) → wants z k ≡ false =
-    (λ z k. ap (λ r. bit_in r z k) c.as_slice.ensures.value ∙ c.in_ok-wanted.ensures.none z k) in
-    let law : (places : List ℕ) → IsAllowed needs n places → LeaveSame s places (chosen (state_of (see wants) none_seen places) n) =
-    (λ places allowed. same_left s places (chosen (state_of (see wants) none_seen places) n) (all_seen wants none needs back n places
-    allowed)) in
+    let are : (z k : ℕ) → wants z k ≡ true → Wants s z k =
+    (λ z k t. c.in_ok-wanted.ensures.wants z k (ap (λ r. bit_in r z k) (sym c.as_slice.ensures.value) ∙ t)) in
+    let long : length (order_in s) ≡ length (micros_of s).ops =
+    ap length (sym c.order.ensures.value) ∙ c.order.ensures.long in
     let told : (p : List ℕ) → sets.IsAllowed needs n p ↔ IsLeavable s p =
     subst (λ (m : Micros). (p : List ℕ) → sets.IsAllowed (micros.needs_in (order_of m)) (length (order_of m)) p
     ↔ sets.IsAllowed (needs_of m) (length m.ops) p) c.micros.ensures c.rules_are_sentences.ensures.sets in
+    let law : (places : List ℕ) → IsAllowed needs n places
+    → LeaveSame s places (chosen (state_of (see wants) none_seen places) n) = law_of s wants are back long told in
     let all = leavable s wants rows cols back law c.in_ok-classes.classes.items c.in_ok-classes.ensures.allowed in
     subst (All (λ (row : Row). IsLeavable s (places_of row))) (sym c.as_slice-3.ensures.value) (λ k d low. (told _).0 (all k d low))
 
@@ -90,11 +92,15 @@ returns-in_err-sets-clause-refused c =
     columns_at s c.args.order.now rows c.in_ok-needed.needed.items c.as_slice-2.ensures.value c.in_ok-needed.ensures.long
     c.in_ok-needed.ensures.chains c.requires.long c.requires.needs in
     let wants = bit_in c.as_slice.result.now in
-    let none : (z k : ℕ) → wants z k ≡ false =
-    (λ z k. ap (λ r. bit_in r z k) c.as_slice.ensures.value ∙ c.in_ok-wanted.ensures.none z k) in
-    let law : (places : List ℕ) → IsAllowed needs n places → LeaveSame s places (chosen (state_of (see wants) none_seen places) n) =
-    (λ places allowed. same_left s places (chosen (state_of (see wants) none_seen places) n) (all_seen wants none needs back n places
-    allowed)) in
+    let are : (z k : ℕ) → wants z k ≡ true → Wants s z k =
+    (λ z k t. c.in_ok-wanted.ensures.wants z k (ap (λ r. bit_in r z k) (sym c.as_slice.ensures.value) ∙ t)) in
+    let long : length (order_in s) ≡ length (micros_of s).ops =
+    ap length (sym c.order.ensures.value) ∙ c.order.ensures.long in
+    let told : (p : List ℕ) → sets.IsAllowed needs n p ↔ IsLeavable s p =
+    subst (λ (m : Micros). (p : List ℕ) → sets.IsAllowed (micros.needs_in (order_of m)) (length (order_of m)) p
+    ↔ sets.IsAllowed (needs_of m) (length m.ops) p) c.micros.ensures c.rules_are_sentences.ensures.sets in
+    let law : (places : List ℕ) → IsAllowed needs n places
+    → LeaveSame s places (chosen (state_of (see wants) none_seen places) n) = law_of s wants are back long told in
     let same : firsts (leave_same s) (map places_of c.as_slice-3.result.now) ≡ firsts (leave_same s) (every needs n) =
     ap (λ (r : List Row). firsts (leave_same s) (map places_of r)) c.as_slice-3.ensures.value
     ∙ classes_found s wants rows cols back law c.in_ok-classes.classes.items c.in_ok-classes.ensures.allowed c.in_ok-classes.ensures.firsts
@@ -128,11 +134,15 @@ returns-clause-different c =
     columns_at s c.args.order.now rows c.in_ok-needed.needed.items c.as_slice-2.ensures.value c.in_ok-needed.ensures.long
     c.in_ok-needed.ensures.chains c.requires.long c.requires.needs in
     let wants = bit_in c.as_slice.result.now in
-    let none : (z k : ℕ) → wants z k ≡ false =
-    (λ z k. ap (λ r. bit_in r z k) c.as_slice.ensures.value ∙ c.in_ok-wanted.ensures.none z k) in
-    let law : (places : List ℕ) → IsAllowed needs n places → LeaveSame s places (chosen (state_of (see wants) none_seen places) n) =
-    (λ places allowed. same_left s places (chosen (state_of (see wants) none_seen places) n) (all_seen wants none needs back n places
-    allowed)) in
+    let are : (z k : ℕ) → wants z k ≡ true → Wants s z k =
+    (λ z k t. c.in_ok-wanted.ensures.wants z k (ap (λ r. bit_in r z k) (sym c.as_slice.ensures.value) ∙ t)) in
+    let long : length (order_in s) ≡ length (micros_of s).ops =
+    ap length (sym c.order.ensures.value) ∙ c.order.ensures.long in
+    let told : (p : List ℕ) → sets.IsAllowed needs n p ↔ IsLeavable s p =
+    subst (λ (m : Micros). (p : List ℕ) → sets.IsAllowed (micros.needs_in (order_of m)) (length (order_of m)) p
+    ↔ sets.IsAllowed (needs_of m) (length m.ops) p) c.micros.ensures c.rules_are_sentences.ensures.sets in
+    let law : (places : List ℕ) → IsAllowed needs n places
+    → LeaveSame s places (chosen (state_of (see wants) none_seen places) n) = law_of s wants are back long told in
     let same : firsts (leave_same s) (map places_of c.as_slice-3.result.now) ≡ firsts (leave_same s) (every needs n) =
     ap (λ (r : List Row). firsts (leave_same s) (map places_of r)) c.as_slice-3.ensures.value
     ∙ classes_found s wants rows cols back law c.in_ok-classes.classes.items c.in_ok-classes.ensures.allowed c.in_ok-classes.ensures.firsts

@@ -1,0 +1,158 @@
+//! What the micro-operations of a scene want: each wants earlier ones without which nothing shows
+//! what it does.
+ghost use Rattle.std.specs.Prelude.{◌≡◌, ◌⊎◌, ◌<◌, ◌≤◌, ◌+◌, ◌^◌, ℕ, true, length, Some, IfOk, IfSome};
+ghost use Rattle.cs_apm.specs.Atlases.{AreStarts, content_before};
+ghost use Rattle.cs_apm.specs.States.{start_state};
+ghost use Rattle.cs_plan.specs.Scenes.{micros_of};
+ghost use Rattle.cs_same_states.specs.Parts.{AreParts};
+ghost use Rattle.cs_sets.specs.Bits.{has_place};
+ghost use Rattle.cs_sets.specs.Rows.{bit_in};
+ghost use Rattle.cs_state.specs.Windows.{whole_content};
+ghost use Rattle.cs_different.specs.Wants.{IsGrower, IsMaker, Wants, WantsGrower, WantsMaker};
+
+use crate::searching::{
+    changed_file, first_grower, first_maker, is_in_slot, is_linked, is_made_twice,
+};
+use cs_apm::tables::Tables;
+use cs_micro::MicroOp;
+use cs_names::laws::know;
+use cs_names::limits::MICRO_OPERATIONS;
+use cs_plan::Scene;
+use cs_same_states::Parts;
+use cs_sets::Row;
+use cs_trace::Trace;
+use std::alloc::{AllocError, Global};
+
+/// The bytes of the file at the start; no bytes if a micro-operation makes the file. Only the
+/// contract uses `_ops`, to speak of such files too. A file's record has bytes, so the last `&[]`
+/// isn't reached. `start_bytes` of cs_state and of cs_same_states have the same body: change all
+/// three.
+fn start_bytes<'a>(trace: &'a Trace, _ops: &[MicroOp], tables: &Tables, file: usize) -> &'a [u8]
+    requires { AreStarts trace.now tables.now.starts.items }
+    ensures { whole_content result.now ≡ content_before trace.now _ops.now file }
+{
+    let starts = &tables.starts;
+    if file >= starts.len() {
+        return &[];
+    }
+    let content = trace.records().content(starts[file] as usize);
+    content.bytes().unwrap_or(&[])
+}
+
+/// The place of the micro-operation that makes the file, if nothing else gives the file a path.
+fn maker_of(scene: &Scene, parts: &Parts, file: u32) -> Option<usize>
+    requires { AreParts scene.now.trace parts.now }
+    ensures { IfSome result
+        (IsMaker (start_state scene.now.trace).paths (micros_of scene.now).ops file) }
+{
+    let ops = scene.micros().ops();
+    if is_linked(ops, file) {
+        return None;
+    }
+    if is_in_slot(&parts.tables.slots, file) {
+        return None;
+    }
+    let maker = first_maker(ops, file)?;
+    if is_made_twice(ops, file, maker) {
+        return None;
+    }
+    Some(maker)
+}
+
+/// The place of the first micro-operation that gives the file a size above the offset, if its size
+/// at the start isn't above it.
+fn grower_of(scene: &Scene, parts: &Parts, file: u32, offset: u64) -> Option<usize>
+    requires { AreParts scene.now.trace parts.now }
+    ensures { IfSome result
+        (IsGrower (content_before scene.now.trace (micros_of scene.now).ops file).size
+        (micros_of scene.now).ops file offset) }
+{
+    let ops = scene.micros().ops();
+    let size = start_bytes(scene.trace(), ops, &parts.tables, file as usize).len() as u64;
+    if offset < size {
+        return None;
+    }
+    first_grower(ops, file, offset)
+}
+
+/// What makes the file that the micro-operation at the place changes.
+fn maker_wanted(scene: &Scene, parts: &Parts, place: usize) -> Option<usize>
+    requires parts { AreParts scene.now.trace parts.now }
+    requires inside { place < length (micros_of scene.now).ops }
+    ensures { IfSome result (λ z. WantsMaker scene.now z place) }
+{
+    let ops = scene.micros().ops();
+    let file = changed_file(&ops[place])?;
+    maker_of(scene, parts, file)
+}
+
+/// What first gives the file a size above the offset at which the micro-operation at the place
+/// writes.
+fn grower_wanted(scene: &Scene, parts: &Parts, place: usize) -> Option<usize>
+    requires parts { AreParts scene.now.trace parts.now }
+    requires inside { place < length (micros_of scene.now).ops }
+    ensures { IfSome result (λ z. WantsGrower scene.now z place) }
+{
+    let ops = scene.micros().ops();
+    match &ops[place] {
+        MicroOp::WriteBlock {
+            file,
+            start,
+            at,
+            ..
+        } => {
+            let offset = start.checked_add(*at)?;
+            grower_of(scene, parts, *file, offset)
+        }
+        _ => None,
+    }
+}
+
+/// A row of those of the two places that are before `place`.
+fn row_of(first: Option<usize>, second: Option<usize>, place: usize) -> Row
+    requires { place ≤ MICRO_OPERATIONS }
+    ensures { (z : ℕ) → has_place result z ≡ true
+        → (z < place) × ((first ≡ Some z) ⊎ (second ≡ Some z)) }
+{
+    let mut row = Row::empty();
+    if let Some(wanted) = first {
+        if wanted < place {
+            row.set(wanted);
+        }
+    }
+    if let Some(wanted) = second {
+        if wanted < place {
+            row.set(wanted);
+        }
+    }
+    row
+}
+
+/// A row of what the micro-operation at the place wants.
+fn wanted_by(scene: &Scene, parts: &Parts, place: usize) -> Row
+    requires parts { AreParts scene.now.trace parts.now }
+    requires inside { place < length (micros_of scene.now).ops }
+    requires few { length (micros_of scene.now).ops ≤ MICRO_OPERATIONS }
+    ensures { (z : ℕ) → has_place result z ≡ true → Wants scene.now z place }
+{
+    let maker = maker_wanted(scene, parts, place);
+    let grower = grower_wanted(scene, parts, place);
+    row_of(maker, grower, place)
+}
+
+/// For each micro-operation of the scene, a row of those that it wants. `parts` are of the scene's
+/// trace.
+pub fn wants_of(alloc: Global, scene: &Scene, parts: &Parts) -> Result<Vec<Row>, AllocError>
+    requires { AreParts scene.now.trace parts.now }
+    ensures long { IfOk result (λ wanted. length wanted.items ≡ length (micros_of scene.now).ops) }
+    ensures wants { IfOk result (λ wanted. (z k : ℕ) → bit_in wanted.items z k ≡ true
+        → Wants scene.now z k) }
+{
+    let count = scene.micros().ops().len();
+    know(scene.micros().ops());
+    let mut wanted = Vec::new(alloc);
+    for place in 0..count {
+        wanted.push(wanted_by(scene, parts, place))?;
+    }
+    Ok(wanted)
+}
