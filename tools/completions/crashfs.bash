@@ -22,8 +22,8 @@ _crashfs() {
                             -h --help --changes --state --states --holes --picks --trace' ;;
                     picks)
                         words='
-                            -h --help --lost --files --sample --seed --every --count --most
-                            --trace' ;;
+                            -h --help --lost --files --sample --seed --every --different --count
+                            --most --trace' ;;
                     script)
                         words='
                             -h --help --verbose --users --holes --picks --trace' ;;

@@ -23,6 +23,7 @@ complete -c crashfs -n '__fish_seen_subcommand_from picks' -l files -d 'For each
 complete -c crashfs -n '__fish_seen_subcommand_from picks' -l sample -r -d 'Sets that are drawn one after the other, 1 to 16384'
 complete -c crashfs -n '__fish_seen_subcommand_from picks' -l seed -r -d 'The number by which they are drawn'
 complete -c crashfs -n '__fish_seen_subcommand_from picks' -l every -d 'All sets that a crash may leave'
+complete -c crashfs -n '__fish_seen_subcommand_from picks' -l different -d 'Of these only the first of those that leave equal states'
 complete -c crashfs -n '__fish_seen_subcommand_from picks' -l count -d 'Only how many sets there are'
 complete -c crashfs -n '__fish_seen_subcommand_from picks' -l most -r -d 'The most sets that are printed, 1 to 16777216; default 1000000'
 complete -c crashfs -n '__fish_seen_subcommand_from picks' -l trace -r -d 'The same as TRACE'

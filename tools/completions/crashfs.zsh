@@ -45,6 +45,7 @@ else
                 '--sample[Sets that are drawn one after the other, 1 to 16384]:M:_files' \
                 '--seed[The number by which they are drawn]:S:_files' \
                 '--every[All sets that a crash may leave]' \
+                '--different[Of these only the first of those that leave equal states]' \
                 '--count[Only how many sets there are]' \
                 '--most[The most sets that are printed, 1 to 16777216; default 1000000]:N:_files' \
                 '--trace[The same as TRACE]:FILE:_files' \

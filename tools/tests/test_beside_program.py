@@ -6,10 +6,10 @@ from pathlib import Path
 from crashfs_tools.common.program import Crashfs
 from crashfs_tools.reading import ReadingFault, plan_of, read
 from crashfs_tools.reading.listing import listing
-from crashfs_tools.reading.plan import different, file_sets, lost_sets
+from crashfs_tools.reading.picking import lines_of
 
 from .random_traces import RandomTrace
-from .support import InFolder, needed
+from .support import EXAMPLES, InFolder, needed
 
 ROW_43 = Path(__file__).with_name('data') / 'version-3' / 'row43.trace'
 TRACES = 300
@@ -53,6 +53,7 @@ class BesideTheProgram(InFolder):
                     ['list', '--holes', '--lines', '--same'],
                     ['picks', '--lost'],
                     ['picks', '--files'],
+                    ['picks', '--every', '--different'],
                 ):
                     self.assertEqual(self.printed(program, words, trace), read_of(words, text))
 
@@ -76,6 +77,14 @@ class BesideTheProgram(InFolder):
     def test_random_traces_of_version_3(self):
         self.compare(3, program_of(3))
 
+    @needed(program_of(3) is not None, 'a crashfs that takes traces of version 3 is not there')
+    def test_the_sets_that_differ_in_the_examples(self):
+        words = ['picks', '--every', '--different']
+        for path in sorted(EXAMPLES.glob('**/*.trace')):
+            with self.subTest(trace=path.name):
+                wanted = read_of(words, path.read_text('utf-8'))
+                self.assertEqual(self.printed(program_of(3), words, str(path)), wanted)
+
 
 def read_of(words, text):
     try:
@@ -84,5 +93,4 @@ def read_of(words, text):
         return str(fault)
     if words[0] == 'list':
         return ''.join(listing(plan, True, True))
-    sets = different(lost_sets(plan) if '--lost' in words else file_sets(plan))
-    return ''.join(f'{places}\n'.replace(' ', '') for places in sets)
+    return ''.join(lines_of(plan.reading, dict.fromkeys(words[1:], True)))

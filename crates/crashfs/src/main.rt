@@ -48,6 +48,9 @@ fn sets_of(options: PicksOptions) -> PickSets {
     if options.count {
         return PickSets::Count;
     }
+    if options.different {
+        return PickSets::Different(options.most);
+    }
     if options.every {
         return PickSets::Every(options.most);
     }

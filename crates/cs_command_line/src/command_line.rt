@@ -101,6 +101,7 @@ fn picks_of(matches: &ArgMatches) -> PicksOptions {
         lost: matches.get_flag("lost"),
         files: matches.get_flag("files"),
         every: matches.get_flag("every"),
+        different: matches.get_flag("different"),
         count: matches.get_flag("count"),
         most: matches.get_one("most").unwrap_or(MOST_SETS),
         sample: match count {

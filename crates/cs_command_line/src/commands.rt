@@ -116,22 +116,26 @@ fn without_families<'a>(arg: Arg<'a>) -> Result<Arg<'a>, AllocError> {
     arg.conflicts_with("lost")?.conflicts_with("files")
 }
 
+/// The argument, which goes with `--every` and with no other families.
+fn of_every<'a>(arg: Arg<'a>) -> Result<Arg<'a>, AllocError> {
+    // what needs an option that doesn't go with another one goes with that one neither
+    without_families(arg.requires_arg("every")?)?.conflicts_with("sample")
+}
+
 /// The command, to which the options of `picks` that say which sets of all are printed are added.
 fn with_every<'a>(alloc: Global, command: Command<'a>) -> Result<Command<'a>, AllocError> {
     let every = "All sets that a crash may leave";
+    let different = "Of these only the first of those that leave equal states";
     let count = "Only how many sets there are";
     let most = "The most sets that are printed, 1 to 16777216; default 1000000";
     let every = without_families(flag(alloc, "every", every))?;
-    // what needs an option that doesn't go with another one goes with that one neither
-    let count = flag(alloc, "count", count).requires_arg("every")?;
-    let count = without_families(count)?.conflicts_with("sample")?;
-    let most = value_argument(alloc, "most", "N", most)
-        .value_parser(value_parser!(u32).range(1..=16_777_216))
-        .requires_arg("every")?;
-    let most = without_families(most)?
-        .conflicts_with("sample")?
-        .conflicts_with("count")?;
-    command.arg(every)?.arg(count)?.arg(most)
+    let different = of_every(flag(alloc, "different", different))?.conflicts_with("count")?;
+    let count = of_every(flag(alloc, "count", count))?;
+    let most = value_argument(alloc, "most", "N", most).value_parser(value_parser!(u32).range(
+        1..=16_777_216,
+    ));
+    let most = of_every(most)?.conflicts_with("count")?;
+    command.arg(every)?.arg(different)?.arg(count)?.arg(most)
 }
 
 /// The command, to which the options of sets that are drawn are added.

@@ -1,11 +1,11 @@
 -- What is written so far, and what is left.
-use Rattle.std.proofs.Common.{◌≡◌, ℕ, zero, suc, ◌+◌, ◌-◌, ◌<◌, ◌≤◌, Bool, true, false, cond, List, [], ◌∷◌, ◌++◌, Option, codes, decimal}
-use Rattle.std.proofs.Common.{get_or, take, length, refl, sym, ap, ◌∙◌, subst, arith, append_assoc, length-append}
+use Rattle.std.proofs.Common.{◌≡◌, ℕ, zero, suc, ◌+◌, ◌-◌, ◌<◌, ◌≤◌, Bool, true, cond, List, [], ◌∷◌, ◌++◌, Option, codes, decimal}
+use Rattle.std.proofs.Common.{get_or, map, take, length, refl, sym, ap, ◌∙◌, subst, arith, append_assoc, length-append}
 use Rattle.std.proofs.KnownBytes.{Appends-nil, Appends-trans}
-use Rattle.std.proofs.lemmas.List.{append-nil, flat_map_more, take_more}
+use Rattle.std.proofs.lemmas.List.{append-nil, flat_map_more, map-append, take_more}
 use Rattle.std.proofs.lemmas.List.Elements.{All-nil, All-push}
 use Rattle.std.specs.Io.KnownBytes.{Appends}
-use Rattle.std.specs.List.{All, Contains, filter, flat_map, range_with_len}
+use Rattle.std.specs.List.{Contains, filter, range_with_len}
 use Rattle.cs_sets.specs.declared.row.Row.{Row}
 use Rattle.cs_sets.specs.Bits.{has_place}
 use Rattle.cs_sets.specs.Finding.{HasNone, IsNext}
@@ -119,6 +119,18 @@ passed_more count left rest all x passed e = record {
 pub passed_long : (count : ℕ) (left all : List (List ℕ)) → IsPassed count left all → length all ≡ count + length left
 passed_long count left all passed =
     ap length (sym passed.whole) ∙ length-append passed.done left ∙ ap (λ v. v + length left) passed.long
+
+-- the text of one more set
+pub rows_more : (old now new : Option (List ℕ)) (rows : List Row) (i : ℕ) (d : Row) → i < length rows
+    → Appends old now (picks_text (map places_of (take i rows))) → Appends now new (pick_line (places_of (get_or rows i d)))
+    → Appends old new (picks_text (map places_of (take (i + 1) rows)))
+rows_more old now new rows i d there before written =
+    let row = get_or rows i d in
+    subst (λ v. Appends old new v)
+    (flat_map_more pick_line [] (map places_of (take i rows)) (places_of row)
+    ∙ ap picks_text (sym (map-append places_of (take i rows) (row ∷ [])))
+    ∙ ap (λ v. picks_text (map places_of v)) (sym (take_more rows i d there)))
+    (Appends-trans old now new (picks_text (map places_of (take i rows))) (pick_line (places_of row)) before written)
 
 -- ---- a sample
 

@@ -16,6 +16,9 @@ pub enum EveryFault {
     /// The sets can't be counted, or there are too many to draw one.
     #[error("too many sets to count")]
     TooMany,
+    /// The sets can't be compared: they fall into too many classes.
+    #[error("too many sets to compare")]
+    TooManyClasses,
     /// Memory ran out.
     #[error("out of memory")]
     Memory,

@@ -10,4 +10,4 @@ mod printed;
 pub use counted::{has_more_than, write_count};
 pub use drawn::write_sample;
 pub use fault::EveryFault;
-pub use printed::{write_every, write_pick, write_set};
+pub use printed::{write_every, write_pick, write_rows, write_set};

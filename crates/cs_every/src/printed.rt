@@ -1,5 +1,5 @@
 //! All sets that an order allows, as lines of a picks file.
-ghost use Rattle.std.specs.Prelude.{◌≤◌, ◌++◌, codes, decimal, length, IfErr, OnOk};
+ghost use Rattle.std.specs.Prelude.{◌≤◌, ◌++◌, codes, decimal, length, map, IfErr, OnOk};
 ghost use Rattle.std.specs.Io.KnownBytes.{Appends};
 ghost use Rattle.cs_sets.specs.Bits.{has_place};
 ghost use Rattle.cs_sets.specs.Every.{every};
@@ -101,6 +101,19 @@ pub fn write_set<W: Write>(set: &Row, out: &mut W) -> Result<(), EveryFault>
     write_first(first, out)?;
     write_others(set, first + 1, out)?;
     write_bytes(b"]\n", out)?;
+    Ok(())
+}
+
+/// Writes these sets, each as a line. Allocates nothing. After a fault some of the lines may be
+/// written.
+pub fn write_rows<W: Write>(sets: &[Row], out: &mut W) -> Result<(), EveryFault>
+    ensures fault { IfErr result IsOutside }
+    ensures text { OnOk result (Appends (W.contents out.old) (W.contents out.new)
+        (picks_text (map places_of sets.now))) }
+{
+    for set in sets {
+        write_set(set, out)?;
+    }
     Ok(())
 }
 

@@ -16,6 +16,8 @@ pub struct PicksOptions {
     pub files: bool,
     /// All sets that a crash may leave.
     pub every: bool,
+    /// Of these only the first of those that leave equal states.
+    pub different: bool,
     /// Only how many there are.
     pub count: bool,
     /// No set is printed if there are more than this many.

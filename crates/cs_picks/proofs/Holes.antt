@@ -1,16 +1,16 @@
 -- A plan with holes covers pairs and single losses.
-use Rattle.std.proofs.Common.{◌≡◌, ◌≢◌, ℕ, zero, suc, ◌+◌, ◌<◌, ◌≤◌, ◌==◌, ◌&&◌, ◌||◌, not, Bool, true, false, List, [], ◌∷◌, ◌++◌, length, map, get_or}
-use Rattle.std.proofs.Common.{refl, sym, ap, ◌∙◌, arith, ⊎_elim, subst, add-one}
+use Rattle.std.proofs.Common.{◌≡◌, ℕ, zero, suc, ◌+◌, ◌<◌, ◌≤◌, ◌==◌, ◌&&◌, ◌||◌, not, Bool, true, false, List, [], ◌∷◌, length, map}
+use Rattle.std.proofs.Common.{refl, sym, ap, ◌∙◌, arith, ⊎_elim, subst}
 use Rattle.std.proofs.Math.Path.{fun_ext}
-use Rattle.std.proofs.lemmas.Bool.{cases_Bool, cases_eq, eq-eqb, false≢true}
-use Rattle.std.proofs.lemmas.List.{get_or_default, length-map}
+use Rattle.std.proofs.lemmas.Bool.{cases_Bool, cases_eq, false≢true}
+use Rattle.std.proofs.lemmas.List.{length-map}
 use Rattle.std.proofs.Math.ListN.{get_or-map}
 use Rattle.std.proofs.lemmas.List.Elements.{Contains-append_left, Contains-append_right}
-use Rattle.std.specs.List.{Contains, filter, flat_map, list_any, range_with_len}
+use Rattle.std.specs.List.{Contains, filter, list_any, range_with_len}
 use Rattle.cs_apm.specs.Chains as micros
 use Rattle.cs_apm.specs.Orders.{needs_in}
 use Rattle.cs_apm.specs.Sets as allowed
-use Rattle.cs_plan.specs.Plans.{families, holes_at, holes_of, is_kept, places_of_hole, places_below, plan_of, prefixes, set_in, set_of, IsAllowedIn}
+use Rattle.cs_plan.specs.Plans.{families, holes_at, holes_of, is_kept, places_of_hole, places_below, plan_of, prefixes, IsAllowedIn}
 use Rattle.cs_plan.specs.declared.recipe.Recipe.{Recipe}
 use Rattle.cs_plan.specs.declared.recipe.Recipe.TheVariants.{Hole, Pick}
 use Rattle.cs_sets.specs.Chains as places

@@ -1,4 +1,5 @@
 mod Allowed
+mod Compared
 mod Filled
 mod Holes
 mod Printed

@@ -8,13 +8,19 @@ use Rattle.cs_plan.specs.Scenes.{Scene}
 use Rattle.cs_picks.specs.Families.{family_in}
 use Rattle.cs_picks.specs.Sets.{PrintsSets, WritesSets, every_in}
 use Rattle.cs_picks.specs.declared.sets.PickSets.{PickSets}
-use Rattle.cs_picks.specs.declared.sets.PickSets.TheVariants.{Of, Every, Count, Sample}
+use Rattle.cs_picks.specs.declared.sets.PickSets.TheVariants.{Of, Every, Different, Count, Sample}
 use Rattle.std.proofs.Common.{length}
 
 writes_kept : (s : Scene) (sets : PickSets) (old mid new : Option (List ℕ)) → WritesSets s sets old mid → Keeps mid new
     → WritesSets s sets old new
 writes_kept s (Of family) old mid new written kept = Appends-kept old mid new (picks_text (family_in s family)) written kept
 writes_kept s (Every most) old mid new written kept = (written.0, Appends-kept old mid new (picks_text (every_in s)) written.1 kept)
+writes_kept s (Different most) old mid new written kept = record {
+  sets = written.sets;
+  different = written.different;
+  few = written.few;
+  written = Appends-kept old mid new (picks_text written.sets) written.written kept;
+}
 writes_kept s Count old mid new written kept = Appends-kept old mid new (count_text (length (every_in s))) written kept
 writes_kept s (Sample seed count) old mid new written kept = record {
   drawn = written.drawn;

@@ -1,11 +1,15 @@
 -- What is printed of the sets that a crash may leave.
-use Rattle.std.specs.Prelude.{◌≡◌, ℕ, ◌<◌, ◌≤◌, ◌⊎◌, List, length, Option}
+use Rattle.std.specs.Prelude.{◌≡◌, ℕ, ◌<◌, ◌≤◌, List, length, Option}
 use Rattle.std.specs.Io.KnownBytes.{Appends}
 use Rattle.cs_apm.specs.Orders.{needs_in}
 use Rattle.cs_plan.specs.Scenes.{Scene, order_in}
 use Rattle.cs_sets.specs.Every.{every}
+use Rattle.cs_different.specs.Sets.{AreDifferent}
+use Rattle.cs_different.specs.declared.classes.TheConstants.{CLASSES}
+use Rattle.cs_different.specs.declared.fault.DifferentFault.{DifferentFault}
+use Rattle.cs_different.specs.declared.fault.DifferentFault.TheVariants as compared
 use Rattle.cs_every.specs.declared.fault.EveryFault.{EveryFault}
-use Rattle.cs_every.specs.declared.fault.EveryFault.TheVariants.{More, TooMany, Memory, Output}
+use Rattle.cs_every.specs.declared.fault.EveryFault.TheVariants.{More, TooMany, TooManyClasses, Memory, Output}
 use Rattle.cs_every.specs.Drawn.{WritesSample}
 use Rattle.cs_every.specs.Faults.{IsOutside, IsUncounted, IsUndrawn}
 use Rattle.cs_every.specs.Texts.{count_text, picks_text}
@@ -13,17 +17,25 @@ use Rattle.cs_inputs.specs.Scenes.{IsScene}
 use Rattle.cs_inputs.specs.declared.inputs.Inputs.{Inputs}
 use Rattle.cs_picks.specs.Families.{family_in}
 use Rattle.cs_picks.specs.declared.sets.PickSets.{PickSets}
-use Rattle.cs_picks.specs.declared.sets.PickSets.TheVariants.{Of, Every, Count, Sample}
+use Rattle.cs_picks.specs.declared.sets.PickSets.TheVariants.{Of, Every, Different, Count, Sample}
 
 -- all sets that a crash may leave, ascending
 abbrev pub every_in : Scene → List (List ℕ)
 every_in s = every (needs_in (order_in s)) (length (order_in s))
+
+-- known bytes grow by the sets that differ, if they are no more than that many
+pub record WritesDifferent (s : Scene) (most : ℕ) (old new : Option (List ℕ)) : Type 0 where
+  pub sets : List (List ℕ)
+  pub different : AreDifferent s sets
+  pub few : length sets ≤ most
+  pub written : Appends old new (picks_text sets)
 
 -- known bytes grow by what is asked for of a scene's sets
 abbrev pub WritesSets : Scene → PickSets → Option (List ℕ) → Option (List ℕ) → Type 0
 WritesSets s (Of family) old new = Appends old new (picks_text (family_in s family))
 WritesSets s (Every most) old new = (length (every_in s) ≤ most)
     × Appends old new (picks_text (every_in s))
+WritesSets s (Different most) old new = WritesDifferent s most old new
 WritesSets s Count old new = Appends old new (count_text (length (every_in s)))
 WritesSets s (Sample seed count) old new = WritesSample (every_in s) count old new
 
@@ -31,13 +43,31 @@ WritesSets s (Sample seed count) old new = WritesSample (every_in s) count old n
 abbrev pub PrintsSets : Inputs → PickSets → Option (List ℕ) → Option (List ℕ) → Type 0
 PrintsSets inputs sets old new = (s : Scene) × IsScene inputs s × WritesSets s sets old new
 
+-- the fault of the same name
+abbrev pub fault_of_different : DifferentFault → EveryFault
+fault_of_different (compared.More most) = More most
+fault_of_different compared.TooMany = TooManyClasses
+fault_of_different compared.Memory = Memory
+
+-- why not the sets that differ are written: if there are too many classes, there are more sets than
+-- classes are followed
+abbrev pub IsUncompared : Scene → ℕ → EveryFault → Type 0
+IsUncompared s most (More bound) = (bound ≡ most)
+    × ((sets : List (List ℕ)) × (AreDifferent s sets × (most < length sets)))
+IsUncompared s most TooMany = ⊥
+IsUncompared s most TooManyClasses = CLASSES < length (every_in s)
+IsUncompared s most Memory = Unit {0}
+IsUncompared s most Output = Unit {0}
+
 -- why not all that is asked for is written
 abbrev pub IsRefused : Scene → PickSets → EveryFault → Type 0
 IsRefused s (Of family) fault = IsOutside fault
 IsRefused s (Every most) (More bound) = (bound ≡ most) × (most < length (every_in s))
 IsRefused s (Every most) TooMany = ⊥
+IsRefused s (Every most) TooManyClasses = ⊥
 IsRefused s (Every most) Memory = Unit {0}
 IsRefused s (Every most) Output = Unit {0}
+IsRefused s (Different most) fault = IsUncompared s most fault
 IsRefused s Count fault = IsUncounted (needs_in (order_in s)) (length (order_in s)) fault
 IsRefused s (Sample seed count) fault = IsUndrawn (needs_in (order_in s)) (length (order_in s))
     fault

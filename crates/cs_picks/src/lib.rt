@@ -1,11 +1,12 @@
 //! The command `picks`: sets of a trace's micro-operations that a crash may leave, as lines of a
-//! picks file. They are families of sets, all sets, sets drawn at random, or only how many there
-//! are.
+//! picks file. They are families of sets, all sets, those of all that leave different states, sets
+//! drawn at random, or only how many there are.
 #![tactic(auto)]
 
 mod changes;
 mod command;
 pub mod covering;
+mod different;
 mod family;
 mod fault;
 mod files;

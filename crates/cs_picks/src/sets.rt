@@ -3,6 +3,7 @@ ghost use Rattle.std.specs.Prelude.{IfErr, OnOk};
 ghost use Rattle.cs_picks.specs.Sets.{IsRefused, WritesSets};
 ghost use Rattle.cs_picks.specs.declared.sets.PickSets.TheVariants as forms;
 
+use crate::different::write_different;
 use crate::family::{Family, write_family};
 use crate::order::order_of;
 use cs_every::{EveryFault, has_more_than, write_count, write_every, write_sample};
@@ -17,6 +18,9 @@ pub enum PickSets {
     Of(Family),
     /// All sets, if there are no more than this many.
     Every(u32),
+    /// Of all sets the first of those that leave equal trees and as many acknowledged lines, if
+    /// there are no more than this many of these.
+    Different(u32),
     /// How many sets there are.
     Count,
     /// As many sets as the second number, drawn one after the other, by the seed that is first.
@@ -86,6 +90,7 @@ pub fn write_sets<W: Write>(
     match sets {
         PickSets::Of(family) => write_family(alloc, scene, family, out),
         PickSets::Every(most) => write_all_sets(alloc, scene, most, out),
+        PickSets::Different(most) => write_different(alloc, scene, most, out),
         PickSets::Count => write_number_of_sets(alloc, scene, out),
         PickSets::Sample(seed, count) => write_drawn_sets(alloc, scene, seed, count, out),
     }
