@@ -22,7 +22,7 @@ from crashfs_tools.common.command import Refused
 from crashfs_tools.common.guard import Guard
 from crashfs_tools.disks.filesystems import lacking, named
 from crashfs_tools.disks.pool import become_worker
-from crashfs_tools.disks.workers import Workers
+from crashfs_tools.disks.workers import DiskWorkers
 
 from .disk_sessions import PROFILE_OF, SessionMaker, SessionResult, table, text_of
 from .random_sessions import session
@@ -82,7 +82,7 @@ class Run:
             return makers[name].result(seed, session(seed, self.words.operations))
 
         begin = partial(become_worker, os.getpid())
-        with Workers(self.words.jobs, begin, result_of) as workers:
+        with DiskWorkers(self.words.jobs, begin, result_of) as workers:
             for count, result in enumerate(workers.results(tasks), 1):
                 self.keep(result)
                 print(f'\r{count} of {len(tasks)} sessions', end='', file=sys.stderr, flush=True)

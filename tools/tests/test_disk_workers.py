@@ -18,7 +18,7 @@ from crashfs_tools.common.guard import time_limit
 from crashfs_tools.common.trace_read import read_trace
 from crashfs_tools.disks import filesystems
 from crashfs_tools.disks.pool import DiskPool
-from crashfs_tools.disks.workers import Fault, Workers
+from crashfs_tools.disks.workers import Fault, DiskWorkers
 
 from .support import EXAMPLES, FAKE, TOOLS, InFolder
 from .test_disks import loops, needs_disks
@@ -52,13 +52,13 @@ class Results(unittest.TestCase):
             time.sleep(0.01)
             return [task, os.getpid()]
 
-        with Workers(3, lambda: None, result) as workers:
+        with DiskWorkers(3, lambda: None, result) as workers:
             found = list(workers.results(list(range(20))))
         self.assertEqual(sorted(task for task, _ in found), list(range(20)))
         self.assertEqual(len({process for _, process in found}), 3)
 
     def test_there_are_no_more_processes_than_tasks(self) -> None:
-        with Workers(9, lambda: None, abs) as workers:
+        with DiskWorkers(9, lambda: None, abs) as workers:
             self.assertEqual(sorted(workers.results([-1, 2])), [1, 2])
             self.assertEqual(len(workers.processes), 2)
 
@@ -66,17 +66,19 @@ class Results(unittest.TestCase):
         def refuse(task: int) -> int:
             raise Refused(f'no {task}')
 
-        with self.assertRaisesRegex(Refused, 'no 7'), Workers(1, lambda: None, refuse) as workers:
+        with self.assertRaisesRegex(Refused, 'no 7'), DiskWorkers(
+            1, lambda: None, refuse
+        ) as workers:
             list(workers.results([7]))
         with self.assertRaisesRegex(Fault, 'ZeroDivisionError'):
-            with Workers(1, lambda: None, lambda task: 1 // task) as divided:
+            with DiskWorkers(1, lambda: None, lambda task: 1 // task) as divided:
                 list(divided.results([0]))
 
     def test_a_fault_at_the_beginning_is_raised_here(self) -> None:
         def begin() -> None:
             raise Refused('no mounts')
 
-        with self.assertRaisesRegex(Refused, 'no mounts'), Workers(2, begin, abs) as workers:
+        with self.assertRaisesRegex(Refused, 'no mounts'), DiskWorkers(2, begin, abs) as workers:
             list(workers.results([1, 2, 3]))
 
     def test_a_worker_that_is_killed_is_a_fault(self) -> None:
@@ -84,12 +86,12 @@ class Results(unittest.TestCase):
             os.kill(os.getpid(), signal.SIGKILL)
 
         with self.assertRaisesRegex(Refused, 'was killed'):
-            with Workers(2, lambda: None, end) as workers:
+            with DiskWorkers(2, lambda: None, end) as workers:
                 list(workers.results([1, 2, 3, 4]))
 
     def test_a_stop_ends_workers_that_wait_and_that_work(self) -> None:
         begun = time.monotonic()
-        with self.assertRaises(Stop), Workers(3, lambda: None, time.sleep) as workers:
+        with self.assertRaises(Stop), DiskWorkers(3, lambda: None, time.sleep) as workers:
             for _ in workers.results([0, 600, 600]):
                 raise Stop
         self.assertLess(time.monotonic() - begun, MOST_SECONDS)

@@ -18,7 +18,7 @@ from .disk import Crash, Disk, joined
 from .filesystems import FileSystem
 from .levers import Lever
 from .moments import Moment
-from .workers import Workers
+from .workers import DiskWorkers
 
 PR_SET_PDEATHSIG = 1
 Found = List[Tuple[Entries, Crash]]
@@ -54,7 +54,7 @@ class DiskPool:
         are done, and with how many there are."""
         tasks = self.tasks()
         found: Dict[str, Found] = {name: [] for name in self.makers}
-        with Workers(jobs, partial(become_worker, os.getpid()), self.crash) as workers:
+        with DiskWorkers(jobs, partial(become_worker, os.getpid()), self.crash) as workers:
             for count, (name, crashes) in enumerate(workers.results(tasks), 1):
                 found[name] += crashes
                 on_step(count, len(tasks))

@@ -37,7 +37,7 @@ class Fault(Exception):
     """What a worker raised, as text."""
 
 
-class Workers(Generic[Task, Result]):
+class DiskWorkers(Generic[Task, Result]):
     """So many processes, used by `with`. Each calls `begin` first, and `do` with each of its tasks.
     They are killed at the end."""
 
@@ -47,7 +47,7 @@ class Workers(Generic[Task, Result]):
         self.do = do
         self.processes: Dict[Connection, int] = {}
 
-    def __enter__(self) -> Workers[Task, Result]:
+    def __enter__(self) -> DiskWorkers[Task, Result]:
         return self
 
     def __exit__(
