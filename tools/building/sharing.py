@@ -7,6 +7,7 @@ from pathlib import Path
 
 
 def library_of(top: Path, name: str) -> Path:
+    """The folder of a crate's library."""
     return top / 'crates' / name / 'out' / 'rlib'
 
 

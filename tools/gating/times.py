@@ -72,6 +72,7 @@ def table_of(shares: Shares, wall: float) -> str:
 
 
 def is_running(process: int) -> bool:
+    """Whether a process exists."""
     return Path(f'/proc/{process}').exists()
 
 

@@ -48,6 +48,7 @@ def crates_in_table(page: str) -> List[Tuple[str, int]]:
 
 
 def differing(what: str, found: List[str], wanted: List[str]) -> Iterator[str]:
+    """A sentence for each name that isn't as often in `found` as it should be."""
     for name in sorted({*found, *wanted}):
         if found.count(name) != wanted.count(name):
             yield f'{name} is {found.count(name)} times in {what}, not {wanted.count(name)} times'
@@ -73,6 +74,7 @@ def crate_page_faults(page: str, uses: Dict[str, List[str]]) -> Iterator[str]:
 
 
 def architecture_faults() -> List[str]:
+    """Where ARCHITECTURE doesn't have the crates that crates.txt has."""
     page = (TOP / 'docs' / 'internals' / 'ARCHITECTURE.md').read_text('utf-8')
     uses = dependencies((TOP / 'crates.txt').read_text('utf-8'))
     return [f'docs/internals/ARCHITECTURE.md: {fault}' for fault in crate_page_faults(page, uses)]

@@ -27,6 +27,7 @@ def long_lines(text: str, columns: int) -> List[str]:
 
 
 def lines_in(node: ast.stmt) -> int:
+    """How many lines a function has."""
     return (node.end_lineno or node.lineno) - node.lineno + 1
 
 
@@ -60,6 +61,7 @@ def wide_lines() -> Iterator[str]:
 
 
 def long_files() -> Iterator[str]:
+    """A sentence for each file that has too many lines."""
     for path in [*crate_sources(), *TOOLS.rglob('*.py')]:
         lines = len(path.read_text('utf-8').splitlines())
         if lines > MOST_LINES:

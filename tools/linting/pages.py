@@ -11,7 +11,7 @@ from .sources import CRATES, name_of
 
 
 def older_pages() -> List[str]:
-    """The files that `tools/inventories` would write otherwise."""
+    """A sentence for each file that is not as `tools/inventories` would write it now."""
     return [
         f'{name_of(path)} is older than the sources: run tools/inventories'
         for path in older_files()
@@ -41,4 +41,5 @@ def edits_of_no_crate() -> List[str]:
 
 
 def made_faults() -> List[str]:
+    """What is wrong with the pages that are made from the sources."""
     return [*older_pages(), *silent_tests(), *edits_of_no_crate()]

@@ -70,4 +70,5 @@ def unexplained(texts: Dict[str, str]) -> List[str]:
 
 
 def unexplained_comments() -> List[str]:
+    """The comments that silence a linter without a reason, in all Python files."""
     return unexplained({name_of(path): path.read_text('utf-8') for path in python_files()})

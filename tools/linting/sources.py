@@ -31,6 +31,7 @@ def python_files() -> List[Path]:
 
 
 def is_test(path: Path) -> bool:
+    """Whether a file is one of the tools' tests."""
     return TOOLS / 'tests' in path.parents
 
 

@@ -105,12 +105,14 @@ def lines_of_programs() -> Iterator[Line]:
 
 
 def names_of_programs() -> Iterator[Line]:
+    """The names that the commands' Python gives to something."""
     for path in programs_to_read():
         for number, name in names_in_python(path.read_text('utf-8')):
             yield Line(name_of(path), number, name)
 
 
 def is_allowed(line: Line) -> bool:
+    """Whether a line may have a retired word."""
     return any(line.file == file and text in line.text for file, text in ALLOWED)
 
 

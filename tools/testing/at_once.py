@@ -20,6 +20,7 @@ Part = Callable[[], Outcome]
 
 
 def gigabytes_available() -> float:
+    """How much memory programs can still get."""
     with open(MEMORY, encoding='ascii') as file:
         fields = dict(line.split(':') for line in file)
     return int(fields['MemAvailable'].split()[0]) / 2**20
@@ -41,20 +42,24 @@ class Progress:
         self.is_over = threading.Event()
 
     def text(self) -> str:
+        """How many parts are done, and which run now."""
         running = ', '.join(sorted(self.running))
         seconds = time.monotonic() - self.begin
         return f'{self.done} of {len(self.names)} done after {seconds:.0f} s; running: {running}'
 
     def clear(self) -> None:
+        """Removes the line from the terminal."""
         if self.is_shown:
             print('\r\033[K', end='', file=sys.stderr, flush=True)
 
     def show(self) -> None:
+        """Shows the line on the terminal, if there is one."""
         if self.is_shown:
             width = os.get_terminal_size(sys.stderr.fileno()).columns - 1
             print(f'\r\033[K{self.text()[:width]}', end='', file=sys.stderr, flush=True)
 
     def keep_showing(self) -> None:
+        """Shows the line again and again, in a thread."""
         while not self.is_over.wait(SECONDS_BETWEEN):
             self.show()
 

@@ -32,10 +32,12 @@ class KnownFailure:
 
     @property
     def trace(self) -> str:
+        """The name of the file that has the shortened trace."""
         return f'entry-{self.number}.trace'
 
     @property
     def page(self) -> str:
+        """The name of the file that has the report of the shortened trace."""
         return f'entry-{self.number}.html'
 
 
@@ -51,6 +53,7 @@ class Book:
     faults: List[Tuple[int, str]] = field(default_factory=list)
 
     def save(self) -> None:
+        """Writes the book, so that another run goes on from it."""
         fields = {
             'crashfs-campaign': VERSION,
             'identity': self.identity,

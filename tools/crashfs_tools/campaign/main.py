@@ -54,6 +54,7 @@ class Campaign:
             shutil.rmtree(self.work, ignore_errors=True)
 
     def try_seed(self, seed: int) -> None:
+        """Records and checks the session of one seed, and adds what is new to the book."""
         fault = self.sessions.record(seed)
         checked = Checked(fault=fault) if fault else self.sessions.check(self.sessions.trace)
         if checked.fault:
@@ -102,6 +103,7 @@ def run_campaign(arguments: List[str]) -> int:
 
 
 def report(options: CampaignOptions, book: Book) -> None:
+    """Prints what was found, and writes the page if one is asked for."""
     with standard_output():
         print('\n'.join(lines_of(options, book)))
     if options.html is not None:
@@ -110,6 +112,7 @@ def report(options: CampaignOptions, book: Book) -> None:
 
 
 def status_of(book: Book) -> int:
+    """The exit status: 1 if something fails, 3 if a session could not be tried, else 0."""
     if book.entries:
         return SOME_FAIL
     return NO_VERDICT if book.faults else 0

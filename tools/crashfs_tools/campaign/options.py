@@ -50,6 +50,7 @@ class CampaignOptions:
 
 
 def seeds_of(text: str) -> Tuple[int, int]:
+    """A range of seeds, as `1-100`, by its ends."""
     match = re.fullmatch(r'(\d+)-(\d+)', text)
     if match is None or int(match[1]) > int(match[2]):
         raise argparse.ArgumentTypeError(f'{text} is no range such as 1-100')
@@ -57,6 +58,7 @@ def seeds_of(text: str) -> Tuple[int, int]:
 
 
 def seconds(text: str) -> float:
+    """A number of seconds above 0."""
     try:
         found_number = float(text)
     except ValueError:
@@ -67,6 +69,7 @@ def seconds(text: str) -> float:
 
 
 def parser() -> argparse.ArgumentParser:
+    """The parser of the command line."""
     made = argparse.ArgumentParser(
         prog=NAME,
         usage=f'{NAME} [OPTION].. RESULTS -- SESSION [ARG].. -- RECOVERY [ARG]..',
@@ -98,6 +101,7 @@ def parser() -> argparse.ArgumentParser:
 
 
 def read_options(arguments: List[str]) -> CampaignOptions:
+    """The options of a command line; a wrong one ends the program with its reason."""
     values, commands = parse(parser(), arguments)
     session, recovery = split_command(commands)
     if not session or not recovery:

@@ -17,10 +17,12 @@ COLUMNS = 100
 
 
 def count_of(count: int, noun: str) -> str:
+    """A number with what it counts, as `1 entry` or `2 entries`."""
     return f'{count:,} {noun}' if count == 1 else f'{count:,} {noun}s'
 
 
 def head(book: Book) -> str:
+    """The first line: how many sessions were tried, and what fails."""
     entries = len(book.entries)
     verdict = 'none fails' if not entries else f'{entries} different failures'
     if entries == 1:
@@ -44,6 +46,7 @@ def state_command(options: CampaignOptions, entry: KnownFailure) -> str:
 
 
 def lines_of(options: CampaignOptions, book: Book) -> Iterator[str]:
+    """The report, line by line."""
     yield head(book)
     for entry in book.entries.values():
         yield f'  {printable(entry.failure.cause)}'
@@ -59,6 +62,7 @@ def lines_of(options: CampaignOptions, book: Book) -> Iterator[str]:
 
 
 def folded(line: str) -> List[str]:
+    """A line as indented lines of the usual width."""
     return textwrap.wrap(line, COLUMNS, initial_indent='    ', subsequent_indent='      ')
 
 
@@ -81,6 +85,7 @@ def page(options: CampaignOptions, book: Book, folder: str) -> str:
 
 
 def section(options: CampaignOptions, entry: KnownFailure, folder: str) -> str:
+    """A failure as a part of the page, with a link to its own report."""
     link = os.path.relpath(os.path.join(options.results, entry.page), folder)
     text = '<br>'.join(html.escape(line) for line in entry.failure.text)
     found = f'In {count_of(entry.sessions, "session")}, first with seed {entry.seed}'

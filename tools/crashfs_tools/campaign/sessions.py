@@ -107,5 +107,6 @@ def failures_in(report: Path) -> List[Failure]:
 
 
 def last_line(said: str) -> str:
+    """The last line of what a command printed."""
     lines = said.strip().splitlines()
     return lines[-1] if lines else 'it printed nothing'

@@ -18,6 +18,7 @@ def says_in(lines: List[str]) -> List[int]:
 
 
 def is_say(fields: object) -> bool:
+    """Whether a line of a trace is an acknowledgement."""
     return isinstance(fields, dict) and fields.get('op') == 'say'
 
 

@@ -68,6 +68,7 @@ class Guard:
 
     @property
     def environment(self) -> Dict[str, str]:
+        """The environment for processes that the guard ends."""
         return with_token(os.environ, self.token)
 
     def end_processes(self, spared: Iterable[int] = ()) -> Dict[int, str]:

@@ -138,6 +138,7 @@ class Crashfs:
     def start(
         self, words: List[str], environment: Optional[Dict[str, str]]
     ) -> subprocess.Popen[bytes]:
+        """Starts the program, or the second reading; ProgramFault if it can't be started."""
         interpreter = [sys.executable, '-S'] if self.unproved else []
         try:
             return subprocess.Popen(
@@ -207,6 +208,7 @@ class Crashfs:
                 yield int(top), {'/' + path[len(top) + 1 :]: entry for path, entry in state}
 
     def whole_tree(self, words: List[str], environment: Optional[Dict[str, str]] = None) -> Entries:
+        """The tree of the one state that options name, with the root."""
         with self.archive(words, environment) as archive:
             return {'/' + path: entry for path, entry in archive}
 
@@ -279,5 +281,6 @@ def is_too_large(fault: Exception) -> bool:
 
 
 def last_line(output: str) -> str:
+    """The last line of what a program printed; nothing if it printed nothing."""
     lines = output.strip().splitlines()
     return lines[-1] if lines else ''

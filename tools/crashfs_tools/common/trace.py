@@ -331,4 +331,5 @@ def readable_text(data: bytes) -> str:
 
 
 def as_json(fields: Dict[str, Any]) -> str:
+    """A line of a trace, without blanks between its values."""
     return json.dumps(fields, separators=(',', ':'), ensure_ascii=False)

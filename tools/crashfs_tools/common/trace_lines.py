@@ -46,6 +46,7 @@ class TraceLine(NamedTuple):
 
     @property
     def text(self) -> str:
+        """The line in words, as `write /f, 5 bytes at 0`."""
         if self.word == 'say':
             return f'say "{self.details}"'
         words = [self.word, self.path, f'to {self.target}' if self.target else '']

@@ -83,6 +83,7 @@ def read_lines(lines: Iterable[str]) -> Iterator[Tuple[int, Trace]]:
 
 
 def read_header(fields: Dict[str, Any]) -> Trace:
+    """A trace that has a header and nothing else; an error if its version has no such header."""
     version = fields['trace']
     header = Header(fields['owner'], fields['group'], int(fields['mode'], 8))
     profile, block = fields.get('profile'), fields.get('block')
@@ -102,6 +103,7 @@ def profiles_of(version: int) -> Tuple[str, ...]:
 
 
 def read_line(trace: Trace, fields: Dict[str, Any]) -> None:
+    """Adds a line to a trace: a start line or an operation."""
     note = fields.pop('note', None) if trace.version >= 3 else None
     made = kind_of(fields)
     if not trace.has_kind(made):
@@ -116,16 +118,19 @@ def read_line(trace: Trace, fields: Dict[str, Any]) -> None:
 
 
 def kind_of(fields: Dict[str, Any]) -> Type[Any]:
+    """The type of a line."""
     if 'start' in fields:
         return STARTS.get(fields['start'], Start)
     return KINDS[fields['op']]
 
 
 def read_values(fields: Dict[str, Any], made: Type[Any], version: int) -> Dict[str, Any]:
+    """The values of a line, by the names of its type's fields."""
     return {part.name: read_value(part.name, fields, version) for part in dataclasses.fields(made)}
 
 
 def read_value(name: str, fields: Dict[str, Any], version: int) -> Any:
+    """One value of a line, as its type has it."""
     if name == 'data':
         if fields.get('start') == 'dir':
             return None
@@ -138,5 +143,6 @@ def read_value(name: str, fields: Dict[str, Any], version: int) -> Any:
 
 
 def read_bytes(fields: Dict[str, Any], version: int) -> bytes:
+    """The bytes of a line, which may be written as text."""
     is_text = version >= 3 and 'bytes' not in fields
     return str(fields['text']).encode() if is_text else bytes.fromhex(fields['bytes'])

@@ -70,6 +70,7 @@ class Tree:
 
     @property
     def micro_operations(self) -> int:
+        """How many micro-operations the operations are in the tree's version."""
         return self.steps_of_all + (self.steps_of_version_4 if self.version >= 4 else 0)
 
     def add_start(self, entry: StartLine) -> None:
@@ -135,15 +136,18 @@ class Tree:
         return self.unlink_fault(path) or self.link_fault(path)
 
     def rights_fault(self, operation: Union[Chmod, Chown, Fsync]) -> Optional[str]:
+        """Why an operation can't change or sync the rights of a path."""
         if operation.path not in self.entries:
             return f'{operation.path} is not there'
         return None if isinstance(operation, Chown) else self.link_fault(operation.path)
 
     def link_fault(self, path: str) -> Optional[str]:
+        """Why an operation that follows symbolic links isn't on this path."""
         is_link = self.entries[path].link is not None
         return f'{path} is a symbolic link' if is_link else None
 
     def rename_fault(self, operation: Rename) -> Optional[str]:
+        """Why a rename can't be in the trace."""
         source, target = operation.source, operation.target
         moved, replaced = self.entries.get(source), self.entries.get(target)
         parent = self.entries.get(parent_of(target))
@@ -248,6 +252,7 @@ class Tree:
         return int(isinstance(operation, (Creat, Mkdir, Symlink, Unlink, Rmdir, Link, Say)))
 
     def apply_write(self, operation: Write) -> int:
+        """Writes bytes, and returns how many micro-operations that is in all versions."""
         entry = self.entries[operation.path]
         size = len(entry.data or b'')
         if not operation.data:
@@ -258,6 +263,7 @@ class Tree:
         return int(end > size) + self.count_blocks(operation.offset, end)
 
     def apply_truncate(self, operation: Truncate) -> int:
+        """Sets a length, and returns how many micro-operations that is in all versions."""
         entry, length = self.entries[operation.path], operation.length
         size = len(entry.data or b'')
         entry.resize(length)
@@ -271,6 +277,7 @@ class Tree:
         return (end - 1) // self.block - begin // self.block + 1
 
     def set_rights(self, operation: Union[Chmod, Chown]) -> int:
+        """Sets a mode or owners; returns 1, for a micro-operation, if they were others before."""
         entry = self.entries[operation.path]
         before = entry.owner, entry.group, entry.mode
         if isinstance(operation, Chmod):

@@ -34,6 +34,7 @@ class ArchiveWriter:
         stream.close()
 
     def tree(self, number: int) -> Dict[str, Item]:
+        """The tree of a state."""
         return self.plan.trees.tree(self.plan.states[number][1])
 
     def write_state(self, number: int) -> None:
@@ -60,12 +61,14 @@ class ArchiveWriter:
                     self.write_item(f'{number}{path}', tree[path])
 
     def write_tree(self, number: int, top: str) -> None:
+        """Writes a state, below a name that is put before its paths."""
         tree = self.tree(number)
         for path in in_order(tree):
             name = top if path == '/' else ('' if top == './' else top) + path[1:]
             self.write_item(name, tree[path])
 
     def write_item(self, name: str, item: Item) -> None:
+        """Writes one file, directory or symbolic link."""
         info = tarfile.TarInfo(name.rstrip('/'))
         info.type = KINDS[item.kind]
         (info.uname, info.gname, mode), data = item.rights, item.data
@@ -118,6 +121,7 @@ class Reader(BytesIO):
 
 
 def in_order(tree: Dict[str, Item]) -> List[str]:
+    """The paths of a tree, each after its directory, by their names."""
     return sorted(tree, key=lambda path: path.split('/'))
 
 

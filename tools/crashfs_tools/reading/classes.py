@@ -92,11 +92,13 @@ class Classes:
         return found._replace(files=tuple(files))
 
     def step(self, found: Found, unit: int) -> Found:
+        """What a unit of micro-operations leaves."""
         for place in bits(unit):
             found = self.step_of(found, place)
         return found
 
     def step_of(self, found: Found, place: int) -> Found:
+        """What one micro-operation leaves."""
         operation = self.reading.operations[place]
         if operation.file is not None:
             files = dict(found.files)
@@ -108,6 +110,7 @@ class Classes:
         return found._replace(says=found.says + 1)
 
     def renamed(self, names: int, place: int, operation: Micro) -> int:
+        """The number of the names after a micro-operation changed entries."""
         key = names, place
         if key not in self._renamed:
             changed = dict(self.names[names])
@@ -117,6 +120,7 @@ class Classes:
         return self._renamed[key]
 
     def change_names(self, changed: Names, operation: Micro) -> None:
+        """Changes entries as a micro-operation does; those that are as at the start go."""
         nodes = {entry: self.node(changed, entry) for entry in operation.entries}
         there = {entry: node for entry, node in nodes.items() if node is not None}
         change_entries(there, operation)
@@ -137,11 +141,13 @@ class Classes:
             changed.pop(operation.removed_directory, None)
 
     def node(self, names: Names, entry: Entry) -> Optional[Inode]:
+        """What an entry names, or None."""
         node = names[entry] if entry in names else self.reading.start.get(entry)
         assert node is None or isinstance(node, Inode)
         return node
 
     def number(self, names: Names) -> int:
+        """The number of changed names, the same for equal ones."""
         key = frozenset(names.items())
         if key not in self.numbers:
             self.numbers[key] = len(self.names)
@@ -149,12 +155,14 @@ class Classes:
         return self.numbers[key]
 
     def is_named(self, names: int, file: int) -> bool:
+        """Whether a file has a name."""
         key = names, file
         if key not in self._named:
             self._named[key] = any(True for _ in self.entries_of(names, file))
         return self._named[key]
 
     def entries_of(self, names: int, file: int) -> Iterator[Entry]:
+        """The entries that name a file."""
         changed = self.names[names]
         yield from (entry for entry in self.start_entries.get(file, []) if entry not in changed)
         for entry, node in changed.items():
@@ -177,6 +185,7 @@ class Classes:
 
     @property
     def start_paths(self) -> Dict[str, Inode]:
+        """The paths of the start tree, with what is there."""
         if not self._start_paths:
             self._start_paths = dict(reached(self.reading.start.items()))
         return self._start_paths
@@ -190,6 +199,7 @@ class Classes:
         )
 
     def home(self, entry: Entry) -> str:
+        """The path of an entry whose directory is where it was made."""
         return f'{self.reading.homes[entry[0]]}/{entry[1]}'
 
     def nodes_at_home(self, found: Found) -> Dict[str, Optional[Inode]]:
@@ -223,6 +233,7 @@ class Classes:
     def shown(
         self, node: Optional[Inode], names: Names, contents: Dict[int, int]
     ) -> Optional[Shown]:
+        """What a state shows of a file or directory, with its rights."""
         if node is None:
             return None
         if node.kind == DIRECTORY:
@@ -231,5 +242,6 @@ class Classes:
 
 
 def add_place(places: Dict[int, int], file: Optional[int], place: int) -> None:
+    """Adds a place to those of a file."""
     assert file is not None
     places[file] = places.get(file, 0) | 1 << place

@@ -40,6 +40,7 @@ class Contents:
         return self.number(Content(self.reading.made_rights[file], data.length, blocks))
 
     def number(self, content: Content) -> int:
+        """The number of a file's content, the same for equal ones."""
         if content not in self.numbers:
             self.numbers[content] = len(self.contents)
             self.contents.append(content)
@@ -61,6 +62,7 @@ class Contents:
         return self._changed[key]
 
     def after(self, content: Content, operation: Micro) -> Content:
+        """The content after a micro-operation on the file."""
         if isinstance(operation, SetRights):
             return content._replace(rights=operation.rights)
         if isinstance(operation, ChangeSize):
@@ -83,6 +85,7 @@ class Contents:
     def overwritten(
         self, blocks: Tuple[Tuple[int, int], ...], write: WriteBlock
     ) -> Tuple[Tuple[int, int], ...]:
+        """The blocks after one was written in part."""
         changed = dict(blocks)
         before = self.blocks[changed.pop(write.block, ZEROS)]
         number = self.block(overwritten(before, write.at, write.data))

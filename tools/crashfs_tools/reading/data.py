@@ -33,6 +33,7 @@ class Data:
         self.put(block, overwritten(self.blocks.get(block, b''), at, piece))
 
     def put(self, block: int, whole: bytes) -> None:
+        """Sets a block; one without bytes is zeros."""
         if whole:
             self.blocks[block] = whole
         else:
@@ -72,6 +73,7 @@ class Data:
             yield self.blocks.get(block, b'')[:size].ljust(size, b'\0')
 
     def whole(self) -> bytes:
+        """All bytes, also those of large holes."""
         return b''.join(self.pieces())
 
     def read(self, begin: int, end: int) -> bytes:

@@ -91,6 +91,7 @@ class Digests:
         return digest_of(data[:shown].rstrip(b'\0'))
 
     def make_rights_and_size(self, number: int, places: int) -> Tuple[Rights, int]:
+        """The rights and the size that micro-operations give a file."""
         rights, size = self.reading.made_rights[number], self.made(number).length
         for place in bits(places):
             operation = self.reading.operations[place]
@@ -101,6 +102,7 @@ class Digests:
         return rights, size
 
     def shrinks(self, number: int, places: int) -> bool:
+        """Whether a file is ever made shorter by some micro-operations."""
         size = self.made(number).length
         for place in bits(places):
             operation = self.reading.operations[place]
@@ -111,6 +113,7 @@ class Digests:
         return False
 
     def blocks_of(self, places: int) -> Dict[int, int]:
+        """The writes among some places, by the block that they write to."""
         blocks: Dict[int, int] = {}
         for place in bits(places & self.writes):
             operation = self.reading.operations[place]

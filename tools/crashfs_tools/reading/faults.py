@@ -23,8 +23,10 @@ class LineFault(Exception):
         self.why = why
 
     def at(self, line: int) -> ReadingFault:
+        """The fault with the number of its line, as it is printed."""
         return ReadingFault(f'trace line {line}: {self.kind}', line, self.why)
 
 
 def syntax(why: str) -> LineFault:
+    """The fault of a line that isn't one of its version."""
     return LineFault('Syntax', why)

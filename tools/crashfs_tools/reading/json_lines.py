@@ -35,6 +35,7 @@ def integer(text: str) -> float:
 
 
 def finite(text: str) -> float:
+    """A number with a sign, a fraction or many digits; ValueError if it is infinite."""
     value = float(text)
     if math.isinf(value):
         raise ValueError(f'the number {text} is too large')
@@ -42,10 +43,12 @@ def finite(text: str) -> float:
 
 
 def refuse(text: str) -> None:
+    """Refuses `NaN` and `Infinity`, which Python's reader takes."""
     raise ValueError(f'{text} is no number')
 
 
 def depth(value: Any) -> int:
+    """How many levels of objects and arrays a value has."""
     if not isinstance(value, (dict, list)):
         return 0
     below = value.values() if isinstance(value, dict) else value
@@ -53,6 +56,7 @@ def depth(value: Any) -> int:
 
 
 def refuse_surrogates(value: Any) -> None:
+    """Refuses texts with half of a surrogate pair."""
     try:
         json.dumps(value, ensure_ascii=False).encode('utf-8')
     except UnicodeEncodeError as error:
@@ -60,6 +64,7 @@ def refuse_surrogates(value: Any) -> None:
 
 
 def is_number(value: Any) -> bool:
+    """Whether a value is a number that a trace may have."""
     return type(value) is int and 0 <= value <= LARGEST
 
 

@@ -61,10 +61,12 @@ class Line:
         self.fields = fields
 
     def paths(self) -> Iterator[str]:
+        """The paths that a line has."""
         return (self.fields[key] for key in PATHS if key in self.fields)
 
     @property
     def rights(self) -> Tuple[str, str, str]:
+        """The owner, the group and the mode of a line."""
         return self.fields['owner'], self.fields['group'], self.fields['mode']
 
     @property
@@ -116,6 +118,7 @@ class LineJudge:
         return line
 
     def judge_header(self, line: Line) -> None:
+        """Takes the version of a header, if it is known."""
         version = line.fields['trace']
         if not is_number(version) or version not in HEADERS:
             raise syntax(f'version {version} is not known (1, 2, 3, 4)')
@@ -126,6 +129,8 @@ class LineJudge:
             raise syntax(f'profile "{profile}" is not known in version {version}')
 
     def judge_word(self, line: Line) -> None:
+        """Returns the keys of the line's word; refuses one that the version lacks, and a start line
+        after an operation."""
         if line.key == 'start' and self.has_operation:
             raise syntax('a start line after an operation')
         self.has_operation = line.key == 'op'
@@ -139,6 +144,7 @@ class LineJudge:
         self.judge_keys(line, keys)
 
     def judge_keys(self, line: Line, keys: Tuple[str, ...]) -> None:
+        """Refuses a line that lacks a key, or has another one."""
         wanted, found = {line.key, *keys}, set(line.fields)
         if self.version >= 3:
             wanted |= found & {'note'}
@@ -202,6 +208,7 @@ def judge_parts(line: Line) -> None:
 
 
 def judge_target(target: str) -> None:
+    """Refuses a symbolic link's target that is empty, too long, or has a NUL."""
     if not 1 <= len(target.encode('utf-8')) <= TARGET_BYTES or '\0' in target:
         raise syntax(f'a target is 1 to {TARGET_BYTES} bytes without NUL')
 
@@ -220,6 +227,7 @@ def judge_names(line: Line) -> None:
 
 
 def is_name(name: str) -> bool:
+    """Whether a text is a name of an entry."""
     return (
         1 <= len(name.encode('utf-8')) <= NAME_BYTES
         and '\0' not in name

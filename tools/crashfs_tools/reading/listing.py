@@ -13,6 +13,7 @@ from .states import Digest
 
 
 def listing(plan: StateList, lines: bool = False, same: bool = False) -> Iterator[str]:
+    """The lines of `list`."""
     for place, operation in enumerate(plan.reading.operations):
         yield f'op {place} {operation.text}{origin(operation) if lines else ""}\n'
     first: Dict[Digest, int] = {}
@@ -24,6 +25,7 @@ def listing(plan: StateList, lines: bool = False, same: bool = False) -> Iterato
 
 
 def origin(operation: Micro) -> str:
+    """The line of the trace that a micro-operation is of, and its path."""
     path = '' if operation.file is None else operation.path
     return f' line {operation.line} {path}'.rstrip()
 
@@ -57,6 +59,7 @@ def json_listing(plan: StateList) -> Iterator[str]:
 
 
 def state_fields(text: str) -> Dict[str, Any]:
+    """The fields that say which set a state is."""
     kind, *numbers = text.split(' ')
     if kind == 'pick':
         places = [] if numbers == ['-'] else list(map(int, numbers[0].split(',')))
@@ -66,4 +69,5 @@ def state_fields(text: str) -> Dict[str, Any]:
 
 
 def as_line(fields: Dict[str, Any]) -> str:
+    """Fields as a line of JSON, without blanks between them."""
     return json.dumps(fields, separators=(',', ':'), ensure_ascii=False) + '\n'

@@ -35,6 +35,7 @@ HELP = (
 
 
 def main(words: List[str]) -> int:
+    """Runs a command and returns its status."""
     try:
         options = read_options(words)
         run(words[0], options)
@@ -55,6 +56,7 @@ def main(words: List[str]) -> int:
 
 
 def read_options(words: List[str]) -> Options:
+    """The options of a command, each with its value; Usage for one that it lacks."""
     if not words or words[0] not in FLAGS:
         raise Usage(f"unrecognized subcommand '{words[0] if words else ''}'")
     options: Options = {}
@@ -76,6 +78,7 @@ def read_options(words: List[str]) -> Options:
 
 
 def run(command: str, options: Options) -> None:
+    """Prints what a command asks for."""
     if '--help' in options:
         print(HELP)
         return
@@ -95,6 +98,7 @@ def run(command: str, options: Options) -> None:
 
 
 def file_bytes(path: str) -> bytes:
+    """The bytes of a file; a fault that names it if it can't be read."""
     try:
         with open(path, 'rb') as file:
             return file.read()
@@ -104,6 +108,7 @@ def file_bytes(path: str) -> bytes:
 
 def write_archive(plan: StateList, options: Options) -> None:
     # `list` begins faster without tarfile.
+    """Writes the archive that `tar` asks for."""
     from .archive import ArchiveWriter
 
     numbers = states_of(plan, options)

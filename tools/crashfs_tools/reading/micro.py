@@ -32,6 +32,7 @@ class Micro:
 
     @property
     def text(self) -> str:
+        """The micro-operation as `list` prints it."""
         raise NotImplementedError
 
     def fields(self) -> Dict[str, Any]:
@@ -39,6 +40,7 @@ class Micro:
         raise NotImplementedError
 
     def path_of_file(self) -> Dict[str, Any]:
+        """The fields of a micro-operation that changes a file."""
         return {'path': self.path or None, 'file': self.file}
 
 

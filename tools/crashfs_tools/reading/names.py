@@ -28,6 +28,7 @@ Entry = Tuple[int, str]
 
 
 def parent(path: str) -> str:
+    """The path of the directory that has a path's last name."""
     return path.rpartition('/')[0] or '/'
 
 
@@ -65,6 +66,7 @@ class Names:
         return above.number, path.rpartition('/')[2]
 
     def file(self, path: str) -> int:
+        """The number of the file at a path."""
         node = self.node(path)
         assert node is not None and node.kind != DIRECTORY
         return node.number
@@ -76,11 +78,13 @@ class Names:
         return f'{above}/{name}'
 
     def path_of_file(self, number: int) -> str:
+        """A path of a file."""
         return self.path_of(self.entries[number][0])
 
     # What lines do
 
     def add_file(self, path: str, size: int, kind: str = FILE) -> Inode:
+        """Makes a file or a symbolic link."""
         self.sizes.append(size)
         self.entries.append([])
         node = Inode(kind, len(self.sizes) - 1)
@@ -88,6 +92,7 @@ class Names:
         return node
 
     def add_directory(self, path: str) -> Inode:
+        """Makes a directory. Up to version 3 one that is made again has its number again."""
         entry = self.entry(path)
         number = len(self.directories) + 1
         if self.version < 4:
@@ -99,15 +104,18 @@ class Names:
         return node
 
     def add_path(self, path: str, node: Inode) -> None:
+        """Gives a file or directory a path, which counts as a record."""
         self.records += 1
         self.put(self.entry(path), node)
 
     def put(self, entry: Entry, node: Inode) -> None:
+        """Gives a file or directory an entry."""
         self.children[entry[0]][entry[1]] = node
         if node.kind != DIRECTORY:
             self.entries[node.number].append(entry)
 
     def remove(self, path: str) -> Inode:
+        """Removes the entry of a path, and returns what it named."""
         entry = self.entry(path)
         node = self.children[entry[0]].pop(entry[1])
         if node.kind != DIRECTORY:
@@ -156,20 +164,24 @@ class Names:
         self.judge_size(line)
 
     def need(self, path: str) -> Inode:
+        """What is at a path; a fault if nothing is."""
         node = self.node(path)
         if node is None:
             raise LineFault('Missing', f'{path} is not there')
         return node
 
     def need_kind(self, path: str, kinds: Tuple[str, ...]) -> None:
+        """A fault unless something of one of these kinds is at a path."""
         node = self.need(path)
         if node.kind not in kinds:
             raise LineFault('NotFile', f'{path} is {WORDS[node.kind]}')
 
     def need_file(self, path: str) -> None:
+        """A fault unless a file is at a path."""
         self.need_kind(path, (FILE,))
 
     def need_parent(self, path: str) -> None:
+        """A fault unless a path's directory is there."""
         above = self.node(parent(path))
         if above is None:
             raise LineFault('NoParent', f'{parent(path)} is not there')
@@ -177,11 +189,13 @@ class Names:
             raise LineFault('NotDir', f'{parent(path)} is {WORDS[above.kind]}')
 
     def need_free(self, path: str) -> None:
+        """A fault unless something can be made at a path."""
         self.need_parent(path)
         if self.node(path) is not None:
             raise LineFault('Exists', f'{path} is there already')
 
     def judge_rename(self, old: str, new: str) -> None:
+        """The first fault of a rename."""
         node = self.need(old)
         if node.kind == DIRECTORY and self.version < 4:
             raise LineFault('NotFile', f'{old} is a directory')
@@ -197,6 +211,7 @@ class Names:
             raise LineFault('NotFile', f'{new} is a directory')
 
     def judge_rmdir(self, path: str) -> None:
+        """The first fault of a removal of a directory."""
         node = self.need(path)
         if node.kind != DIRECTORY:
             raise LineFault('NotDir', f'{path} is {WORDS[node.kind]}')
@@ -204,6 +219,7 @@ class Names:
             raise LineFault('NotEmpty', f'{path} has entries')
 
     def judge_size(self, line: Line) -> None:
+        """A fault if a path, the records or a file would be larger than a limit."""
         if any(path.count('/') > PATH_NAMES for path in line.paths()):
             raise LineFault('TooLarge', f'a path of more than {PATH_NAMES} names')
         if self.records >= RECORDS and (line.word in MAKES_RECORD or self.moves_elsewhere(line)):

@@ -89,6 +89,7 @@ class Order:
         self.units: Dict[int, int] = {}
 
     def all_needs(self, reading: Reading) -> List[int]:
+        """What each micro-operation needs, by all rules, as sets of places."""
         needs: List[int] = []
         left: Dict[Mark, int] = {}
         directories: Dict[int, int] = {}
@@ -155,6 +156,7 @@ class Order:
         return self.both(first)
 
     def is_allowed(self, places: int) -> bool:
+        """Whether a crash may leave these micro-operations and no others."""
         lacking = (1 << places.bit_length()) - 1 & ~places
         return not any(self.needed_by[place] & places for place in bits(lacking))
 

@@ -67,11 +67,13 @@ def lines_of(reading: Reading, options: Options) -> Iterator[str]:
 
 
 def shown_count(count: int) -> str:
+    """A number, or that it is larger than eight bytes hold."""
     largest = 2**64 - 1
     return str(count) if count <= largest else f'more than {largest}'
 
 
 def sets_of(reading: Reading, options: Options) -> Iterator[List[int]]:
+    """The sets that the options ask for."""
     if '--every' in options:
         return every_members(reading, options)
     if '--sample' in options:

@@ -25,11 +25,13 @@ class StateList:
         self.states: List[Tuple[str, int]] = []
 
     def add(self, text: str, places: int) -> None:
+        """Adds a state; a fault if the plan is full."""
         if len(self.states) >= STATES:
             raise ReadingFault('plan too large')
         self.states.append((text, places))
 
     def add_holes(self) -> None:
+        """Adds each prefix without one micro-operation and what needs it."""
         for end in range(self.order.count + 1):
             for lost in range(end - 1):
                 kept = self.order.without((1 << end) - 1, 1 << lost)
@@ -37,6 +39,7 @@ class StateList:
                     self.add(f'hole {lost} {end}', kept)
 
     def judge_pick(self, number: int, pick: Sequence[int]) -> None:
+        """Refuses a pick that isn't ascending, or that no crash leaves."""
         ascending = all(one < other for one, other in zip(pick, pick[1:]))
         if not (
             ascending
@@ -49,6 +52,7 @@ class StateList:
 def plan_of(
     reading: Reading, holes: bool = False, picks: Sequence[Sequence[int]] = ()
 ) -> StateList:
+    """The prefixes, the holes if they are asked for, and the picks, numbered in this order."""
     plan = StateList(reading)
     for count in range(plan.order.count + 1):
         plan.add(f'prefix {count}', (1 << count) - 1)
@@ -75,6 +79,7 @@ def add_families(plan: StateList, has_lost: bool, has_files: bool) -> None:
 
 
 def set_of(places: Sequence[int]) -> int:
+    """A set of places as the bits of a number."""
     return sum(1 << place for place in places)
 
 

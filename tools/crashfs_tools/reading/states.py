@@ -59,6 +59,7 @@ class States:
         self._digests = lru_cache(None)(Digests(reading, self.change_places, self.make_file).digest)
 
     def count_says(self, places: int) -> int:
+        """How many acknowledged lines a set has."""
         return bin(places & self.says).count('1')
 
     def tree(self, places: int) -> Dict[str, Item]:
@@ -74,6 +75,7 @@ class States:
         }
 
     def digest(self, places: int) -> Digest:
+        """Equal for the sets that leave equal trees."""
         nodes, rights = self._nodes(places & self.entry_places)
         return tuple(
             (
@@ -85,9 +87,11 @@ class States:
         )
 
     def file(self, number: int, places: int) -> Tuple[Rights, Data]:
+        """The bytes and rights of a file in a set."""
         return self._file(number, places & self.change_places.get(number, 0))
 
     def file_digest(self, number: int, places: int) -> Tuple[Rights, bytes]:
+        """Equal for the sets in which a file has equal bytes and rights."""
         return self._digests(number, places & self.change_places.get(number, 0))
 
     def make_nodes(self, places: int) -> Inodes:
@@ -121,6 +125,7 @@ class States:
         return f'{self.reading.homes[entry[0]]}/{entry[1]}'
 
     def make_file(self, number: int, places: int) -> Tuple[Rights, Data]:
+        """Applies a set's changes of a file to what it was made with."""
         rights = self.reading.made_rights[number]
         data = self.reading.made_data.get(number, Data(self.reading.block_size)).copy()
         operations: List[Micro] = [self.reading.operations[place] for place in bits(places)]

@@ -32,9 +32,11 @@ class FileSync(SyncPoint):
         self.file = file
 
     def covers(self, operation: Micro) -> bool:
+        """Whether it makes a micro-operation durable."""
         return operation.file == self.file
 
     def is_fresh(self, since: List[Micro]) -> bool:
+        """Whether the file or a name of it was changed since, so that the sync writes the log."""
         return any(
             one.file == self.file or any(is_file(node, self.file) for node in one.handled)
             for one in since
@@ -83,6 +85,7 @@ class DirectorySync(SyncPoint):
         self.directory = directory
 
     def covers(self, operation: Micro) -> bool:
+        """Whether a micro-operation changes the directory or an entry of it."""
         return operation.directory == self.directory or any(
             directory == self.directory for directory, _ in operation.entries
         )

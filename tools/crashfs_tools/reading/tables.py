@@ -17,6 +17,7 @@ class Table:
         self.rights: Dict[int, Rights] = dict(reading.start_rights)
 
     def change(self, operation: Micro) -> None:
+        """Changes entries and rights as a micro-operation does."""
         change_entries(self.entries, operation)
         change_rights(self.rights, operation)
 
@@ -26,6 +27,7 @@ class Table:
 
 
 def change_entries(entries: Dict[Entry, Inode], operation: Micro) -> None:
+    """Changes entries as a micro-operation does."""
     if isinstance(operation, (CreateEntry, LinkEntry)):
         entries[operation.entries[0]] = operation.node
     elif isinstance(operation, DeleteEntry):
@@ -35,6 +37,7 @@ def change_entries(entries: Dict[Entry, Inode], operation: Micro) -> None:
 
 
 def change_rights(rights: Dict[int, Rights], operation: Micro) -> None:
+    """Changes the rights of directories as a micro-operation does."""
     if isinstance(operation, CreateEntry) and operation.made_directory is not None:
         rights[operation.made_directory] = operation.rights
     elif isinstance(operation, SetRights) and operation.directory is not None:

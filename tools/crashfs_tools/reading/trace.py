@@ -49,6 +49,7 @@ class Reading:
         self.names = Names()
 
     def take(self, line: Line) -> None:
+        """Reads one line: judges it, and adds what it does."""
         self.names.judge(line)
         if line.key == 'trace':
             self.take_header(line)
@@ -60,6 +61,7 @@ class Reading:
             operation.line = line.number
 
     def take_header(self, line: Line) -> None:
+        """Begins the tree, in the header's version."""
         self.version = self.names.version = line.fields['trace']
         self.profile = line.fields.get('profile', self.profile)
         self.block_size = line.fields.get('block', self.block_size)
@@ -74,6 +76,7 @@ class Reading:
     # What is made
 
     def make_file(self, line: Line, length: int) -> Inode:
+        """Makes the file of a line."""
         node = self.names.add_file(line.fields['path'], length)
         self.made_rights[node.number] = self.rights[node] = line.rights
         return node
@@ -88,6 +91,7 @@ class Reading:
         return node
 
     def make_directory(self, line: Line) -> Inode:
+        """Makes the directory of a line."""
         path = line.fields['path']
         above, name = self.names.entry(path)
         node = self.names.add_directory(path)
@@ -127,6 +131,7 @@ class Reading:
         self.add_creation(line, self.make_link(line))
 
     def add_creation(self, line: Line, node: Inode) -> None:
+        """Adds the micro-operation that makes a file, a directory or a symbolic link."""
         path, target = line.fields['path'], line.fields.get('target', '')
         entry = self.names.entry(path)
         self.operations.append(CreateEntry(path, entry, node, self.rights[node], target))
@@ -174,6 +179,7 @@ class Reading:
         self.write_blocks(number, at, data)
 
     def write_blocks(self, number: int, at: int, data: bytes) -> None:
+        """Adds a micro-operation for each block that bytes are in."""
         size = self.block_size
         for block, begin, piece in split(at, data, size):
             self.add_change(WriteBlock(number, block, size, begin, piece))
@@ -190,6 +196,7 @@ class Reading:
         self.change_size(number, length)
 
     def change_size(self, number: int, length: int) -> None:
+        """Adds the micro-operation that gives a file a size."""
         self.names.sizes[number] = length
         self.add_change(ChangeSize(number, length))
 
@@ -202,6 +209,7 @@ class Reading:
         self.set_rights(line, (line.fields['owner'], line.fields['group'], mode))
 
     def set_rights(self, line: Line, rights: Rights) -> None:
+        """Adds the micro-operation that sets owner and mode, unless they are so already."""
         node = self.names.need(line.fields['path'])
         if self.rights[node] == rights:
             return

@@ -87,6 +87,7 @@ def packed(word: str) -> str:
 
 
 def unpacked(word: str) -> Optional[bytes]:
+    """The bytes of a packed word; None for another word."""
     return word[len(PACKED) :].encode('latin-1') if word.startswith(PACKED) else None
 
 
@@ -113,6 +114,7 @@ def shown_text(text: Optional[str]) -> Optional[str]:
 
 
 def shown_path(text: Optional[str]) -> Optional[str]:
+    """The path between `<` and `>`; None for a socket, a pipe and such."""
     return Descriptor(-1, shown_text(text), False).path
 
 

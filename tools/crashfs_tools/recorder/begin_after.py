@@ -28,6 +28,7 @@ class LateStart:
             restart_trace(self.recording)
 
     def is_wanted(self, text: str) -> bool:
+        """Whether the newest line is the one at which the trace begins."""
         if self.wanted.isdigit():
             return self.count == int(self.wanted)
         return fnmatch.fnmatchcase(text, self.wanted)

@@ -82,17 +82,20 @@ def scanned_entry(one: ScannedEntry) -> Entry:
 
 
 def kind_of(entry: Entry) -> str:
+    """What an entry is, in words."""
     if entry.link is not None:
         return 'a symbolic link'
     return 'a directory' if entry.is_directory else 'a file'
 
 
 def is_below(path: str, known: Set[str]) -> bool:
+    """Whether a path is one of the known ones, or below one."""
     parts = path.split('/')
     return any('/'.join(parts[:count]) in known for count in range(2, len(parts) + 1))
 
 
 def entry_differences(real: Entry, traced: Entry) -> List[str]:
+    """How an entry at the end differs from that of the trace; nothing if it doesn't."""
     if kind_of(real) != kind_of(traced):
         return [f'it is {kind_of(real)} at the end, and {kind_of(traced)} in the trace']
     if real.link != traced.link:

@@ -35,6 +35,7 @@ class Scan:
 
 
 def user_name(number: int) -> str:
+    """The name of a user, or `u` and the number of one that has none."""
     try:
         return pwd.getpwuid(number).pw_name
     except KeyError:
@@ -42,6 +43,7 @@ def user_name(number: int) -> str:
 
 
 def group_name(number: int) -> str:
+    """The name of a group, or `g` and the number of one that has none."""
     try:
         return grp.getgrgid(number).gr_name
     except KeyError:
@@ -49,6 +51,7 @@ def group_name(number: int) -> str:
 
 
 def permission_bits(status: os.stat_result) -> int:
+    """The rights of owner, group and others, without the other bits of a mode."""
     return status.st_mode & 0o777
 
 
@@ -153,6 +156,7 @@ def target_fault(target: str) -> str:
 
 
 def entry_of(top: str, path: str, status: os.stat_result) -> ScannedEntry:
+    """The start line of a file, directory or symbolic link, with its bytes."""
     owner, group = user_name(status.st_uid), group_name(status.st_gid)
     if stat.S_ISLNK(status.st_mode):
         return StartSymlink(path, owner, group, os.readlink(top + path))

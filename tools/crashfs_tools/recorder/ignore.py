@@ -19,6 +19,7 @@ class Rule:
 
     @staticmethod
     def of(glob: str) -> Rule:
+        """The rule of a pattern."""
         negates = glob.startswith('!')
         body = glob[1:] if negates else glob
         directories = body.endswith('/')
@@ -101,6 +102,7 @@ class Ignore:
         return self.known[path]
 
     def matches(self, path: str) -> bool:
+        """Whether the last pattern that matches a path leaves it out."""
         ignored = False
         for rule in self.rules:
             may_match = not rule.directories or not self.is_file(path)
@@ -109,6 +111,7 @@ class Ignore:
         return ignored
 
     def is_file(self, path: str) -> bool:
+        """Whether a path is known to be a file, which no pattern of directories matches."""
         return self.top is not None and os.path.isfile(self.top + path)
 
 

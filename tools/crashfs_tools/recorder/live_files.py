@@ -121,6 +121,7 @@ class LiveFiles:
         self.recording.report(what, where)
 
     def first_process(self) -> Process:
+        """The process that strace starts, with the streams that it inherits."""
         inherited = self.recording.streams.inherited()
         files = {number: OpenFile(None, stream=stream) for number, stream in inherited.items()}
         return Process(Descriptors(files), PathContext(self.conditions.top, self.conditions.umask))
@@ -155,6 +156,7 @@ class LiveFiles:
         return self.join_path(base, call.word(place + 1), follows)
 
     def join_path(self, base: str, word: str, follows: bool = False) -> Optional[str]:
+        """The path of a word of a call, which may be relative to a directory."""
         path = arguments.path(word)
         return None if path is None else self.relative_path(os.path.join(base, path), follows)
 
@@ -262,12 +264,14 @@ class LiveFiles:
             self.set_length(node, end)
 
     def write_bytes(self, node: Node, offset: int, data: bytes) -> None:
+        """Writes bytes to a file, and adds the write to the trace if that has the file."""
         path = node.path_of_traced_bytes
         node.put(offset, data)
         if path is not None and not self.recording.add(Write(path, offset, bytes(data))):
             node.drop_bytes()
 
     def set_length(self, node: Node, length: int) -> None:
+        """Cuts a file or makes it longer, in the trace too if that has the file."""
         path = node.path_of_traced_bytes
         node.resize(length)
         if path is not None and not self.recording.add(Truncate(path, length)):
@@ -282,6 +286,7 @@ class LiveFiles:
     # Syncs
 
     def sync_file(self, node: Node) -> None:
+        """Adds a sync of a file or directory, with its mode and owner."""
         node.was_synced, node.has_new_rights = True, False
         if node.traced_path is not None:
             self.recording.add(Fsync(node.traced_path))
@@ -299,6 +304,7 @@ class LiveFiles:
         self.sync_file(node)
 
     def sync_range(self, node: Node, offset: int, length: int) -> None:
+        """Adds a sync of a part of a file's bytes."""
         node.was_synced = True
         if node.traced_path is not None:
             self.recording.add(FsyncRange(node.traced_path, offset, length))

@@ -74,6 +74,7 @@ class Node:
 
     @property
     def name(self) -> str:
+        """The first of its names, for a report."""
         return min(self.names) if self.names else '(a file without a name)'
 
     @property
@@ -87,9 +88,11 @@ class Node:
         return None if self.data is None else self.traced_path
 
     def drop_bytes(self) -> None:
+        """Follows the bytes no longer; the size is still kept."""
         self.data = None
 
     def put(self, offset: int, data: bytes) -> None:
+        """Writes bytes, and makes the file longer if they end past its end."""
         self.resize(max(self.size, offset + len(data)))
         if self.data is not None:
             self.data.write(offset, data)
@@ -121,15 +124,18 @@ class LiveTree:
         return None if path is None else self.nodes.get(path)
 
     def add(self, path: str, node: Node) -> None:
+        """Gives a node a name, which it may have in addition to others."""
         self.nodes[path] = node
         node.names.add(path)
 
     def remove(self, path: str) -> Node:
+        """Removes a name, and returns the node that had it."""
         node = self.nodes.pop(path)
         node.names.discard(path)
         return node
 
     def below(self, path: str) -> List[str]:
+        """The paths below a directory."""
         return [other for other in self.nodes if other.startswith(path + '/')]
 
     def move(self, source: str, target: str) -> None:

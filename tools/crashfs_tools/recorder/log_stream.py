@@ -163,6 +163,7 @@ class LogStream:
             self.fault = error
 
     def close_kept(self) -> None:
+        """Closes the file in which the log is kept; what fails then is a fault of the log."""
         if self.kept is None:
             return
         try:

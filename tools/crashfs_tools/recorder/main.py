@@ -57,6 +57,7 @@ class RecordedRun:
 
 
 def run_command(options: RecordOptions, guard: Guard) -> RecordedRun:
+    """Runs COMMAND under strace. Refused if there is no log of it, or not a whole one."""
     strace = strace_run.find_strace()
     mapped = MappedFiles(options.directory, options.ignored) if options.mapped else None
     # Copies of mapped files are placed by all calls, also those on other files.
@@ -102,6 +103,7 @@ def load_log(path: str, needed: LogFilter) -> Log:
 
 
 def start_conditions(options: RecordOptions) -> StartConditions:
+    """What COMMAND starts with: of this system, or what is assumed of a log from elsewhere."""
     is_here = options.from_log is None
     umask = os.umask(0)
     os.umask(umask)
@@ -127,6 +129,7 @@ def link_of(path: str) -> Optional[str]:
 
 
 def record(options: RecordOptions) -> int:
+    """Records a session, writes the trace, prints the summary, and returns the status."""
     refuse_bad_options(options)
     Crashfs.find(options.crashfs)
     before = scan(options.directory, options.ignored, options.version or NEWEST)

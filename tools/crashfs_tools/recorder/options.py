@@ -67,6 +67,7 @@ class RecordOptions:
 
 
 def parser() -> argparse.ArgumentParser:
+    """The parser of the command line."""
     made = argparse.ArgumentParser(
         prog=NAME,
         description=DESCRIPTION,
@@ -84,6 +85,7 @@ def parser() -> argparse.ArgumentParser:
 
 
 def add_recording_options(made: argparse.ArgumentParser) -> None:
+    """Adds the options that say what is recorded."""
     made.add_argument(
         '--mapped',
         action='store_true',
@@ -131,6 +133,7 @@ def add_recording_options(made: argparse.ArgumentParser) -> None:
 
 
 def add_trace_options(made: argparse.ArgumentParser) -> None:
+    """Adds the options that say what the trace has."""
     made.add_argument(
         '--begin-after',
         metavar='LINE',
@@ -170,6 +173,7 @@ def add_trace_options(made: argparse.ArgumentParser) -> None:
 
 
 def add_log_options(made: argparse.ArgumentParser) -> None:
+    """Adds the options on strace's log."""
     made.add_argument('--keep-log', metavar='FILE', help="keep strace's log")
     made.add_argument(
         '--from-log',
@@ -195,12 +199,14 @@ def checked_glob(text: str) -> str:
 
 
 def descriptor_to_acknowledge(word: str) -> str:
+    """A value of --say-fd: a descriptor, or all sockets."""
     if word != SOCKETS and not word.isdigit():
         raise argparse.ArgumentTypeError(f'{word} is neither a number nor `{SOCKETS}`')
     return word
 
 
 def read_options(arguments: List[str]) -> RecordOptions:
+    """The options of a command line; a wrong one ends the program with its reason."""
     made = parser()
     values, command = parse(made, arguments)
     if values.from_log is None and not command:

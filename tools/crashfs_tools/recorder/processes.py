@@ -23,6 +23,7 @@ class OpenFile:
 
     @staticmethod
     def of(node: Node, flags: str) -> OpenFile:
+        """A file that was opened with these flags."""
         return OpenFile(
             node,
             appends='O_APPEND' in flags,
@@ -46,6 +47,7 @@ class Descriptors:
             self.closed_by_exec.add(number)
 
     def close(self, number: int) -> None:
+        """Closes a descriptor, if it is open."""
         self.files.pop(number, None)
         self.closed_by_exec.discard(number)
 
@@ -53,6 +55,7 @@ class Descriptors:
         return Descriptors(dict(self.files), set(self.closed_by_exec))
 
     def after_exec(self) -> Descriptors:
+        """The table after exec, which closes some of the files."""
         kept = {n: file for n, file in self.files.items() if n not in self.closed_by_exec}
         return Descriptors(kept)
 
@@ -85,6 +88,7 @@ class Process:
         )
 
     def exec(self) -> None:
+        """Runs another program: some files are closed, and nothing is mapped any more."""
         self.descriptors = self.descriptors.after_exec()
         self.paths = self.paths.copy()
         self.memory = Memory()

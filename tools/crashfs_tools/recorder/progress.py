@@ -26,6 +26,7 @@ class CallProgress:
         return self
 
     def run(self) -> None:
+        """Prints a line every few seconds, in the thread."""
         while not self.ended.wait(self.seconds):
             print_line(
                 self.program,

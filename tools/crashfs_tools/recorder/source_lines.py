@@ -37,6 +37,7 @@ def segments_of(path: str) -> List[Segment]:
 
 
 def read_segments(file: BinaryIO) -> List[Segment]:
+    """The loaded parts that the headers of an ELF file list."""
     head = file.read(64)
     if head[:4] != b'\x7fELF' or head[5] != 1:
         return []

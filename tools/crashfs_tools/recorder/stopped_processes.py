@@ -31,6 +31,7 @@ def group_of(thread: int) -> Optional[int]:
 
 
 def threads_of(process: int) -> List[int]:
+    """The threads of a process; none if it has ended."""
     try:
         return [int(name) for name in os.listdir(f'/proc/{process}/task')]
     except OSError:
@@ -38,6 +39,7 @@ def threads_of(process: int) -> List[int]:
 
 
 def is_stopped(thread: int) -> bool:
+    """Whether a thread is stopped, by strace or by a signal."""
     try:
         with open(f'/proc/{thread}/stat', encoding='utf-8', errors='replace') as file:
             return file.read().rpartition(')')[2].split()[0] in STOPPED

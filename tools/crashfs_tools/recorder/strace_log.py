@@ -47,9 +47,11 @@ class Call:
     note: str = ''
 
     def word(self, place: int, default: str = '') -> str:
+        """An argument by its place, or the default if the call has fewer."""
         return self.words[place] if place < len(self.words) else default
 
     def descriptor(self, place: int = 0) -> arguments.Descriptor:
+        """An argument that is a descriptor."""
         return arguments.descriptor(self.word(place))
 
 
@@ -65,6 +67,7 @@ class Log:
 
     @property
     def is_whole(self) -> bool:
+        """Whether the log reaches to the first process's end."""
         return self.first in self.ended
 
     @property
@@ -179,4 +182,5 @@ def words_of(name: str, text: str) -> List[str]:
 
 
 def read_log(lines: Iterable[str], needed: Optional[LogFilter] = None) -> Log:
+    """Reads a whole log, without the lines that a filter finds needless."""
     return LogReader(needed).read(lines)

@@ -177,6 +177,7 @@ def inherited_descriptors(acknowledged: Sequence[str]) -> List[int]:
 
 
 def is_inherited(number: int) -> bool:
+    """Whether a descriptor is open here, and a program that is started gets it."""
     try:
         return os.get_inheritable(number)
     except OSError:

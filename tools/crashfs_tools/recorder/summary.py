@@ -41,6 +41,7 @@ class FinalReport:
 
     @property
     def status(self) -> int:
+        """The exit status: by the gravest of the lines."""
         return NOT_WHOLE if self.lines else NOTED if self.notes else WHOLE
 
 
@@ -177,6 +178,7 @@ def needs_windows(recording: Recording) -> bool:
 
 
 def trace_text(recording: Recording) -> str:
+    """The whole trace, as it is written."""
     return ''.join(line + '\n' for line in recording.trace.lines())
 
 

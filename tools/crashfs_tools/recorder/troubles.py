@@ -29,6 +29,7 @@ class Troubles:
     found: Dict[Tuple[str, str], Trouble] = field(default_factory=dict)
 
     def add(self, what: str, where: str, line: Optional[int], is_note: bool) -> None:
+        """Adds a trouble, or a further line of one that is known."""
         trouble = self.found.setdefault((what, where), Trouble(what, where, is_note))
         if line is not None:
             trouble.lines.append(line)
@@ -43,4 +44,5 @@ class Troubles:
         return {trouble.where for trouble in self.found.values() if not trouble.is_note}
 
     def all_found(self) -> List[Trouble]:
+        """All troubles, in the order in which they came."""
         return list(self.found.values())

@@ -116,6 +116,8 @@ def write_to_descriptor(
 def write_to_file(
     files: LiveFiles, file: OpenFile, data: bytes, offset: Optional[int], flags: str
 ) -> None:
+    """Writes bytes to an open file, moves its offset if it wrote there, and adds the sync that the
+    file or the call asks for."""
     node = file.node
     assert node is not None
     floats: object = file if offset is None else None

@@ -32,6 +32,7 @@ def on_fchmodat(files: LiveFiles, process: Process, call: Call) -> None:
 
 def set_mode(files: LiveFiles, node: Optional[Node], word: str) -> None:
     # Some programs pass the kind of the file too, which the kernel ignores.
+    """Gives a file or directory the mode that a call names, if it has another."""
     mode = octal(word) & 0o7777
     if node is not None:
         node.mode = mode & PERMISSIONS
@@ -63,6 +64,7 @@ def on_fchownat(files: LiveFiles, process: Process, call: Call) -> None:
 
 
 def set_owner(files: LiveFiles, node: Optional[Node], user: str, group: str) -> None:
+    """Gives a file or directory an owner and a group, each unless the call leaves it unchanged."""
     path = path_in_trace(node)
     if node is None or path is None:
         return

@@ -57,6 +57,7 @@ def rename_traced(files: LiveFiles, node: Node, source: str, target: str) -> Non
 
 
 def remove_directory(files: LiveFiles, path: Optional[str]) -> None:
+    """Removes an empty directory."""
     if path is None or path not in files.tree.nodes:
         return
     if path == '/':
@@ -77,6 +78,7 @@ def on_mkdirat(files: LiveFiles, process: Process, call: Call) -> None:
 
 
 def make_directory(files: LiveFiles, process: Process, path: Optional[str], mode: str) -> None:
+    """Makes a directory with a mode, less the umask."""
     if path is not None:
         bits = octal(mode) & ~process.paths.umask & 0o777
         files.add_new(path, Node.directory(bits))
@@ -96,6 +98,7 @@ def on_renameat(files: LiveFiles, process: Process, call: Call) -> None:
 
 
 def rename_path(files: LiveFiles, source: Optional[str], target: Optional[str], flags: str) -> None:
+    """Renames a file or directory, also from and to the outside of the recorded directory."""
     if source is None and target is None:
         return
     if '/' in (source, target):
@@ -142,6 +145,7 @@ def forget_below(files: LiveFiles, path: str) -> None:
 
 
 def exchange_names(files: LiveFiles, source: str, target: str) -> None:
+    """Exchanges two names. No trace has that: it is reported."""
     files.report(f'exchanged with {target}, which no trace can say', source)
     files.recording.differing.add(target)
     for path in (source, target):
@@ -159,6 +163,7 @@ def exchange_names(files: LiveFiles, source: str, target: str) -> None:
 
 
 def rename_file(files: LiveFiles, source: str, target: str, node: Node) -> None:
+    """Renames a file or directory within the recorded directory; what has the name goes."""
     if target in files.tree.nodes:
         replace_name(files, files.tree.remove(target), target)
     files.tree.move(source, target)
@@ -262,6 +267,7 @@ def on_mknodat(files: LiveFiles, process: Process, call: Call) -> None:
 
 
 def make_file(files: LiveFiles, process: Process, path: Optional[str], mode: str) -> None:
+    """Makes a plain file by mknod; another kind is reported."""
     if path is None:
         return
     if 'S_IFREG' in mode or not mode.startswith('S_IF'):
@@ -280,6 +286,7 @@ def on_bind(files: LiveFiles, process: Process, call: Call) -> None:
 
 
 def add_untraceable(files: LiveFiles, path: Optional[str], what: str) -> None:
+    """Adds something that no trace can have, and reports it."""
     if path is None:
         return
     parent = files.tree.get(parent_of(path))
