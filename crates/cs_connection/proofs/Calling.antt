@@ -9,13 +9,13 @@ use Rattle.cs_permit.specs.declared.call.Call.{Call}
 use Rattle.cs_registry.specs.Keys.{Key}
 use Rattle.cs_run.specs.declared.answer.Answer.{Answer}
 use Rattle.cs_run.specs.declared.answer.Answer.TheVariants.{Denied}
-use Rattle.cs_shared_runs.specs.Serving.{HasTree}
+use Rattle.cs_shared_runs.specs.Serving.{HasRuns}
 use Rattle.cs_shared_runs.specs.Answers.{GivesAnswer, GivesAttach, IsAnswerOf}
 use Rattle.cs_connection.specs.declared.kept.GivenPass.{GivenPass}
 use Rattle.cs_connection.specs.Asking.{KeptCalls}
 use Rattle.cs_connection.specs.Kept.{AreInside, given_by}
 
-module _ (serves : HasTree) (answered : GivesAnswer) (attached : GivesAttach) (runs : List Key) (passes : List GivenPass) (run place : ℕ)
+module _ (serves : HasRuns) (answered : GivesAnswer) (attached : GivesAttach) (runs : List Key) (passes : List GivenPass) (run place : ℕ)
     (given : GivenPass) (low : place < length passes) (at : given ≡ get_or passes place given) where
   there : slice_get passes place ≡ Some given
   there = slice_get-get_or passes place given low ∙ ap Some (sym at)

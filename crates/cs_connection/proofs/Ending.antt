@@ -4,12 +4,12 @@ use Rattle.std.specs.Prelude.{Result}
 use Rattle.cs_session.specs.declared.serving.ServeFault.{ServeFault}
 use Rattle.cs_session.specs.Serving.{Conversation}
 use Rattle.cs_shared_runs.specs.Answers.{GivesAnswer, GivesAttach}
-use Rattle.cs_shared_runs.specs.Serving.{HasTree}
+use Rattle.cs_shared_runs.specs.Serving.{HasRuns}
 use Rattle.cs_connection.specs.Kept.{FoundRuns, no_runs}
 use Rattle.cs_connection.specs.Asking.{Gives}
 use Rattle.cs_connection.specs.Served.{HasEnded, ConversationOf}
 
-module _ (serves : HasTree) (answered : GivesAnswer) (attached : GivesAttach) (result : Result (Unit {0}) ServeFault)
+module _ (serves : HasRuns) (answered : GivesAnswer) (attached : GivesAttach) (result : Result (Unit {0}) ServeFault)
     (rem rem' con con' : Option (List ℕ)) (first last kept : FoundRuns) (begins : first ≡ no_runs) (ends : kept ≡ last)
     (is : Conversation (Gives serves answered attached) result first rem rem' con con' last) where
   pub serving : ConversationOf serves answered attached (record { result = result; kept = kept }) rem rem' con con'

@@ -17,7 +17,7 @@ use Rattle.cs_run.specs.declared.answer.Answer.{Answer}
 use Rattle.cs_run.specs.declared.answer.Answer.TheVariants.{Denied}
 use Rattle.cs_session.specs.Questions.{Question, FindRun, AttachTo, CallOn}
 use Rattle.cs_session.specs.Questions.{PortAnswer, FindAnswer, AttachAnswer, CallAnswer}
-use Rattle.cs_shared_runs.specs.Serving.{HasTree}
+use Rattle.cs_shared_runs.specs.Serving.{HasRuns}
 use Rattle.cs_shared_runs.specs.Answers.{GivesAnswer, GivesAttach, IsStepOfServedRun, IsAnswerOf}
 use Rattle.cs_connection.specs.Kept.{FoundRuns, given_by, kept_with_pass, put_pass, with_run}
 
@@ -29,7 +29,7 @@ KeptFinds old (Some key) (Ok place) new = (place ≡ length old.runs) × (new �
 KeptFinds old (Some key) (Err fault) new = new ≡ old
 
 -- Code for any server has `answered` and `attached` only from a run under its lock.
-module _ (serves : HasTree) (answered : GivesAnswer) (attached : GivesAttach) where
+module _ (serves : HasRuns) (answered : GivesAnswer) (attached : GivesAttach) where
   -- A user is attached under a new pass: the run of the key gave the answer, and the pass comes
   -- last.
   pub record IsAttached (old : FoundRuns) (now place : ℕ) (call : AttachCall) (key : Key)

@@ -4,7 +4,7 @@ use Rattle.cs_session.specs.declared.serving.ServeFault.{ServeFault}
 use Rattle.cs_session.specs.declared.serving.ServeFault.TheVariants.{Memory}
 use Rattle.cs_session.specs.Serving.{Conversation}
 use Rattle.cs_shared_runs.specs.Answers.{GivesAnswer, GivesAttach}
-use Rattle.cs_shared_runs.specs.Serving.{HasTree}
+use Rattle.cs_shared_runs.specs.Serving.{HasRuns}
 use Rattle.cs_connection.specs.Asking.{Gives}
 use Rattle.cs_connection.specs.Kept.{FoundRuns, no_runs}
 
@@ -17,7 +17,7 @@ pub record Ended : Type 0 where
 abbrev pub WasRefused : Ended → Type 0
 WasRefused ended = (ended.result ≡ Err Memory) × (ended.kept ≡ no_runs)
 
-module _ (serves : HasTree) (answered : GivesAnswer) (attached : GivesAttach) where
+module _ (serves : HasRuns) (answered : GivesAnswer) (attached : GivesAttach) where
   -- A stream with these bytes was served from its beginning to its hang-up, over runs that threads
   -- share.
   abbrev pub ConversationOf : Ended → (rem rem' con con' : Option (List ℕ)) → Type 0

@@ -1,7 +1,7 @@
 //! What all connections of a server share.
 ghost use Rattle.std.specs.Prelude.{◌≡◌};
 
-use cs_shared_runs::{ServerBrand, SharedRegistry};
+use cs_shared_runs::{Registry, ServerBrand, SharedRegistry};
 use std::marker::Model;
 
 /// A server: the published states and their runs, which the threads of its connections share by
@@ -32,5 +32,10 @@ impl<S: ServerBrand> Server<S> {
         ensures { result.now ≡ self.now }
     {
         &self.registry
+    }
+
+    /// The registry without its lock, once no connection is served.
+    pub fn into_registry(self) -> Registry<S> {
+        self.registry.into_registry()
     }
 }

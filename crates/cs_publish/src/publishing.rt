@@ -87,6 +87,7 @@ fn publish_scene<H: Held, N: Staged, R: Threads + Wait + Sync, G: Gate>(
     gate: &G,
 ) -> Result<States<H>, Lost>
     requires admitted { AdmitsAll H.admits (arc_value scene) }
+    requires suited { H.suits (arc_value users) }
     requires here { N.is_scene (arc_value scene) }
     requires own { IsOnly N.is_scene (arc_value scene) }
     ensures { IfOk result (λ all. all ≡ all_published (arc_value scene) (arc_value users)) }
@@ -115,7 +116,8 @@ pub fn publish_all<H: Held, R: Threads + Wait + Sync, G: Gate>(
     workers: u32,
     gate: &G,
 ) -> Result<States<H>, PublishAllFault>
-    requires { AdmitsAll H.admits (arc_value scene) }
+    requires admitted { AdmitsAll H.admits (arc_value scene) }
+    requires suited { H.suits (arc_value users) }
     ensures all { IfOk result (λ all. all ≡ all_published (arc_value scene) (arc_value users)) }
     ensures crew { IsErrOf result PublishAllFault.Workers ↔ (is_crew workers ≡ false) }
 {

@@ -16,6 +16,9 @@ pub trait Held: Drop {
     /// The trees that may be published under a number.
     ghost admits: { ℕ → Tree → Type 0 };
 
+    /// The lists of users that a registry may have: its new runs are made with these.
+    ghost suits: { List Row → Type 0 } = { λ users. Unit {0} };
+
     /// The value is that of a new run of the key, over the tree, with the users.
     ghost is_fresh: { Key → Tree → List Row → Self → Type 0 };
 
@@ -27,6 +30,7 @@ pub trait Held: Drop {
         lower: Arc<Built>,
         users: Arc<Users>,
     ) -> Result<Self, AllocError>
-        requires { admits key.now.number (arc_value lower) }
+        requires admitted { admits key.now.number (arc_value lower) }
+        requires suited { suits (arc_value users) }
         ensures { IfOk result (is_fresh key.now (arc_value lower) (arc_value users)) };
 }

@@ -4,11 +4,11 @@ use Rattle.std.proofs.lemmas.List.{flat_map_more, map_push}
 use Rattle.std.proofs.lemmas.List.Elements.{All-push}
 use Rattle.cs_registry.specs.Keys.{Key}
 use Rattle.cs_connection.specs.Given.{Given}
-use Rattle.cs_shared_runs.specs.Serving.{HasTree}
+use Rattle.cs_shared_runs.specs.Serving.{HasRuns}
 use Rattle.cs_serve.specs.Summary.{AreReported, IsReport, run_line}
 use Rattle.cs_serve.specs.declared.summary.RunReport.{RunReport}
 
-module _ (serves : HasTree) (given : Given) where
+module _ (serves : HasRuns) (given : Given) where
   pub one_more : (keys : List Key) (text : List ℕ) (report : RunReport) → AreReported serves given keys text → IsReport serves given report
       → AreReported serves given (keys ++ report.key ∷ []) (text ++ run_line report)
   one_more keys text report are is = record {

@@ -1,2 +1,3 @@
 pub mod Reloads
 pub mod Summary
+pub mod Users

@@ -2,7 +2,7 @@
 use Rattle.std.specs.Prelude.{◌≡◌, ℕ, All, List, ◌++◌, codes, decimal, length, map}
 use Rattle.std.specs.Prelude.{Option, None, Some, Result, Ok, Err}
 use Rattle.std.specs.List.{flat_map}
-use Rattle.std.specs.List.Sorted.{IsSorted}
+use Rattle.std.specs.List.Sorted.{IsPermutation, IsSorted}
 use Rattle.cs_journal.specs.Audit.{Audits}
 use Rattle.cs_journal.specs.Runs.{PassOf, RunOf}
 use Rattle.cs_journal.specs.declared.auditing.AuditFault.{AuditFault}
@@ -11,7 +11,7 @@ use Rattle.cs_registry.specs.Keys.{Key}
 use Rattle.cs_connection.specs.Given.{Given, passes_of}
 use Rattle.cs_shared_runs.specs.Answers.{IsLookOf}
 use Rattle.cs_shared_runs.specs.Naming.{key_cmp}
-use Rattle.cs_shared_runs.specs.Serving.{HasTree}
+use Rattle.cs_shared_runs.specs.Serving.{HasRuns}
 use Rattle.cs_serve.specs.declared.summary.RunReport.{RunReport}
 
 -- an audit's result in words
@@ -40,20 +40,22 @@ IsAudit passes run finding = (finding.0 ≡ length run.journal) × Audits passes
 
 -- what is printed is of a run that the server has under the number of the key, audited by the
 -- passes that were kept for that key
-abbrev pub IsReport : HasTree → Given → RunReport → Type 0
+abbrev pub IsReport : HasRuns → Given → RunReport → Type 0
 IsReport serves given report =
     IsLookOf serves report.key.number (IsAudit (passes_of given report.key)) report.finding
 
 -- The text has the line of each key's run, in the order of the keys.
-pub record AreReported (serves : HasTree) (given : Given) (keys : List Key) (text : List ℕ)
+pub record AreReported (serves : HasRuns) (given : Given) (keys : List Key) (text : List ℕ)
     : Type 0 where
   pub reports : List RunReport
   pub of_keys : map (λ report. report.key) reports ≡ keys
   pub each : All (IsReport serves given) reports
   pub text_is : text ≡ flat_map run_line reports
 
--- the keys of some runs, in their order, with their lines
-pub record IsSummary (serves : HasTree) (given : Given) (text : List ℕ) : Type 0 where
+-- the keys of all these runs, in their order, with their lines
+pub record IsSummary (serves : HasRuns) (given : Given) (runs : List Key) (text : List ℕ)
+    : Type 0 where
   pub keys : List Key
+  pub all : IsPermutation runs keys
   pub sorted : IsSorted key_cmp keys
   pub reported : AreReported serves given keys text

@@ -1,7 +1,8 @@
 //! The users file is read again while connections are served. Runs that exist keep the users that
 //! they were made with.
-ghost use Rattle.std.specs.Prelude.{◌≡◌, ◌≢◌, Err, None, Ok};
+ghost use Rattle.std.specs.Prelude.{◌≡◌, ◌≢◌, Err, List, None, Ok};
 ghost use Rattle.cs_users.specs.Reading.{users_in};
+ghost use Rattle.cs_users.specs.Rows.{Row};
 ghost use Rattle.cs_inputs.specs.Returns.{IsFirstReturn};
 ghost use Rattle.cs_serve.specs.Reloads.{Loads};
 
@@ -12,6 +13,7 @@ use cs_users::{Users, UsersFault};
 use std::alloc::{AllocError, Global};
 use std::fs;
 use std::io::{self, ErrorKind, Read, Write};
+use std::marker::{Model, PhantomData};
 use std::rt::Files;
 use std::sync::{Mutex, Wait};
 
@@ -51,6 +53,7 @@ fn load<S: ServerBrand>(
     last: &mut Vec<u8>,
     bytes: Vec<u8>,
 ) -> Result<(), UsersFault>
+    requires { (users : List Row) → S.loads users }
     ensures same { bytes.items ≡ last.old.items → result ≡ Ok tt }
     ensures changed { bytes.items ≢ last.old.items → Loads (users_in bytes.items) result }
     ensures last { result ≢ Err UsersFault.Memory → last.new.items ≡ bytes.items }
@@ -103,28 +106,44 @@ struct Reload {
     loaded: Result<(), ReloadFault>,
 }
 
-/// The users file of a server that reads it again.
+/// The users file of a server that reads it again, and so may load any list of users. Contracts see
+/// nothing of it.
 #[derive(Drop)]
-pub(crate) struct Reloading {
+pub(crate) struct Reloading<S: ServerBrand> {
     path: String,
     /// The bytes that were last loaded, or refused with a line. While this lock is held, that of
     /// the registry is taken: no other code takes a second lock.
     last: Mutex<Vec<u8>>,
+    of: PhantomData<S>,
 }
 
-impl Reloading {
+impl<S: ServerBrand> Model for Reloading<S> {
+    ghost use Rattle.std.specs.Prelude.{List};
+    ghost use Rattle.cs_users.specs.Rows.{Row};
+
+    ghost Value = { Unit {0} };
+
+    ghost view = { λ reloading. tt };
+
+    ghost invariant = { λ reloading. (users : List Row) → S.loads users };
+}
+
+impl<S: ServerBrand> Reloading<S> {
     /// The users file at the path. `bytes` are those that it had when the server was made.
-    pub(crate) fn new(alloc: Global, path: &str, bytes: &[u8]) -> Result<Reloading, AllocError> {
+    pub(crate) fn new(alloc: Global, path: &str, bytes: &[u8]) -> Result<Reloading<S>, AllocError>
+        requires { (users : List Row) → S.loads users }
+    {
         Ok(Reloading {
             path: path.to_string(alloc)?,
             last: Mutex::new(Vec::from_slice(alloc, bytes)?),
+            of: PhantomData,
         })
     }
 
     /// Reads the file, and loads its users if it changed. After a fault the users stay. The lock is
     /// held all the time: else a thread could load what it read after another has read and loaded a
     /// later file.
-    fn load_if_changed<S: ServerBrand, R: ReadsFiles + Wait>(
+    fn load_if_changed<R: ReadsFiles + Wait>(
         &self,
         rt: &R,
         alloc: Global,
@@ -147,7 +166,7 @@ impl Reloading {
 
     /// Reads the file again: runs that are made from now on have its users. After a fault, which is
     /// printed, the users stay.
-    pub(crate) fn reload_or_print<S: ServerBrand, R: ReadsFiles + Wait, E: Write>(
+    pub(crate) fn reload_or_print<R: ReadsFiles + Wait, E: Write>(
         &self,
         rt: &R,
         alloc: Global,

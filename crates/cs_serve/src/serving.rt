@@ -1,7 +1,9 @@
 //! The command `serve`, after its files were read, from the scene to the lines of the runs. What
 //! one connection's thread does is in `slots` and `connection`.
-ghost use Rattle.std.specs.Prelude.{◌≡◌, ◌≤◌, IfOk};
+ghost use Rattle.std.specs.Prelude.{◌≡◌, ◌≤◌, IfOk, IsSome, List};
 ghost use Rattle.std.specs.Arc.{arc_value};
+ghost use Rattle.cs_users.specs.Rows.{Row};
+ghost use Rattle.cs_serve.specs.Users.{AreGiven};
 ghost use Rattle.cs_shared_runs.specs.Serving.{IsOnly, ServesAll};
 
 use crate::address::Address;
@@ -34,7 +36,8 @@ pub(crate) fn server_of<S: ServerBrand>(
     inputs: &Inputs,
 ) -> Result<Server<S>, ProgramFault>
     requires here { S.is_scene (arc_value scene) }
-    requires serves { ServesAll S.serves (arc_value scene) }
+    requires serves { ServesAll S.serves S.loads (arc_value scene) }
+    requires given { (users : List Row) → AreGiven inputs.now users → S.loads users }
     ensures { IfOk result (λ server. server ≡ arc_value scene) }
 {
     let users = users_of(alloc, inputs.users)?;
@@ -48,11 +51,13 @@ pub(crate) fn server_of<S: ServerBrand>(
 }
 
 /// The users file that is read again. None if none is. The error is out of memory.
-fn reloading_of(
+fn reloading_of<S: ServerBrand>(
     alloc: Global,
     inputs: &Inputs,
     serving: Serving,
-) -> Result<Option<Reloading>, ProgramFault> {
+) -> Result<Option<Reloading<S>>, ProgramFault>
+    requires { IsSome serving.reload → (users : List Row) → S.loads users }
+{
     let Some(path) = serving.reload else {
         return Ok(None);
     };
@@ -124,7 +129,8 @@ fn serve_each<
 }
 
 /// Makes a server of the scene, serves it, and prints the lines of its runs. `S` says which scene
-/// the server may have: this one only. The result is as in `run_server`.
+/// the server may have: this one only, and which users: those of the inputs, and with `reload` any.
+/// The result is as in `run_server`.
 fn serve_scene<S: ServerBrand + Send + Sync, R, I: Read + Drop + Send, W: Write, E: Write + Send>(
     rt: &R,
     alloc: Global,
@@ -139,10 +145,12 @@ where
     R: Net<Listener = TcpListener, Stream = TcpStream> + Threads + Wait + Clock + ReadsFiles + Sync,
     requires here { S.is_scene (arc_value scene) }
     requires only { IsOnly S.is_scene (arc_value scene) }
-    requires serves { ServesAll S.serves (arc_value scene) }
+    requires serves { ServesAll S.serves S.loads (arc_value scene) }
+    requires given { (users : List Row) → AreGiven inputs.now users → S.loads users }
+    requires later { IsSome serving.reload → (users : List Row) → S.loads users }
 {
     let server = server_of::<S>(alloc, scene, inputs)?;
-    let reloading = reloading_of(alloc, inputs, serving)?;
+    let reloading = reloading_of::<S>(alloc, inputs, serving)?;
     if serving.ready && !publish_or_print(rt, alloc, &server, serving.workers, log) {
         return Ok(false);
     }
@@ -163,7 +171,7 @@ where
     let served = serve_each(rt, alloc, &site, serving, input, log);
     let failed = site.entrance.has_failed(rt);
     let (server, passes) = site.into_parts();
-    let summary = summary_of_runs(rt, alloc, &server, &passes)?;
+    let summary = summary_of_runs(rt, alloc, &server.into_registry(), &passes)?;
     print_to(out, summary.as_bytes())?;
     out.flush().map_err(|_| ProgramFault::Output)?;
     Ok(served && !failed)

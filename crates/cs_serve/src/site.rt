@@ -14,7 +14,7 @@ use std::sync::{Mutex, Wait};
 pub(crate) struct Site<S: ServerBrand> {
     pub(crate) server: Server<S>,
     pub(crate) entrance: Entrance,
-    pub(crate) reloading: Option<Reloading>,
+    pub(crate) reloading: Option<Reloading<S>>,
     /// Under a lock of its own, which a thread takes when its connection has ended.
     passes: Mutex<GivenPasses>,
 }
@@ -25,7 +25,7 @@ impl<S: ServerBrand> Site<S> {
         alloc: Global,
         server: Server<S>,
         entrance: Entrance,
-        reloading: Option<Reloading>,
+        reloading: Option<Reloading<S>>,
     ) -> Site<S>
         ensures { result.server ≡ server }
     {

@@ -1,13 +1,14 @@
 //! The lines that are printed of the runs at the end, each with the audit of its journal.
 ghost use Rattle.std.specs.Prelude.{◌≡◌, ◌++◌, IfOk, OnOk, Some, string_bytes};
+ghost use Rattle.std.specs.Map.{keys_of};
 ghost use Rattle.cs_serve.specs.Summary.{AreReported, IsReport, IsSummary, finding_text, run_line};
 ghost use Rattle.cs_serve.specs.Summary.{verdict_text};
 
-use cs_connection::{GivenPasses, Server};
+use cs_connection::GivenPasses;
 use cs_inputs::ProgramFault;
 use cs_journal::AuditFault;
 use cs_registry::RunKey;
-use cs_shared_runs::{AuditBy, ServerBrand, SharedRun};
+use cs_shared_runs::{AuditBy, Registry, ServerBrand, SharedRun};
 use std::alloc::{AllocError, Global};
 use std::fmt;
 use std::sync::Wait;
@@ -106,18 +107,19 @@ fn runs_text<S: ServerBrand, R: Wait>(
     Ok(text)
 }
 
-/// A line for each run of the server, in the order of the numbers of their states and then of their
+/// A line for each run of the registry, in the order of the numbers of their states and then of their
 /// names: its key, how many entries its journal has, and the result of its audit by the passes that
 /// were kept for its key. The error is out of memory.
 pub(crate) fn summary_of_runs<S: ServerBrand, R: Wait>(
     rt: &R,
     alloc: Global,
-    server: &Server<S>,
+    registry: &Registry<S>,
     passes: &GivenPasses,
 ) -> Result<String, ProgramFault>
-    ensures { IfOk result (λ text. IsSummary S.serves passes.now (string_bytes text)) }
+    ensures { IfOk result (λ text. IsSummary S.serves passes.now (keys_of registry.now.runs)
+        (string_bytes text)) }
 {
-    let Ok(runs) = server.registry().runs(rt, alloc) else {
+    let Ok(runs) = registry.runs(alloc) else {
         return Err(ProgramFault::Memory);
     };
     match runs_text(rt, alloc, &runs, passes) {

@@ -1,5 +1,5 @@
--- What holds of the tree of the run under a lock holds of the server that has the tree.
-use Rattle.std.proofs.Common.{◌≡◌, ◌⊎◌, inl, inr, ℕ, sym, subst}
+-- What holds of the run under a lock, by how it began, holds of the server that has such runs.
+use Rattle.std.proofs.Common.{◌≡◌, ◌⊎◌, inl, inr, ℕ, List, sym, subst}
 use Rattle.std.specs.Prelude.{Option, None, Some, Result, Ok, Err}
 use Rattle.cs_permit.specs.declared.call.Call.{Call}
 use Rattle.cs_permit.specs.declared.fault.PassFault.{PassFault}
@@ -7,19 +7,22 @@ use Rattle.cs_permit.specs.declared.fault.PassFault.TheVariants.{Foreign, Room, 
 use Rattle.cs_run.specs.declared.answer.Answer.{Answer}
 use Rattle.cs_journal.specs.Runs.{PassOf, RunOf, fresh_pass}
 use Rattle.cs_tree_model.specs.Tree.{Tree}
+use Rattle.cs_users.specs.Rows.{Row}
 use Rattle.cs_shared_runs.specs.Answers.{IsAnswerOf, IsAttachOf, IsLookOf, IsOfAnother, IsServed, IsStepOfServedRun, IsUnfit}
-use Rattle.cs_shared_runs.specs.Locks.{IsTreeOf, Locked}
-use Rattle.cs_shared_runs.specs.Serving.{HasTree}
+use Rattle.cs_shared_runs.specs.Locks.{BeganAs, Locked}
+use Rattle.cs_shared_runs.specs.Serving.{HasRuns}
 
-module _ (serves : HasTree) (old : Locked) (served : serves old.number old.run.fresh) where
-  has_tree : (number : ℕ) (tree : Tree) → number ≡ old.number → tree ≡ old.run.fresh → serves number tree
-  has_tree number tree number_is tree_is =
-      subst (λ (n : ℕ). serves n tree) (sym number_is) (subst (λ (t : Tree). serves old.number t) (sym tree_is) served)
+module _ (serves : HasRuns) (old : Locked) (served : serves old.number old.run.fresh old.run.users) where
+  has_run : (number : ℕ) (tree : Tree) (users : List Row) → BeganAs old number tree users → serves number tree users
+  has_run number tree users is =
+      subst (λ (n : ℕ). serves n tree users) (sym is.0)
+      (subst (λ (t : Tree). serves old.number t users) (sym is.1)
+      (subst (λ (us : List Row). serves old.number old.run.fresh us) (sym is.2) served))
 
-  of_server : (number : ℕ) (run : RunOf) → IsServed (IsTreeOf old) number run → IsServed serves number run
-  of_server number run is = record { tree = has_tree number run.fresh is.tree.0 is.tree.1; legal = is.legal }
+  of_server : (number : ℕ) (run : RunOf) → IsServed (BeganAs old) number run → IsServed serves number run
+  of_server number run is = record { began = has_run number run.fresh run.users is.began; legal = is.legal }
 
-  another_of_server : (number : ℕ) → IsOfAnother (IsTreeOf old) number → IsOfAnother serves number
+  another_of_server : (number : ℕ) → IsOfAnother (BeganAs old) number → IsOfAnother serves number
   another_of_server number is = record {
     other = is.other;
     run = is.run;
@@ -27,11 +30,11 @@ module _ (serves : HasTree) (old : Locked) (served : serves old.number old.run.f
     differs = is.differs;
   }
 
-  unfit_of_server : (number : ℕ) (pass : PassOf) → IsUnfit (IsTreeOf old) number pass → IsUnfit serves number pass
+  unfit_of_server : (number : ℕ) (pass : PassOf) → IsUnfit (BeganAs old) number pass → IsUnfit serves number pass
   unfit_of_server number pass is = record { run = is.run; served = of_server number is.run is.served; unfit = is.unfit }
 
   step_of_server : (number : ℕ) (pass : PassOf) (now : ℕ) (call : Call) (answer : Answer) (pass' : PassOf)
-      → IsStepOfServedRun (IsTreeOf old) number pass now call answer pass'
+      → IsStepOfServedRun (BeganAs old) number pass now call answer pass'
       → IsStepOfServedRun serves number pass now call answer pass'
   step_of_server number pass now call answer pass' is = record {
     run = is.run;
@@ -46,18 +49,18 @@ module _ (serves : HasTree) (old : Locked) (served : serves old.number old.run.f
 
   -- an answer
   pub answer_of_server : (number : ℕ) (pass : PassOf) (now : ℕ) (call : Call) (answer : Answer) (pass' : PassOf)
-      → IsAnswerOf (IsTreeOf old) number pass now call answer pass' → IsAnswerOf serves number pass now call answer pass'
+      → IsAnswerOf (BeganAs old) number pass now call answer pass' → IsAnswerOf serves number pass now call answer pass'
   answer_of_server number pass now call answer pass' (inl is) = inl (step_of_server number pass now call answer pass' is)
   answer_of_server number pass now call answer pass' (inr is) = inr (why is.0, is.1, is.2)
     where
-      why : IsOfAnother (IsTreeOf old) number ⊎ IsUnfit (IsTreeOf old) number pass
+      why : IsOfAnother (BeganAs old) number ⊎ IsUnfit (BeganAs old) number pass
           → IsOfAnother serves number ⊎ IsUnfit serves number pass
       why (inl other) = inl (another_of_server number other)
       why (inr unfit) = inr (unfit_of_server number pass unfit)
 
   -- the result of an attach
   pub attach_of_server : (number now : ℕ) (call : Call) (result : Result (PassOf × Answer) PassFault)
-      → IsAttachOf (IsTreeOf old) number now call result → IsAttachOf serves number now call result
+      → IsAttachOf (BeganAs old) number now call result → IsAttachOf serves number now call result
   attach_of_server number now call (Ok x) is = step_of_server number (fresh_pass x.0.number) now call x.1 x.0 is
   attach_of_server number now call (Err Foreign) is = another_of_server number is
   attach_of_server number now call (Err Room) is = record {
@@ -69,6 +72,6 @@ module _ (serves : HasTree) (old : Locked) (served : serves old.number old.run.f
 
   -- what a look returned
   pub look_of_server : {T : Type 0} → (number : ℕ) (may_return : RunOf → T → Type 0) (found : Option T)
-      → IsLookOf (IsTreeOf old) number may_return found → IsLookOf serves number may_return found
+      → IsLookOf (BeganAs old) number may_return found → IsLookOf serves number may_return found
   look_of_server number may_return (Some found) is = (is.0, of_server number is.0 is.1, is.2)
   look_of_server number may_return None is = another_of_server number is

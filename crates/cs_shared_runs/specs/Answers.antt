@@ -12,16 +12,17 @@ use Rattle.cs_journal.specs.Marks.{StepMark}
 use Rattle.cs_journal.specs.Runs.{Fits, PassOf, RunOf, first_state, fresh_pass}
 use Rattle.cs_journal.specs.Steps.{step}
 use Rattle.cs_registry.specs.Keys.{Key}
-use Rattle.cs_shared_runs.specs.Serving.{HasTree}
+use Rattle.cs_shared_runs.specs.Serving.{HasRuns}
 
--- A run that the server has under the number, with a legal journal. Only a run's lock gives one.
-pub record IsServed (serves : HasTree) (number : ℕ) (run : RunOf) : Type 0 where
-  pub tree : serves number run.fresh
+-- A run that the server has under the number, over its tree and with its users, with a legal
+-- journal. Only a run's lock gives one.
+pub record IsServed (serves : HasRuns) (number : ℕ) (run : RunOf) : Type 0 where
+  pub began : serves number run.fresh run.users
   pub legal : IsLegal (first_state run) run.journal
 
 -- There is such a run that the pass fits. The answer and the pass that is left are those of a step
 -- on it, which leaves such a run.
-pub record IsStepOfServedRun (serves : HasTree) (number : ℕ) (pass : PassOf) (now : ℕ) (call : Call)
+pub record IsStepOfServedRun (serves : HasRuns) (number : ℕ) (pass : PassOf) (now : ℕ) (call : Call)
     (answer : Answer) (pass' : PassOf) : Type 0 where
   pub run : RunOf
   pub mark : StepMark
@@ -33,50 +34,50 @@ pub record IsStepOfServedRun (serves : HasTree) (number : ℕ) (pass : PassOf) (
   pub fits_after : Fits (step run pass now call mark).run pass'
 
 -- The run under the lock is of another number.
-pub record IsOfAnother (serves : HasTree) (number : ℕ) : Type 0 where
+pub record IsOfAnother (serves : HasRuns) (number : ℕ) : Type 0 where
   pub other : ℕ
   pub run : RunOf
   pub served : IsServed serves other run
   pub differs : other ≢ number
 
 -- The run under the lock is of the number, and the pass doesn't fit it.
-pub record IsUnfit (serves : HasTree) (number : ℕ) (pass : PassOf) : Type 0 where
+pub record IsUnfit (serves : HasRuns) (number : ℕ) (pass : PassOf) : Type 0 where
   pub run : RunOf
   pub served : IsServed serves number run
   pub unfit : ¬ Fits run pass
 
 -- S5, for one of these two reasons, and the pass stays
-abbrev pub IsForeign : HasTree → ℕ → PassOf → Answer → PassOf → Type 0
+abbrev pub IsForeign : HasRuns → ℕ → PassOf → Answer → PassOf → Type 0
 IsForeign serves number pass answer pass' =
     (IsOfAnother serves number ⊎ IsUnfit serves number pass)
     × (answer ≡ Denied S5) × (pass' ≡ pass)
 
-abbrev pub IsAnswerOf : HasTree → ℕ → PassOf → ℕ → Call → Answer → PassOf → Type 0
+abbrev pub IsAnswerOf : HasRuns → ℕ → PassOf → ℕ → Call → Answer → PassOf → Type 0
 IsAnswerOf serves number pass now call answer pass' =
     IsStepOfServedRun serves number pass now call answer pass'
     ⊎ IsForeign serves number pass answer pass'
 
 -- The run under the lock is of the number, and gave as many passes as a run gives.
-pub record IsFull (serves : HasTree) (number : ℕ) : Type 0 where
+pub record IsFull (serves : HasRuns) (number : ℕ) : Type 0 where
   pub run : RunOf
   pub served : IsServed serves number run
   pub full : RUN_ATTACHES ≤ run.passes
 
 -- why an attach gives no pass; no reason is stated for a failed allocation
-abbrev pub IsRefused : HasTree → ℕ → PassFault → Type 0
+abbrev pub IsRefused : HasRuns → ℕ → PassFault → Type 0
 IsRefused serves number Foreign = IsOfAnother serves number
 IsRefused serves number Room = IsFull serves number
 IsRefused serves number Memory = ⊤
 
 -- An attach by this call: the answer and the pass are those of a step under a new pass; or it was
 -- refused for a reason.
-abbrev pub IsAttachOf : HasTree → ℕ → ℕ → Call → Result (PassOf × Answer) PassFault → Type 0
+abbrev pub IsAttachOf : HasRuns → ℕ → ℕ → Call → Result (PassOf × Answer) PassFault → Type 0
 IsAttachOf serves number now call (Ok x) =
     IsStepOfServedRun serves number (fresh_pass x.0.number) now call x.1 x.0
 IsAttachOf serves number now call (Err fault) = IsRefused serves number fault
 
 -- what a look returned of the run under the lock; None if that is of another number
-abbrev pub IsLookOf : {T : Type 0} → HasTree → ℕ → (RunOf → T → Type 0) → Option T → Type 0
+abbrev pub IsLookOf : {T : Type 0} → HasRuns → ℕ → (RunOf → T → Type 0) → Option T → Type 0
 IsLookOf serves number may_return (Some found) =
     (run : RunOf) × IsServed serves number run × may_return run found
 IsLookOf serves number may_return None = IsOfAnother serves number

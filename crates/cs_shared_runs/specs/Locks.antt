@@ -11,7 +11,7 @@ use Rattle.cs_journal.specs.Runs.{Fits, PassOf, RunOf, fresh_pass, run_code, wit
 use Rattle.cs_journal.specs.Steps.{step}
 use Rattle.cs_permit.specs.declared.fault.PassFault.{PassFault}
 use Rattle.cs_permit.specs.declared.fault.PassFault.TheVariants.{Foreign, Room, Memory}
-use Rattle.cs_shared_runs.specs.Serving.{HasTree}
+use Rattle.cs_shared_runs.specs.Serving.{HasRuns}
 
 -- A run, with the number of its state.
 pub record Locked : Type 0 where
@@ -23,13 +23,15 @@ locked_code =
     code_by (ℕ × RunOf) (coded× coded_ℕ run_code) (λ l. (l.number, l.run))
     (λ p. record { number = p.0; run = p.1 }) (λ _. refl)
 
--- only the tree with which this run began, under its number
-abbrev pub IsTreeOf : Locked → HasTree
-IsTreeOf locked number tree = (number ≡ locked.number) × (tree ≡ locked.run.fresh)
+-- only the tree and the users with which this run began, under its number
+abbrev pub BeganAs : Locked → HasRuns
+BeganAs locked number tree users =
+    (number ≡ locked.number) × (tree ≡ locked.run.fresh) × (users ≡ locked.run.users)
 
--- the number stays, and the tree with which the run began
-abbrev pub KeepsTree : Locked → Locked → Type 0
-KeepsTree old new = (new.number ≡ old.number) × (new.run.fresh ≡ old.run.fresh)
+-- the number stays, and the tree and the users with which the run began
+abbrev pub KeepsBegin : Locked → Locked → Type 0
+KeepsBegin old new =
+    (new.number ≡ old.number) × (new.run.fresh ≡ old.run.fresh) × (new.run.users ≡ old.run.users)
 
 -- the answer, the run and the pass are those of a step; the number stays
 abbrev pub LockedSteps : Locked → RunOf → PassOf → ℕ → Call → Answer → Locked → PassOf → Type 0

@@ -2,7 +2,7 @@
 ghost use Rattle.cs_permit.specs.declared.call.Call.TheVariants as called;
 ghost use Rattle.cs_run.specs.Laws.{FitsCall};
 ghost use Rattle.cs_shared_runs.specs.Answers.{GivesAnswer, GivesAttach, IsAnswerOf, IsAttachOf};
-ghost use Rattle.cs_shared_runs.specs.Locks.{IsTreeOf, KeepsTree, LockedAttaches, LockedCalls};
+ghost use Rattle.cs_shared_runs.specs.Locks.{BeganAs, KeepsBegin, LockedAttaches, LockedCalls};
 
 use crate::locked::NumberedRun;
 use cs_journal::Pass;
@@ -34,9 +34,9 @@ pub trait AnswersCalls {
         ensures source { answered key.now pass.old now call.entry result pass.new }
         ensures calls { LockedCalls run.old key.now.number pass.old now call.entry result
             run.new pass.new }
-        ensures answers { IsAnswerOf (IsTreeOf run.old) key.now.number pass.old now call.entry
+        ensures answers { IsAnswerOf (BeganAs run.old) key.now.number pass.old now call.entry
             result pass.new }
-        ensures keeps { KeepsTree run.old run.new }
+        ensures keeps { KeepsBegin run.old run.new }
         ensures fits { FitsCall call.entry result };
 
     /// Attaches a user to the run of that key, as `NumberedRun::attach` does.
@@ -50,7 +50,7 @@ pub trait AnswersCalls {
         ensures source { attached key.now now (called.Attach (record { user = user })) result }
         ensures attaches { LockedAttaches run.old key.now.number now
             (called.Attach (record { user = user })) result run.new }
-        ensures answers { IsAttachOf (IsTreeOf run.old) key.now.number now
+        ensures answers { IsAttachOf (BeganAs run.old) key.now.number now
             (called.Attach (record { user = user })) result }
-        ensures keeps { KeepsTree run.old run.new };
+        ensures keeps { KeepsBegin run.old run.new };
 }

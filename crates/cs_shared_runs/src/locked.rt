@@ -2,7 +2,7 @@
 ghost use Rattle.std.specs.Prelude.{◌≡◌, ◌≢◌, ◌↔◌, IsNone, IsSomeAnd, IsTrue};
 ghost use Rattle.cs_permit.specs.declared.call.Call.TheVariants as called;
 ghost use Rattle.cs_run.specs.Laws.{FitsCall};
-ghost use Rattle.cs_shared_runs.specs.Locks.{IsTreeOf, KeepsTree, LockedAttaches, LockedCalls};
+ghost use Rattle.cs_shared_runs.specs.Locks.{BeganAs, KeepsBegin, LockedAttaches, LockedCalls};
 ghost use Rattle.cs_shared_runs.specs.Answers.{IsAnswerOf, IsAttachOf, IsLookOf};
 
 use crate::look::Look;
@@ -59,9 +59,9 @@ impl NumberedRun {
     ) -> Answer
         ensures calls { LockedCalls self.old number pass.old now call.entry result
             self.new pass.new }
-        ensures answers { IsAnswerOf (IsTreeOf self.old) number pass.old now call.entry result
+        ensures answers { IsAnswerOf (BeganAs self.old) number pass.old now call.entry result
             pass.new }
-        ensures keeps { KeepsTree self.old self.new }
+        ensures keeps { KeepsBegin self.old self.new }
         ensures fits { FitsCall call.entry result }
     {
         // by its contract the journal is legal
@@ -88,9 +88,9 @@ impl NumberedRun {
     ) -> Result<(Pass, Answer), PassFault>
         ensures attaches { LockedAttaches self.old number now
             (called.Attach (record { user = user })) result self.new }
-        ensures answers { IsAttachOf (IsTreeOf self.old) number now
+        ensures answers { IsAttachOf (BeganAs self.old) number now
             (called.Attach (record { user = user })) result }
-        ensures keeps { KeepsTree self.old self.new }
+        ensures keeps { KeepsBegin self.old self.new }
     {
         // by its contract the journal is legal
         know(self.run.entries());
@@ -114,7 +114,7 @@ impl NumberedRun {
         ensures looks { self.now.number ≡ number
             → IsSomeAnd result (K.may_return look self.now.run) }
         ensures foreign { self.now.number ≢ number → IsNone result }
-        ensures answers { IsLookOf (IsTreeOf self.now) number (K.may_return look) result }
+        ensures answers { IsLookOf (BeganAs self.now) number (K.may_return look) result }
     {
         // by its contract the journal is legal
         know(self.run.entries());
@@ -125,8 +125,9 @@ impl NumberedRun {
     }
 }
 
-/// A run and the number of its state; the run began with the tree that the server has under that
-/// number. Whatever is done under the lock is done by the calls below. Contracts see both.
+/// A run and the number of its state; the run began with a tree that the server has under that
+/// number, and with users that it loaded. Whatever is done under the lock is done by the calls
+/// below. Contracts see both.
 #[derive(Drop)]
 pub(crate) struct Locked<S: ServerBrand> {
     inside: NumberedRun,
@@ -142,13 +143,13 @@ impl<S: ServerBrand> Model for Locked<S> {
 
     ghost view = { λ l. l.inside };
 
-    ghost invariant = { λ l. S.serves l.inside.number l.inside.run.fresh };
+    ghost invariant = { λ l. S.serves l.inside.number l.inside.run.fresh l.inside.run.users };
 }
 
 impl<S: ServerBrand> Locked<S> {
     /// The run of the state of that number, to be put under a lock.
     pub(crate) fn new(number: u32, run: Run<Built>) -> Locked<S>
-        requires { S.serves number run.fresh }
+        requires { S.serves number run.fresh run.users }
         ensures { result ≡ record { number = number; run = run } }
     {
         Locked {

@@ -63,7 +63,8 @@ impl<S: ServerBrand> Registry<S> {
         users: Arc<Users>,
     ) -> Result<Registry<S>, AllocError>
         requires here { S.is_scene (arc_value scene) }
-        requires serves { ServesAll S.serves (arc_value scene) }
+        requires serves { ServesAll S.serves S.loads (arc_value scene) }
+        requires loads { S.loads (arc_value users) }
         ensures { IfOk result (λ registry. registry ≡ empty (arc_value scene) (arc_value users)) }
     {
         // each state of a scene is one that a crash may leave
@@ -138,6 +139,7 @@ impl<S: ServerBrand> Registry<S> {
     /// Loads these users, for the runs that are made from now on, and returns them as the list that
     /// was loaded. An error, if the list has as many handles as can be, leaves the old list loaded.
     pub fn reload(&mut self, users: Arc<Users>) -> Result<LoadedUsers, AllocError>
+        requires { S.loads (arc_value users) }
         ensures value { IfOk result (λ loaded. loaded ≡ arc_value users) }
         ensures loads { IfOk result (λ loaded. self.new ≡ with_users self.old (arc_value users)) }
         ensures stays { OnErr result (self.new ≡ self.old) }

@@ -1,7 +1,8 @@
-//! The scene of a server, and its trees.
-ghost use Rattle.std.specs.Prelude.{ℕ};
+//! The scene of a server, and its runs.
+ghost use Rattle.std.specs.Prelude.{ℕ, List};
 ghost use Rattle.cs_plan.specs.Scenes.{Scene};
 ghost use Rattle.cs_tree_model.specs.Tree.{Tree};
+ghost use Rattle.cs_users.specs.Rows.{Row};
 
 use crate::answering::AnswersCalls;
 use crate::locked::NumberedRun;
@@ -13,11 +14,14 @@ use cs_run::Answer;
 use std::alloc::Global;
 use std::marker::Brand;
 
-/// Names a server by a type, so that the type of what a lock protects says whose scene and whose
-/// trees it has.
+/// Names a server by a type, so that the type of what a lock protects says whose scene, trees and
+/// users it has.
 pub trait ServerBrand: AnswersCalls {
-    /// The trees that the server has under a number. New runs begin with these.
-    ghost serves: { ℕ → Tree → Type 0 };
+    /// The trees and the lists of users with which runs of the server begin, under a number.
+    ghost serves: { ℕ → Tree → List Row → Type 0 };
+
+    /// The lists of users that the server may load.
+    ghost loads: { List Row → Type 0 };
 
     /// Whether a scene is the server's.
     ghost is_scene: { Scene → Type 0 };
@@ -31,14 +35,18 @@ impl ServerBrand for AnyScene {
 
     ghost serves = { IsStateOfSome };
 
+    ghost loads = { λ users. Unit {0} };
+
     ghost is_scene = { λ scene. Unit {0} };
 }
 
-// a caller that passes `Brand` chooses which scene and which trees it means
+// a caller that passes `Brand` chooses which scene, trees and users it means
 impl ServerBrand for Brand {
     ghost use Rattle.cs_shared_runs.specs.Serving.{IsStateOfSome};
 
     ghost serves = { IsStateOfSome };
+
+    ghost loads = { λ users. Unit {0} };
 
     ghost is_scene = { λ scene. Unit {0} };
 }

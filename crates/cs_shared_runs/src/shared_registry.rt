@@ -47,7 +47,8 @@ impl<S: ServerBrand> SharedRegistry<S> {
         users: Arc<Users>,
     ) -> Result<SharedRegistry<S>, AllocError>
         requires here { S.is_scene (arc_value scene) }
-        requires serves { ServesAll S.serves (arc_value scene) }
+        requires serves { ServesAll S.serves S.loads (arc_value scene) }
+        requires loads { S.loads (arc_value users) }
         ensures { IfOk result (λ registry. registry ≡ arc_value scene) }
     {
         let own = Arc::try_clone(&scene)?;
@@ -78,6 +79,11 @@ impl<S: ServerBrand> SharedRegistry<S> {
         ensures own { S.is_scene self.now }
     {
         &self.scene
+    }
+
+    /// The registry without its lock: no other thread has it any more.
+    pub fn into_registry(self) -> Registry<S> {
+        self.inside.into_inner()
     }
 
     /// How many states of the plan weren't published while the lock was held; 0 if all were. Other
@@ -157,6 +163,7 @@ impl<S: ServerBrand> SharedRegistry<S> {
         alloc: Global,
         users: Users,
     ) -> Result<LoadedUsers, AllocError>
+        requires { S.loads users }
         ensures { IfOk result (λ loaded. loaded ≡ users) }
     {
         let users = Arc::new(alloc, users)?;

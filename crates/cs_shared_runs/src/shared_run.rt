@@ -45,7 +45,7 @@ impl<S: ServerBrand> SharedRun<S> {
         lower: Arc<Built>,
         users: Arc<Users>,
     ) -> Result<SharedRun<S>, AllocError>
-        requires served { S.serves key.number (arc_value lower) }
+        requires served { S.serves key.number (arc_value lower) (arc_value users) }
         requires grows { CanGrow (arc_value lower) }
         ensures { IfOk result (λ shared. shared ≡ key) }
     {
@@ -120,8 +120,11 @@ impl<S: ServerBrand> SharedRun<S> {
 impl<S: ServerBrand> Held for SharedRun<S> {
     ghost use Rattle.std.specs.Prelude.{◌≡◌};
     ghost use Rattle.cs_journal.specs.Bounds.{CanGrow};
+    ghost use Rattle.cs_shared_runs.specs.Serving.{ServesEach};
 
-    ghost admits = { λ number tree. CanGrow tree × S.serves number tree };
+    ghost admits = { λ number tree. CanGrow tree × ServesEach S.serves S.loads number tree };
+
+    ghost suits = { S.loads };
 
     ghost is_fresh = { λ key tree users shared. shared ≡ key };
 

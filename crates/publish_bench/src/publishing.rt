@@ -1,6 +1,8 @@
 //! All states of a scene, published by workers in a registry that threads share.
 ghost use Rattle.std.specs.Arc.{arc_value};
+ghost use Rattle.std.specs.Prelude.{List};
 ghost use Rattle.cs_shared_runs.specs.Serving.{IsOnly, ServesAll};
+ghost use Rattle.cs_users.specs.Rows.{Row};
 
 use cs_bench::{Row, Total};
 use cs_plan::Scene;
@@ -25,7 +27,8 @@ fn published<S: ServerBrand, R: Threads + Wait + Sync>(
 ) -> Option<SharedRegistry<S>>
     requires here { S.is_scene (arc_value scene) }
     requires only { IsOnly S.is_scene (arc_value scene) }
-    requires serves { ServesAll S.serves (arc_value scene) }
+    requires serves { ServesAll S.serves S.loads (arc_value scene) }
+    requires loads { (users : List Row) → S.loads users }
 {
     let users = Users::read(alloc, b"1:ann::\n").ok()?;
     let users = Arc::new(alloc, users).ok()?;
@@ -47,7 +50,8 @@ fn time_scene<S: ServerBrand, R: Threads + Wait + Sync + Clock>(
 ) -> io::Result<()>
     requires here { S.is_scene (arc_value scene) }
     requires only { IsOnly S.is_scene (arc_value scene) }
-    requires serves { ServesAll S.serves (arc_value scene) }
+    requires serves { ServesAll S.serves S.loads (arc_value scene) }
+    requires loads { (users : List Row) → S.loads users }
 {
     let states = scene.plan().len() as u64;
     let start = Instant::now(rt)?;

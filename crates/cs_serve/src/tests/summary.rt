@@ -6,7 +6,7 @@ use crate::serving::server_of;
 use crate::summary::summary_of_runs;
 use cs_connection::{GivenPasses, Server, serve_connection};
 use cs_plan::Scene;
-use cs_shared_runs::AnyScene;
+use cs_shared_runs::{AnyScene, Registry};
 use cs_stream::TwoEnded;
 use std::alloc::Global;
 use std::process::Abort;
@@ -62,13 +62,19 @@ impl Ended {
         assert!(rt; ended.result().is_ok());
         assert!(rt; self.passes.keep(alloc, ended).is_ok());
     }
+}
 
-    /// What is printed of its runs, audited by these passes, is this.
-    fn expect<R: Wait + Abort>(&self, rt: &R, alloc: Global, passes: &GivenPasses, wanted: &[u8]) {
-        let summary = summary_of_runs(rt, alloc, &self.server, passes);
-        let summary = summary.ok().expect(rt, "memory");
-        assert!(rt; summary.as_bytes() == wanted);
-    }
+/// What is printed of the runs, audited by these passes, is this.
+fn expect<R: Wait + Abort>(
+    rt: &R,
+    alloc: Global,
+    runs: &Registry<AnyScene>,
+    passes: &GivenPasses,
+    wanted: &[u8],
+) {
+    let summary = summary_of_runs(rt, alloc, runs, passes);
+    let summary = summary.ok().expect(rt, "memory");
+    assert!(rt; summary.as_bytes() == wanted);
 }
 
 /// On a server of two states ann attaches to `1/a` and `0/x` on one connection, with a stat of
@@ -80,13 +86,15 @@ fn each_run_is_printed_with_its_own_audit(rt: HostRuntime) {
     let alloc = rt.alloc();
     let mut own = Ended::new(&rt, alloc);
     own.serve(&rt, alloc, &[VERSION, TO_A, TO_X, STAT_X, STAT_A]);
+    let Ended { server, passes } = own;
+    let runs = server.into_registry();
     let ok = b"run 0/x entries 2 audit ok\nrun 1/a entries 2 audit ok\n";
-    own.expect(&rt, alloc, &own.passes, ok);
+    expect(&rt, alloc, &runs, &passes, ok);
     let count = b"run 0/x entries 2 audit count\nrun 1/a entries 2 audit count\n";
-    own.expect(&rt, alloc, &GivenPasses::new(alloc), count);
+    expect(&rt, alloc, &runs, &GivenPasses::new(alloc), count);
     let mut other = Ended::new(&rt, alloc);
     other.serve(&rt, alloc, &[VERSION, TO_A, TO_X, WALK_X]);
     other.serve(&rt, alloc, &[VERSION, TO_A]);
     let foreign = b"run 0/x entries 2 audit changed 1\nrun 1/a entries 2 audit missing 1\n";
-    own.expect(&rt, alloc, &other.passes, foreign);
+    expect(&rt, alloc, &runs, &other.passes, foreign);
 }

@@ -1,6 +1,8 @@
 //! Workers that publish for a server.
 ghost use Rattle.std.specs.Arc.{arc_value};
+ghost use Rattle.std.specs.Prelude.{List};
 ghost use Rattle.cs_shared_runs.specs.Serving.{IsOnly, ServesAll};
+ghost use Rattle.cs_users.specs.Rows.{Row};
 
 use super::fixture::{TRACE, comes, inputs_of, scene_in};
 use crate::serving::server_of;
@@ -41,7 +43,8 @@ fn two_publish<S: ServerBrand, R: Threads + Wait + Sync + Abort>(
 )
     requires here { S.is_scene (arc_value scene) }
     requires only { IsOnly S.is_scene (arc_value scene) }
-    requires serves { ServesAll S.serves (arc_value scene) }
+    requires serves { ServesAll S.serves S.loads (arc_value scene) }
+    requires loads { (users : List Row) → S.loads users }
 {
     let server = server_of::<S>(alloc, scene, &inputs_of(TRACE, false)).ok();
     let server = server.expect(rt, "the server");

@@ -1,7 +1,9 @@
 //! Workers over a file that is written, waited for and moved, whose plan has twelve states.
 ghost use Rattle.std.specs.Prelude.{◌≡◌};
 ghost use Rattle.std.specs.Arc.{arc_value};
+ghost use Rattle.std.specs.Prelude.{List};
 ghost use Rattle.cs_shared_runs.specs.Serving.{IsOnly, ServesAll};
+ghost use Rattle.cs_users.specs.Rows.{Row};
 
 use cs_plan::{Built, Published, Scene};
 use cs_publish::{Gate, NoGate, PublishAllFault, publish_all, publish_own_into};
@@ -180,7 +182,8 @@ fn registry_of<S: ServerBrand, R: Abort>(
     scene: Arc<Scene>,
 ) -> SharedRegistry<S>
     requires here { S.is_scene (arc_value scene) }
-    requires serves { ServesAll S.serves (arc_value scene) }
+    requires serves { ServesAll S.serves S.loads (arc_value scene) }
+    requires loads { (users : List Row) → S.loads users }
     ensures { result ≡ arc_value scene }
 {
     SharedRegistry::<S>::new(alloc, scene, users_of(rt, alloc)).expect(rt, "memory")
@@ -221,7 +224,8 @@ fn counts<S: ServerBrand, R: Threads + Wait + Sync + Abort>(
 )
     requires here { S.is_scene (arc_value scene) }
     requires only { IsOnly S.is_scene (arc_value scene) }
-    requires serves { ServesAll S.serves (arc_value scene) }
+    requires serves { ServesAll S.serves S.loads (arc_value scene) }
+    requires loads { (users : List Row) → S.loads users }
 {
     let registry = registry_of::<S, R>(rt, alloc, scene);
     let refused = Err(PublishAllFault::Workers);
@@ -252,7 +256,8 @@ fn asks<S: ServerBrand, R: Threads + Wait + Sync + Abort>(
 )
     requires here { S.is_scene (arc_value scene) }
     requires only { IsOnly S.is_scene (arc_value scene) }
-    requires serves { ServesAll S.serves (arc_value scene) }
+    requires serves { ServesAll S.serves S.loads (arc_value scene) }
+    requires loads { (users : List Row) → S.loads users }
 {
     let registry = registry_of::<S, R>(rt, alloc, scene);
     publishes(rt, alloc, &registry, 2, gate, Ok(12));

@@ -16,7 +16,7 @@ returns-in_default-clause-finds g c =
 pub make_run-requires-clause-admitted : goal.make_run-requires-clause-admitted
 make_run-requires-clause-admitted g c =
     let there = sym (ap option_copied c.in-Some.is) ∙ (rw (c.deref.ensures.value, c.number.ensures) at c.published_state.ensures) in
-    is_admitted c.self.invariant c.args.key.number c.in-Some.state.now there
+    is_admitted c.self.invariant.0 c.args.key.number c.in-Some.state.now there
 
 pub returns-in-Some-get_index_of-clause-finds : goal.returns-in-Some-get_index_of-clause-finds
 returns-in-Some-get_index_of-clause-finds g c =
@@ -43,7 +43,7 @@ returns-after-make_run-clause-finds g c =
       | in-Ok w ↦ rw w.result-is
           (let made = w.in-Ok.ensures.made in
           finds_new g.H.Held.is_fresh _ c.args.key published none few w.in-Ok.place c.make_run.new.runs.entries made.1.0 made.0 made.1.2
-          (arc_value c.in-Some.state.now, state_is c.self.invariant c.args.key.number c.in-Some.state.now there, made.1.1))
+          (arc_value c.in-Some.state.now, state_is c.self.invariant.0 c.args.key.number c.in-Some.state.now there, made.1.1))
       | in-Err w ↦ rw w.result-is
           (finds_short g.H.Held.is_fresh _ c.args.key published none few c.make_run.new.runs.entries w.in-Err.ensures.err)
     ])

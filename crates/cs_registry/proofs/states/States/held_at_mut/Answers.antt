@@ -16,8 +16,10 @@ pair_mut-run-requires g c =
     omega (arith, c.requires, count)
 
 pub invariant_of-self-lent : goal.invariant_of-self-lent
-invariant_of-self-lent g c w =
-    runs_kept c.self.inside.runs.entries _ (length-set_value_at c.self.inside.runs.entries c.args.place _) c.self.invariant
+invariant_of-self-lent g c w = (
+  runs_kept c.self.inside.runs.entries _ (length-set_value_at c.self.inside.runs.entries c.args.place _) c.self.invariant.0,
+  c.self.invariant.1,
+)
 
 pub returns : goal.returns
 returns g c =

@@ -13,7 +13,7 @@ index-requires g c =
     omega (
       arith,
       c.self.inside.states.ok,
-      has_place c.self.invariant c.args.state c.number-number.ensures.published scenes _
+      has_place c.self.invariant.0 c.args.state c.number-number.ensures.published scenes _
           c.number-number.ensures.value,
     )
 
@@ -21,27 +21,29 @@ pub overflow_sub-self : goal.overflow_sub-self
 overflow_sub-self g c =
     let scenes : c.args.state.scene ≡ arc_value c.self.inside.scene = rw (← c.self.view_is) at c.requires.own in
     let none =
-    blank_at c.self.invariant c.args.state c.number-number.ensures.published scenes _ c.number-number.ensures.value c.index.result.now
+    blank_at c.self.invariant.0 c.args.state c.number-number.ensures.published scenes _ c.number-number.ensures.value c.index.result.now
     c.index.ensures (sym c.is_some.ensures ∙ c.if-is_some.false) in
     some_missing c.in-Ok.state c.self.inside.states.items c.number-number.result none c.self.inside.runs.entries c.self.inside.missing
-    c.self.invariant.left
+    c.self.invariant.0.left
 
 pub invariant_of-self : goal.invariant_of-self
 invariant_of-self g c =
     let n = c.number-number.result in
     let scenes : c.args.state.scene ≡ arc_value c.self.inside.scene = rw (← c.self.view_is) at c.requires.own in
     let none =
-    blank_at c.self.invariant c.args.state c.number-number.ensures.published scenes _ c.number-number.ensures.value c.index.result.now
+    blank_at c.self.invariant.0 c.args.state c.number-number.ensures.published scenes _ c.number-number.ensures.value c.index.result.now
     c.index.ensures (sym c.is_some.ensures ∙ c.if-is_some.false) in
     let trees : c.args.state.tree ≡ arc_value c.in-Ok.state = sym c.into_store.ensures.tree ∙ sym c.in-Ok.ensures.ok in
     let same : c.args.state ≡ record {
       number = n;
       scene = arc_value c.self.inside.scene;
       tree = arc_value c.in-Ok.state;
-    } = λ i. record { number = sym c.number-number.ensures.value i; scene = scenes i; tree = trees i } in
-    published_kept c.in-Ok.state c.self.inside.states.items n none c.self.inside.runs.entries g.H.Held.admits
-    (arc_value c.self.inside.scene) arc_value c.self.inside.missing c.self.invariant
-    (subst IsPublished same c.into_store.ensures.published)
+    } = λ i. record { number = sym c.number-number.ensures.value i; scene = scenes i; tree = trees i } in (
+      published_kept c.in-Ok.state c.self.inside.states.items n none c.self.inside.runs.entries g.H.Held.admits
+          (arc_value c.self.inside.scene) arc_value c.self.inside.missing c.self.invariant.0
+          (subst IsPublished same c.into_store.ensures.published),
+      c.self.invariant.1,
+    )
 
 pub returns : goal.returns
 returns g c =
@@ -52,13 +54,13 @@ returns g c =
     let number : n ≡ c.args.state.number = c.number-number.ensures.value in
     let scenes : c.args.state.scene ≡ arc_value c.self.inside.scene = rw (← v) at c.requires.own in
     let none : slice_get xs n ≡ Some None =
-    blank_at c.self.invariant c.args.state c.number-number.ensures.published scenes n number c.index.result.now c.index.ensures
+    blank_at c.self.invariant.0 c.args.state c.number-number.ensures.published scenes n number c.index.result.now c.index.ensures
     (sym c.is_some.ensures ∙ c.if-is_some.false) in (
       (
         omega (
           arith,
-          c.self.invariant.each,
-          has_place c.self.invariant c.args.state c.number-number.ensures.published scenes n number,
+          c.self.invariant.0.each,
+          has_place c.self.invariant.0 c.args.state c.number-number.ensures.published scenes n number,
           ap
               (λ (r : R). length r.scene.plan) v,
         ),

@@ -6,6 +6,7 @@ use Rattle.cs_serve.proofs.tests.workers.two_workers_publish_for_a_server_at_onc
 -- the server is one of the scene and of its states
 abbrev pub ghosts-two_publish : goal.ghosts-two_publish
 ghosts-two_publish g a = record {
-  serves = λ number tree. state_at (arc_value a.scene) number ≡ Some tree;
+  serves = λ number tree users. state_at (arc_value a.scene) number ≡ Some tree;
+  loads = λ users. Unit {0};
   is_scene = λ scene. scene ≡ arc_value a.scene;
 }

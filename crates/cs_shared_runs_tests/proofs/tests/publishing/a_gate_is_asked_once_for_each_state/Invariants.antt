@@ -6,6 +6,7 @@ use Rattle.cs_shared_runs_tests.proofs.tests.publishing.a_gate_is_asked_once_for
 -- the server is one of the scene and of its states
 abbrev pub ghosts-asks : goal.ghosts-asks
 ghosts-asks g a = record {
-  serves = λ number tree. state_at (arc_value a.scene) number ≡ Some tree;
+  serves = λ number tree users. state_at (arc_value a.scene) number ≡ Some tree;
+  loads = λ users. Unit {0};
   is_scene = λ scene. scene ≡ arc_value a.scene;
 }

@@ -2,8 +2,8 @@ use Rattle.cs_world.proofs.Growing.{can_grow}
 use Rattle.cs_world.proofs.Staying.{by_new}
 use Rattle.cs_world.proofs.world.World.new.Goals as goal
 
-pub new-requires : goal.new-requires
-new-requires c = λ state is its. can_grow state is
+pub new-requires-clause-admitted : goal.new-requires-clause-admitted
+new-requires-clause-admitted c = λ state is its. can_grow state is
 
 pub returns-clause-consistent : goal.returns-clause-consistent
 returns-clause-consistent c =
