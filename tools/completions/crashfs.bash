@@ -29,8 +29,8 @@ _crashfs() {
                             -h --help --verbose --users --holes --picks --trace' ;;
                     serve)
                         words='
-                            -h --help --again --ready --reload --verbose --client --users
-                            --listen --workers --connections --holes --picks --trace' ;;
+                            -h --help --again --until-killed --ready --reload --verbose --client
+                            --users --listen --workers --connections --holes --picks --trace' ;;
                 esac
             fi
             ;;

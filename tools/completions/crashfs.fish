@@ -35,6 +35,7 @@ complete -c crashfs -n '__fish_seen_subcommand_from script' -l picks -r -d 'Adds
 complete -c crashfs -n '__fish_seen_subcommand_from script' -l trace -r -d 'The same as TRACE'
 complete -c crashfs -n __fish_use_subcommand -a serve -d 'Serves the states over TCP, each connection in a thread of its own'
 complete -c crashfs -n '__fish_seen_subcommand_from serve' -l again -d 'Accepts another connection when one ends, until standard input ends'
+complete -c crashfs -n '__fish_seen_subcommand_from serve' -l until-killed -d 'As --again, but until a signal ends it: standard input isn’t read'
 complete -c crashfs -n '__fish_seen_subcommand_from serve' -l ready -d 'Makes all states before it listens'
 complete -c crashfs -n '__fish_seen_subcommand_from serve' -l reload -d 'Reads the users file again for each connection: later runs have its users'
 complete -c crashfs -n '__fish_seen_subcommand_from serve' -l verbose -d 'Prints connections, messages with their replies, and attaches on standard error'

@@ -63,6 +63,7 @@ else
             _arguments \
                 '(-h --help)'{-h,--help}'[Prints the help]' \
                 '--again[Accepts another connection when one ends, until standard input ends]' \
+                '--until-killed[As --again, but until a signal ends it\: standard input isn’t read]' \
                 '--ready[Makes all states before it listens]' \
                 '--reload[Reads the users file again for each connection\: later runs have its users]' \
                 '--verbose[Prints connections, messages with their replies, and attaches on standard error]' \

@@ -4,6 +4,7 @@ again, Linux's own client, addresses that are refused, and what is printed."""
 from __future__ import annotations
 
 import os
+import signal
 import socket
 import subprocess
 import threading
@@ -103,6 +104,16 @@ class Clients(Served):
         self.assertEqual((server.end(), server.runs), (0, 'run 0/x entries 6 audit ok\n'))
         first = server.errors.find('\n0 ended\n1 accepted from 127.0.0.1:')
         self.assertTrue(-1 < first < server.errors.find('\n1 ended\n2 accepted from 127.0.0.1:'))
+
+    def test_until_killed_it_does_not_look_at_its_input(self) -> None:
+        """With `--until-killed` clients that come after the end of an input that was empty are
+        served one after another, until the server is killed."""
+        server = self.server('--ready', '--until-killed', '--connections', '1')
+        for _ in range(3):
+            self.look_for_g(server)
+        self.assertIsNone(server.child.poll())
+        server.child.terminate()
+        self.assertEqual((server.end(), server.runs), (-signal.SIGTERM, ''))
 
     @staticmethod
     def look_for_g(server: Server) -> None:

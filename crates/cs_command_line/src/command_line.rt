@@ -122,7 +122,8 @@ fn serving_of<'a>(matches: &ArgMatches<'a>) -> Serving<'a> {
         listen: matches.get_str("listen").unwrap_or(""),
         workers: matches.get_one("workers").unwrap_or(0),
         connections: matches.get_one("connections").unwrap_or(CONNECTIONS),
-        again: matches.get_flag("again"),
+        again: matches.get_flag("again") || matches.get_flag("until-killed"),
+        until_killed: matches.get_flag("until-killed"),
         ready: matches.get_flag("ready"),
         reload: if matches.get_flag("reload") {
             matches.get_str("users")

@@ -194,6 +194,7 @@ fn with_counts<'a>(alloc: Global, command: Command<'a>) -> Result<Command<'a>, A
 /// The command `serve` and its options.
 fn serve_command<'a>(alloc: Global) -> Result<Command<'a>, AllocError> {
     let again = "Accepts another connection when one ends, until standard input ends";
+    let until_killed = "As --again, but until a signal ends it: standard input isn't read";
     let ready = "Makes all states before it listens";
     let reload = "Reads the users file again for each connection: later runs have its users";
     let verbose = "Prints connections, messages with their replies, and attaches on standard error";
@@ -208,6 +209,7 @@ fn serve_command<'a>(alloc: Global) -> Result<Command<'a>, AllocError> {
             "Examples:\n  crashfs serve store.trace --users users --listen localhost:5640 --connections 4\n  sleep infinity | crashfs serve store.trace --users users --listen localhost:5640 --again --reload",
         )
         .arg(flag(alloc, "again", again))?
+        .arg(flag(alloc, "until-killed", until_killed))?
         .arg(flag(alloc, "ready", ready))?
         .arg(flag(alloc, "reload", reload))?
         .arg(client)?

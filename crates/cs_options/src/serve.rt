@@ -22,6 +22,8 @@ pub struct Serving<'a> {
     pub connections: u32,
     /// Whether another connection is accepted when one ends, until the input ends.
     pub again: bool,
+    /// Whether the end of the input ends nothing. Only with `again`.
+    pub until_killed: bool,
     /// Whether all states are published before the first connection is accepted.
     pub ready: bool,
     /// The path of the users file, if it is read again after each accept.

@@ -99,14 +99,15 @@ fn serve_each<
     requires { IsOnly S.is_scene site.now.server }
 {
     let (workers, connections) = (serving.workers, serving.connections);
-    let (again, ready, client) = (serving.again, serving.ready, serving.client);
+    let (ready, client) = (serving.ready, serving.client);
+    let watched = serving.again && !serving.until_killed;
     thread::scope(
         thread::scope_env(),
         rt,
         move |scope| -> bool
             requires { IsOnly S.is_scene site.now.server }
         {
-            if !start_watch(scope, rt, again, input, &site.entrance, log) {
+            if !start_watch(scope, rt, watched, input, &site.entrance, log) {
                 return false;
             }
             if ready {
@@ -206,7 +207,8 @@ where
 /// It ends when `connections` connections have ended. With `again` that is how many it serves at
 /// once: when one has ended it accepts another, until `input`, which is standard input, ends or
 /// can't be read. Then it listens no more, and ends when the connections that it has are served.
-/// The bytes of `input` are dropped; without `again` none is read.
+/// The bytes of `input` are dropped; without `again` none is read. Nor is one with `until_killed`:
+/// then it accepts connections until it is killed.
 ///
 /// With `reload` it reads the users file again after each accept: runs that are made from then on
 /// have its users. If the file can't be read or isn't a users file, or if memory runs out, a line

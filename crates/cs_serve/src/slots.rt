@@ -82,18 +82,18 @@ fn close_at_end<I: Read + Drop>(rt: &impl Wait, mut input: I, entrance: &Entranc
     entrance.close(rt);
 }
 
-/// If `again`, starts a thread that closes the entrance when `input` ends; else does nothing and
+/// If `watched`, starts a thread that closes the entrance when `input` ends; else does nothing and
 /// returns true. False if the thread can't be started: then that is printed, and the entrance is
 /// closed.
 pub(crate) fn start_watch<'s, Env, R: Wait + Sync, I: Read + Drop + Send + 's, E: Write + Send>(
     scope: &'s Scope<'s, Env>,
     rt: &'s R,
-    again: bool,
+    watched: bool,
     input: I,
     entrance: &'s Entrance,
     log: Log<'s, E>,
 ) -> bool {
-    if !again {
+    if !watched {
         return true;
     }
     let watch = scope.spawn(move || close_at_end(rt, input, entrance));

@@ -107,9 +107,9 @@ fn runs_text<S: ServerBrand, R: Wait>(
     Ok(text)
 }
 
-/// A line for each run of the registry, in the order of the numbers of their states and then of their
-/// names: its key, how many entries its journal has, and the result of its audit by the passes that
-/// were kept for its key. The error is out of memory.
+/// A line for each run of the registry, in the order of the numbers of their states and then of
+/// their names: its key, how many entries its journal has, and the result of its audit by the
+/// passes that were kept for its key. The error is out of memory.
 pub(crate) fn summary_of_runs<S: ServerBrand, R: Wait>(
     rt: &R,
     alloc: Global,

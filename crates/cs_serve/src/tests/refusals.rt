@@ -14,6 +14,7 @@ const IDLE: Serving = Serving {
     workers: 0,
     connections: 1,
     again: false,
+    until_killed: false,
     ready: true,
     reload: None,
     client: Client::Plan9,
