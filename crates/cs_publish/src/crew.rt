@@ -1,5 +1,5 @@
 //! The workers: each takes numbers from one channel, makes their states, and sends them.
-ghost use Rattle.std.specs.Prelude.{◌≡◌};
+ghost use Rattle.std.specs.Prelude.{◌≡◌, Err, IfOk, None, Some};
 ghost use Rattle.cs_publish.specs.Crews.{is_crew};
 
 use crate::fault::Lost;
@@ -42,6 +42,20 @@ pub(crate) fn channel_of_numbers<R: Wait>(
     Ok(numbers)
 }
 
+/// What a worker sends for a state that it made or didn't: the state, or that memory ran out.
+/// Nothing if the plan has no such number.
+fn sent_for<N: Staged>(made: Result<Made<N>, MakeFault>) -> Option<FromWorker<N>>
+    ensures state { IfOk made (λ state. result ≡ Some (FromWorker.State state)) }
+    ensures memory { made ≡ Err MakeFault.Memory → result ≡ Some FromWorker.NoMemory }
+    ensures none { made ≡ Err MakeFault.NoSuchState → result ≡ None }
+{
+    match made {
+        Ok(state) => Some(FromWorker::State(state)),
+        Err(MakeFault::Memory) => Some(FromWorker::NoMemory),
+        Err(MakeFault::NoSuchState) => None,
+    }
+}
+
 /// Does a worker's work: takes a number, makes its state and sends it, until no number is left or
 /// the receiver of the states is dropped. If memory runs out for a state, the worker sends NoMemory
 /// in its place, and takes the next number.
@@ -57,12 +71,10 @@ fn work<N: Staged, R: Wait, G: Gate>(
         let Ok(number) = numbers.recv(rt) else {
             return;
         };
-        let made = match stage.make(alloc, ask(gate, number)) {
-            Ok(state) => FromWorker::State(state),
-            Err(MakeFault::Memory) => FromWorker::NoMemory,
-            // not reached, since the numbers are those below the plan's length; but no contract
-            // says what comes out of a channel, so not `unreachable!()`
-            Err(MakeFault::NoSuchState) => continue,
+        // never None, since the numbers are those below the plan's length; but no contract says
+        // what comes out of a channel, so not `unreachable!()`
+        let Some(made) = sent_for(stage.make(alloc, ask(gate, number))) else {
+            continue;
         };
         if states.send(rt, made).is_err() {
             return;

@@ -34,10 +34,12 @@ fn no_workers_publish_nothing(rt: HostRuntime) {
     assert!(rt; err.into_inner().as_slice() == b"crashfs: publishing failed\n".as_slice());
 }
 
-/// A listener whose first accepts fail, and that counts them.
+/// A listener whose first accepts fail, but that of the place `idle` only finds no client. It counts
+/// them.
 #[derive(Drop)]
 struct Failing {
     failures: u64,
+    idle: u64,
     accepts: AtomicU64,
 }
 
@@ -45,17 +47,23 @@ impl OpenListener for Failing {
     type Stream = ();
 
     fn accept(&self) -> io::Result<((), SocketAddr)> {
-        if self.accepts.fetch_add(1, Ordering::SeqCst) < self.failures {
+        let place = self.accepts.fetch_add(1, Ordering::SeqCst);
+        if place == self.idle {
+            return Err(Error::from(ErrorKind::WouldBlock));
+        }
+        if place < self.failures {
             return Err(Error::from(ErrorKind::ConnectionAborted));
         }
         Ok(((), SocketAddr::from((Ipv4Addr::LOCALHOST, 1))))
     }
 }
 
-/// Whether a connection is accepted after that many failures, and how many accepts were made.
-fn accepted_after<R: Wait + Clock>(rt: &R, failures: u64) -> (bool, u64) {
+/// Whether a connection is accepted after that many accepts, of which the one of the place `idle`
+/// finds no client and the others fail, and how many were made.
+fn accepted_after<R: Wait + Clock>(rt: &R, failures: u64, idle: u64) -> (bool, u64) {
     let listener = Failing {
         failures,
+        idle,
         accepts: AtomicU64::new(0),
     };
     let accepted = match accept_next(rt, &listener, &AtomicBool::new(false)) {
@@ -68,6 +76,12 @@ fn accepted_after<R: Wait + Clock>(rt: &R, failures: u64) -> (bool, u64) {
 /// A listener whose accepts fail is given up at the hundredth failure in a row, and no sooner.
 #[test]
 fn accepts_that_fail_end_by_a_bound(rt: HostRuntime) {
-    assert!(rt; accepted_after(&rt, 99) == (true, 100));
-    assert!(rt; accepted_after(&rt, 100) == (false, 100));
+    assert!(rt; accepted_after(&rt, 99, 1_000) == (true, 100));
+    assert!(rt; accepted_after(&rt, 100, 1_000) == (false, 100));
+}
+
+/// An accept that only finds no client ends the row of failures: 75 on each side of it aren't 100.
+#[test]
+fn failures_count_in_a_row(rt: HostRuntime) {
+    assert!(rt; accepted_after(&rt, 151, 75) == (true, 152));
 }
