@@ -34,8 +34,8 @@ fn no_workers_publish_nothing(rt: HostRuntime) {
     assert!(rt; err.into_inner().as_slice() == b"crashfs: publishing failed\n".as_slice());
 }
 
-/// A listener whose first accepts fail, but that of the place `idle` only finds no client. It counts
-/// them.
+/// A listener whose first accepts fail, but that of the place `idle` only finds no client. It
+/// counts them.
 #[derive(Drop)]
 struct Failing {
     failures: u64,
