@@ -27,7 +27,8 @@ same command with the same RESULTS continues after the last seed."""
 
 EPILOG = """\
 status: 0 no state of any session fails; 1 some fail; 2 the command line is refused; 3 some sessions
-were not recorded, or gave no answer, and none fails; 130 or 143 it was stopped.
+were not recorded, or gave no answer, and none fails; 129, 130 or 143 it was stopped by SIGHUP,
+Ctrl-C or SIGTERM.
 
 example: crashfs-campaign --time-limit 28800 found -- ./session.sh -- ./recover.sh"""
 

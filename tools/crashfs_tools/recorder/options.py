@@ -168,7 +168,8 @@ def add_trace_options(made: argparse.ArgumentParser) -> None:
     made.add_argument(
         '--crashfs',
         metavar='PATH',
-        help='the program crashfs, for the comparison at the end (default: the one ' 'on PATH)',
+        help='the program crashfs, for the comparison at the end (default: the one on PATH, then '
+        'next to this tool, then the one that tools/build made)',
     )
 
 
