@@ -35,6 +35,8 @@ example: crashfs-campaign --time-limit 28800 found -- ./session.sh -- ./recover.
 
 @dataclass
 class CampaignOptions:
+    """The options of a command line, with SESSION and RECOVERY."""
+
     results: str
     session: List[str]
     recovery: List[str]

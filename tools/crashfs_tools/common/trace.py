@@ -64,6 +64,8 @@ class StartSymlink:
 
 @dataclass(frozen=True)
 class Creat:
+    """A file is made."""
+
     path: str
     owner: str
     group: str
@@ -72,6 +74,8 @@ class Creat:
 
 @dataclass(frozen=True)
 class Mkdir:
+    """A directory is made."""
+
     path: str
     owner: str
     group: str
@@ -80,22 +84,30 @@ class Mkdir:
 
 @dataclass(frozen=True)
 class Unlink:
+    """A name of a file, or a symbolic link, is removed."""
+
     path: str
 
 
 @dataclass(frozen=True)
 class Rmdir:
+    """An empty directory is removed."""
+
     path: str
 
 
 @dataclass(frozen=True)
 class Rename:
+    """A name becomes another, also in the place of what has that."""
+
     source: str
     target: str
 
 
 @dataclass(frozen=True)
 class Link:
+    """A file gets another name."""
+
     source: str
     target: str
 
@@ -112,6 +124,8 @@ class Symlink:
 
 @dataclass(frozen=True)
 class Write:
+    """Bytes are written to a file, which grows if they end past its end."""
+
     path: str
     offset: int
     data: bytes
@@ -119,18 +133,24 @@ class Write:
 
 @dataclass(frozen=True)
 class Truncate:
+    """A file gets a length."""
+
     path: str
     length: int
 
 
 @dataclass(frozen=True)
 class Chmod:
+    """A file or directory gets a mode."""
+
     path: str
     mode: int
 
 
 @dataclass(frozen=True)
 class Chown:
+    """A file or directory gets an owner and a group."""
+
     path: str
     owner: str
     group: str
@@ -138,6 +158,8 @@ class Chown:
 
 @dataclass(frozen=True)
 class Fsync:
+    """A file or directory is synced, with its mode and owner."""
+
     path: str
 
 
@@ -148,6 +170,8 @@ class Fdatasync:
 
 @dataclass(frozen=True)
 class FsyncRange:
+    """A part of a file's bytes is synced, with its size."""
+
     path: str
     offset: int
     length: int
@@ -155,11 +179,13 @@ class FsyncRange:
 
 @dataclass(frozen=True)
 class Sync:
-    pass
+    """All is synced."""
 
 
 @dataclass(frozen=True)
 class Say:
+    """A line is acknowledged."""
+
     text: str
 
     @staticmethod

@@ -69,6 +69,8 @@ class CreateEntry(Micro):
 
 
 class DeleteEntry(Micro):
+    """An entry of a directory is removed."""
+
     def __init__(self, path: str, entry: Entry, node: Inode, half: int = 0) -> None:
         self.paths, self.entries, self.handled = (path,), (entry,), (node,)
         self.node = node
@@ -137,6 +139,8 @@ class LinkEntry(Micro):
 
 
 class ChangeSize(Micro):
+    """A file gets a size."""
+
     def __init__(self, file: int, length: int) -> None:
         self.file = file
         self.length = length

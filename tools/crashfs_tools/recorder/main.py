@@ -189,12 +189,7 @@ def print_text(text: str) -> None:
 def translate(options: RecordOptions, files: LiveFiles, run: RecordedRun) -> None:
     """Translates the log into the recording's operations."""
     recording = files.recording
-    if run.log.cut is not None:
-        recording.report(f'line {run.log.cut} of the log is not a whole call, and is left out', '/')
-    if run.log_fault:
-        recording.report(f'its log is cut: {run.log_fault}', options.keep_log or '')
-    if run.left:
-        recording.report(f'a process that COMMAND left could not be ended: {run.left}', '/')
+    report_faults_of_log(options, recording, run)
     recording.streams.set_standard_output(run.output)
     if options.stacks or any(call.frames for call in run.log.calls):
         for program in stacks.note_calls(run.log.calls):
@@ -210,7 +205,22 @@ def translate(options: RecordOptions, files: LiveFiles, run: RecordedRun) -> Non
         )
     for path in files_with_path(recording.trace, files.conditions.top):
         recording.report_note(OWN_PATH, path)
-    operations = recording.trace.operations
+    refuse_log_of_elsewhere(options, files)
+
+
+def report_faults_of_log(options: RecordOptions, recording: Recording, run: RecordedRun) -> None:
+    """Reports what the log lacks, and what COMMAND left behind."""
+    if run.log.cut is not None:
+        recording.report(f'line {run.log.cut} of the log is not a whole call, and is left out', '/')
+    if run.log_fault:
+        recording.report(f'its log is cut: {run.log_fault}', options.keep_log or '')
+    if run.left:
+        recording.report(f'a process that COMMAND left could not be ended: {run.left}', '/')
+
+
+def refuse_log_of_elsewhere(options: RecordOptions, files: LiveFiles) -> None:
+    """Refuses a log that changes nothing in the directory: the path is most likely another."""
+    operations = files.recording.trace.operations
     if options.from_log is not None and all(isinstance(it, Say) for it in operations):
         raise Refused(
             f'{options.from_log} changes nothing below {files.conditions.top}: '

@@ -37,6 +37,8 @@ example: crashfs-record store.d store.trace -- sqlite3 test.db ".read session.sq
 
 @dataclass
 class RecordOptions:
+    """The options of a command line, with COMMAND."""
+
     directory: str
     out: str
     command: List[str]

@@ -73,6 +73,8 @@ class PathContext:
 
 @dataclass
 class Process:
+    """A process or thread: threads share what a process copies from its parent."""
+
     descriptors: Descriptors
     paths: PathContext
     memory: Memory = field(default_factory=Memory)

@@ -78,6 +78,8 @@ class Log:
 
 @dataclass
 class _Waiting:
+    """The beginning of a call that another line interrupted."""
+
     begin: int
     name: str
     head: str
