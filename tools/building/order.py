@@ -15,7 +15,7 @@ MOST_JOBS = 3
 MANY_BELOW = 16
 
 
-def all_below(below: Dict[str, List[str]], name: str) -> Set[str]:
+def crates_below(below: Dict[str, List[str]], name: str) -> Set[str]:
     """The crates that a crate uses, directly or not."""
     found: Set[str] = set()
     left = [name]
@@ -34,7 +34,7 @@ def libraries() -> Dict[str, List[str]]:
         if colon:
             named[head.split()[0]] = names.split()
     below = {name: [it for it in its if it in named] for name, its in named.items()}
-    return {name: below[name] for name in all_below(below, PROGRAM)}
+    return {name: below[name] for name in crates_below(below, PROGRAM)}
 
 
 def line_count(name: str) -> int:
@@ -70,7 +70,7 @@ class Work:
     failed: Optional[str] = None
     change: threading.Condition = field(default_factory=threading.Condition)
 
-    def choose(self) -> Optional[Tuple[str, int]]:
+    def best_crate(self) -> Optional[Tuple[str, int]]:
         """A crate whose libraries are proved, and how many processors it gets."""
         ready = [
             it
@@ -83,14 +83,14 @@ class Work:
         name = max(ready, key=lambda it: self.chains[it])
         is_longest = all(self.chains[name] > self.chains[it] for it in self.jobs)
         wanted = max(2 if is_longest else 1, idle - (len(ready) - 1))
-        most = MOST_JOBS if len(all_below(self.below, name)) < MANY_BELOW else 1
+        most = MOST_JOBS if len(crates_below(self.below, name)) < MANY_BELOW else 1
         return name, min(wanted, idle, most)
 
-    def next(self) -> Optional[Tuple[str, int]]:
+    def next_crate(self) -> Optional[Tuple[str, int]]:
         """Waits for the next crate to prove; None if nothing is left."""
         with self.change:
             while not self.failed and len(self.begun) < len(self.below):
-                chosen = self.choose()
+                chosen = self.best_crate()
                 if chosen:
                     name, jobs = chosen
                     self.begun.add(name)
@@ -99,7 +99,7 @@ class Work:
                 self.change.wait()
             return None
 
-    def end(self, name: str, place: Optional[Path]) -> None:
+    def end_crate(self, name: str, place: Optional[Path]) -> None:
         """Says that the check of a crate has ended: it is proved in a copy, or it isn't."""
         with self.change:
             del self.jobs[name]

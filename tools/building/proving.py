@@ -8,8 +8,8 @@ import time
 from pathlib import Path
 
 from .checks import Check, memory_text, run_check
-from .order import PROGRAM, TOP, Work, all_below
-from .sharing import give
+from .order import PROGRAM, TOP, Work, crates_below
+from .sharing import give_library
 
 
 def has_library(top: Path, name: str) -> bool:
@@ -30,7 +30,7 @@ def copy_to(folder: Path) -> Path:
     return folder
 
 
-def report(name: str, check: Check, jobs: int, processors: int) -> None:
+def report_failure(name: str, check: Check, jobs: int, processors: int) -> None:
     """Prints what a check printed that has not ended well, and why, if the system killed it."""
     sys.stderr.buffer.write(check.output)
     sys.stderr.buffer.flush()
@@ -41,31 +41,31 @@ def report(name: str, check: Check, jobs: int, processors: int) -> None:
 def prove_in(copy: Path, work: Work, begun: float) -> None:
     """Proves one crate after the other in a copy of the repository, until nothing is left."""
     while True:
-        chosen = work.next()
+        chosen = work.next_crate()
         if chosen is None:
             return
         name, jobs = chosen
         top = TOP if has_library(TOP, name) else copy
-        for library in all_below(work.below, name):
-            give(work.places[library], top, library)
+        for library in crates_below(work.below, name):
+            give_library(work.places[library], top, library)
         check = run_check(['rt', 'lib', '--jobs', str(jobs)], top / 'crates' / name)
-        work.end(name, top if check.status == 0 else None)
+        work.end_crate(name, top if check.status == 0 else None)
         said = 'proved' if check.status == 0 else 'NOT PROVED'
         minutes = (time.monotonic() - begun) / 60
         count = f'{len(work.places)} of {len(work.below)}'
         print(f'{minutes:5.1f} min: {name} {said} ({count})', flush=True)
         if check.status:
-            report(name, check, jobs, work.processors)
+            report_failure(name, check, jobs, work.processors)
 
 
 def build_program(work: Work, begun: float) -> int:
     """Builds the program over libraries that are proved, and returns the status."""
     for name, place in work.places.items():
-        give(place, TOP, name)
+        give_library(place, TOP, name)
     words = ['rt', 'run', '--jobs', '1', '--', '--help']
     check = run_check(words, TOP / 'crates' / PROGRAM)
     if check.status:
-        report(PROGRAM, check, 1, work.processors)
+        report_failure(PROGRAM, check, 1, work.processors)
         return 1
     minutes = (time.monotonic() - begun) / 60
     print(f'{minutes:5.1f} min: crates/{PROGRAM}/out/{PROGRAM} is built', flush=True)

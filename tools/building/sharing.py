@@ -17,7 +17,7 @@ def stamp_of(library: Path) -> bytes:
     return stamp.read_bytes() if stamp.is_file() else b''
 
 
-def give(source: Path, target: Path, name: str) -> None:
+def give_library(source: Path, target: Path, name: str) -> None:
     """Copies a proved library, so that `rt` doesn't prove it again in the target. It is never seen
     half copied."""
     proved, library = library_of(source, name), library_of(target, name)

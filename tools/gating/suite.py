@@ -33,7 +33,7 @@ QUICK = (
 )
 
 
-def tests(is_quick: bool) -> unittest.TestSuite:
+def tests_to_run(is_quick: bool) -> unittest.TestSuite:
     """All tests, or those of the quick modules that are there."""
     if not is_quick:
         return unittest.defaultTestLoader.discover(str(TOOLS), top_level_dir=str(TOOLS))
@@ -46,7 +46,7 @@ def skipped_for_program(result: unittest.TestResult) -> int:
     return sum('crashfs' in reason for _, reason in result.skipped)
 
 
-def summary(result: unittest.TestResult, needs_program: bool) -> str:
+def summary_line(result: unittest.TestResult, needs_program: bool) -> str:
     """How many tests ran, failed and were skipped, and why."""
     failed = len(result.failures) + len(result.errors) + len(result.unexpectedSuccesses)
     line = f'{result.testsRun} run, {failed} failed, {len(result.skipped)} skipped'
@@ -57,7 +57,7 @@ def summary(result: unittest.TestResult, needs_program: bool) -> str:
     return f'{line}; {lacking} must not be skipped, as crashfs is built' if lacking else line
 
 
-def passed(result: unittest.TestResult, needs_program: bool) -> bool:
+def has_passed(result: unittest.TestResult, needs_program: bool) -> bool:
     """Whether tests ran, none failed, and none was skipped that must run."""
     is_complete = not (needs_program and skipped_for_program(result))
     return result.wasSuccessful() and result.testsRun > 0 and is_complete
@@ -68,9 +68,9 @@ def main(words: Optional[List[str]] = None) -> int:
     parser.add_argument('--program', action='store_true', help='crashfs is built')
     parser.add_argument('--quick', action='store_true', help='run a few modules only')
     given = parser.parse_args(words)
-    result = unittest.TextTestRunner().run(tests(given.quick))
-    print(f"tools' tests: {summary(result, given.program)}", flush=True)
-    return 0 if passed(result, given.program) else 1
+    result = unittest.TextTestRunner().run(tests_to_run(given.quick))
+    print(f"tools' tests: {summary_line(result, given.program)}", flush=True)
+    return 0 if has_passed(result, given.program) else 1
 
 
 if __name__ == '__main__':

@@ -44,7 +44,7 @@ class Share:
 Shares = Dict[Tuple[str, str], Share]
 
 
-def sample(shares: Shares, groups: List[List[Prover]], now: float) -> None:
+def add_sample(shares: Shares, groups: List[List[Prover]], now: float) -> None:
     """Adds what each running prover has taken so far."""
     for group in groups:
         shares.setdefault((group[0].crate, group[0].kind), Share()).add(group, now)
@@ -76,12 +76,12 @@ def is_running(process: int) -> bool:
     return Path(f'/proc/{process}').exists()
 
 
-def watch(process: int, every: float, has_ended: threading.Event) -> str:
+def sample_until_end(process: int, every: float, has_ended: threading.Event) -> str:
     """Samples until the event or the process's end, and returns the table."""
     shares: Shares = {}
     begun = time.monotonic()
     while is_running(process):
-        sample(shares, provers_below(process), time.clock_gettime(time.CLOCK_BOOTTIME))
+        add_sample(shares, provers_below(process), time.clock_gettime(time.CLOCK_BOOTTIME))
         if has_ended.wait(every):
             break
     return table_of(shares, time.monotonic() - begun)
@@ -99,5 +99,5 @@ def main(words: Optional[List[str]] = None) -> int:
     has_ended = threading.Event()
     for number in (signal.SIGTERM, signal.SIGINT):
         signal.signal(number, lambda *_: has_ended.set())
-    sys.stdout.write(watch(given.process, given.every, has_ended))
+    sys.stdout.write(sample_until_end(given.process, given.every, has_ended))
     return 0

@@ -8,7 +8,7 @@ from typing import Callable, Dict, List, Optional
 from .crates_page import architecture_faults
 from .layout import layout_faults
 from .pages import made_faults
-from .python import black, flake8, install, missing, mypy, unexplained_comments
+from .python import black, flake8, install, missing_linters, mypy, unexplained_comments
 from .words import retired_words
 
 ABOUT = """\
@@ -34,7 +34,7 @@ LINTERS: Dict[str, Callable[[], Faults]] = {
 }
 
 
-def summary(found: Dict[str, Faults]) -> str:
+def summary_line(found: Dict[str, Faults]) -> str:
     """The last line: how many linters passed, which failed, and which were skipped."""
     failed = [name for name, faults in found.items() if faults]
     skipped = [name for name, faults in found.items() if faults is None]
@@ -50,7 +50,7 @@ def lint(linters: Dict[str, Callable[[], Faults]]) -> int:
     for name, faults in found.items():
         for fault in faults or []:
             print(f'{name}: {fault}')
-    print(summary(found), flush=True)
+    print(summary_line(found), flush=True)
     return 1 if any(found.values()) else 0
 
 
@@ -64,5 +64,5 @@ def main(words: Optional[List[str]] = None) -> int:
         help='install flake8, black and mypy by apt-get first, if they are missing and you may',
     )
     if parser.parse_args(words).install:
-        install(missing())
+        install(missing_linters())
     return lint(LINTERS)

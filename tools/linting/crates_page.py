@@ -13,21 +13,21 @@ CRATE = re.compile(r'\b(?:cs_\w+|crashfs)\b')
 NOT_OF_THE_PROGRAM = re.compile(r'(_tests|_bench)$|^cs_test_')
 
 
-def section(page: str, title: str) -> str:
+def page_section(page: str, title: str) -> str:
     """The part of the page below a heading."""
     return page.split(f'\n## {title}\n', 1)[1].split('\n## ', 1)[0]
 
 
 def table_rows(page: str) -> List[List[str]]:
     """The cells of each row of the table of crates, without the line below its head."""
-    rows = [line for line in section(page, 'The crates').splitlines() if line.startswith('|')]
+    rows = [line for line in page_section(page, 'The crates').splitlines() if line.startswith('|')]
     return [[cell.strip() for cell in row.strip('|').split('|')] for row in rows[2:]]
 
 
 def crates_in_picture(page: str) -> List[Tuple[str, int]]:
     """Each crate of the picture with its layer, as often as it is there."""
     found, layer = [], 0
-    for line in section(page, 'The layers').splitlines():
+    for line in page_section(page, 'The layers').splitlines():
         number = re.match(r'\| (\d) ', line)
         layer = int(number[1]) if number else layer
         if line.startswith('|'):
@@ -47,7 +47,7 @@ def crates_in_table(page: str) -> List[Tuple[str, int]]:
     return found
 
 
-def differing(what: str, found: List[str], wanted: List[str]) -> Iterator[str]:
+def count_faults(what: str, found: List[str], wanted: List[str]) -> Iterator[str]:
     """A sentence for each name that isn't as often in `found` as it should be."""
     for name in sorted({*found, *wanted}):
         if found.count(name) != wanted.count(name):
@@ -58,9 +58,9 @@ def crate_page_faults(page: str, uses: Dict[str, List[str]]) -> Iterator[str]:
     """What the page says otherwise than crates.txt, whose crates are given with what each uses."""
     picture, table = crates_in_picture(page), crates_in_table(page)
     layers = dict(picture)
-    yield from differing('the table', [name for name, _ in table], list(uses))
+    yield from count_faults('the table', [name for name, _ in table], list(uses))
     program = [name for name in uses if not NOT_OF_THE_PROGRAM.search(name)]
-    yield from differing('the picture', [name for name, _ in picture], program)
+    yield from count_faults('the picture', [name for name, _ in picture], program)
     for name, layer in table:
         if layers.get(name, 0) != layer:
             yield f'{name} is in layer {layers.get(name, 0)} of the picture, {layer} of the table'

@@ -16,7 +16,7 @@ PACKAGES = ('flake8', 'black', 'mypy')
 UNEXPLAINED = re.compile(r'#\s*(?:type: ignore|noqa)(?!(?:\[[\w, -]+\]|: [A-Z]\d+)  # \S)')
 
 
-def missing() -> List[str]:
+def missing_linters() -> List[str]:
     """The linters that aren't installed."""
     return [name for name in PACKAGES if shutil.which(name) is None]
 
@@ -59,7 +59,7 @@ def mypy() -> Optional[List[str]]:
     return run(['mypy'], programs())
 
 
-def unexplained(texts: Dict[str, str]) -> List[str]:
+def unexplained_in(texts: Dict[str, str]) -> List[str]:
     """The comments that silence a linter and don't say why: `# type: ignore[code]  # reason`."""
     return [
         f'{name}:{number}: {found[0]}: give the code, and the reason in a comment behind it'
@@ -71,4 +71,4 @@ def unexplained(texts: Dict[str, str]) -> List[str]:
 
 def unexplained_comments() -> List[str]:
     """The comments that silence a linter without a reason, in all Python files."""
-    return unexplained({name_of(path): path.read_text('utf-8') for path in python_files()})
+    return unexplained_in({name_of(path): path.read_text('utf-8') for path in python_files()})

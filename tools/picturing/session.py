@@ -10,7 +10,7 @@ from typing import Iterator, Optional, Set, Tuple
 from crashfs_tools.checker.states.plan import places_of
 from crashfs_tools.common.trace_lines import SYNCS, TraceLine
 from crashfs_tools.reading.every import every_set
-from crashfs_tools.reading.order import Order, same_thing
+from crashfs_tools.reading.order import Order, marks_of_same_thing
 from crashfs_tools.reading.states import States
 from crashfs_tools.reading.trace import read
 
@@ -71,7 +71,7 @@ class Session:
             return 'P5'
         if self.operations[earlier].kind == 'say':
             return 'P9'
-        shared = set(same_thing(one)) & set(same_thing(two))
+        shared = set(marks_of_same_thing(one)) & set(marks_of_same_thing(two))
         return {'entry': 'P2', 'directory': 'P2', 'rights': 'P7'}.get(
             next((str(mark[0]) for mark in shared), 'parent'), 'P1' if shared else 'P3'
         )

@@ -26,7 +26,7 @@ def gigabytes_available() -> float:
     return int(fields['MemAvailable'].split()[0]) / 2**20
 
 
-def places(processors: int, gigabytes: float) -> int:
+def parts_at_once(processors: int, gigabytes: float) -> int:
     """How many parts run at once: as many as there are processors and memory for, at least one."""
     return max(1, min(processors, int(gigabytes / GIGABYTES_EACH)))
 
@@ -64,7 +64,7 @@ class Progress:
             self.show()
 
 
-def outcomes(parts: Dict[str, Part], count: int) -> Iterator[Outcome]:
+def run_parts(parts: Dict[str, Part], count: int) -> Iterator[Outcome]:
     """The outcome of each part as it ends; the parts begin in their order, so many at once."""
     progress = Progress(list(parts))
 

@@ -34,11 +34,11 @@ class Files(NamedTuple):
         return ['script', '--trace', self.trace, '--users', self.users]
 
 
-def lists() -> List[str]:
+def list_examples() -> List[str]:
     return sorted(path.stem for path in EXAMPLES.glob('*.list'))
 
 
-def scripts() -> Dict[Files, List[str]]:
+def script_examples() -> Dict[Files, List[str]]:
     """The scripts that are run with the same files, by these files."""
     found: Dict[Files, List[str]] = {}
     for path in sorted(EXAMPLES.glob('*.script')):
@@ -46,7 +46,7 @@ def scripts() -> Dict[Files, List[str]]:
     return found
 
 
-def compare(outcome: Outcome, expected: str, printed: str) -> None:
+def compare_example(outcome: Outcome, expected: str, printed: str) -> None:
     """Counts an example by what was printed for it."""
     if printed == (EXAMPLES / expected).read_text('utf-8'):
         outcome.passed += 1
@@ -55,7 +55,7 @@ def compare(outcome: Outcome, expected: str, printed: str) -> None:
         outcome.output += f'examples/{expected} is not what was printed:\n{printed[-2000:]}\n'
 
 
-def printed(words: List[str], folder: Path, given: Optional[Path] = None) -> str:
+def output_of(words: List[str], folder: Path, given: Optional[Path] = None) -> str:
     """What a command prints in a folder, with a file as its standard input."""
     ran = subprocess.run(
         words,
@@ -74,15 +74,17 @@ def try_examples(has_rt: bool) -> Outcome:
     begin, program = time.monotonic(), Crashfs.find(None)
     head = [program.path] if program else [sys.executable, '-S', READING]
     outcome = Outcome('examples')
-    for name in lists():
+    for name in list_examples():
         words = [*head, 'list', '--trace', f'{name}.trace', '--holes']
-        compare(outcome, f'{name}.list', printed(words, EXAMPLES))
-    for files, names in scripts().items() if program else ():
+        compare_example(outcome, f'{name}.list', output_of(words, EXAMPLES))
+    for files, names in script_examples().items() if program else ():
         for name in names:
-            found = printed([*head, *files.words()], EXAMPLES, EXAMPLES / f'{name}.script')
-            compare(outcome, f'{name}.replies', found)
+            found = output_of([*head, *files.words()], EXAMPLES, EXAMPLES / f'{name}.script')
+            compare_example(outcome, f'{name}.replies', found)
     if not program and not has_rt:
-        outcome.left.append(f'{sum(map(len, scripts().values()))} examples: {NEEDS_PROGRAM}')
+        outcome.left.append(
+            f'{sum(map(len, script_examples().values()))} examples: {NEEDS_PROGRAM}'
+        )
     outcome.seconds = time.monotonic() - begin
     return outcome
 
@@ -94,9 +96,9 @@ def try_scripts(files: Files, names: List[str]) -> Outcome:
         for name in names:
             shutil.copy(EXAMPLES / f'{name}.script', folder)
         data = [word for name in files for word in ('--data', f'{name}={EXAMPLES / name}')]
-        said = printed(['rt', 'try', '--cases', folder, *data, '--', *files.words()], CRATE)
+        said = output_of(['rt', 'try', '--cases', folder, *data, '--', *files.words()], CRATE)
     replies = dict(CASE.findall(said))
     for name in names:
-        compare(outcome, f'{name}.replies', replies.get(f'{name}.script', said))
+        compare_example(outcome, f'{name}.replies', replies.get(f'{name}.script', said))
     outcome.seconds = time.monotonic() - begin
     return outcome

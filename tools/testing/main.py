@@ -11,9 +11,9 @@ from typing import Dict, Iterator, List
 
 from crashfs_tools.common.program import Crashfs
 
-from .at_once import Part, gigabytes_available, outcomes, places
+from .at_once import Part, gigabytes_available, run_parts, parts_at_once
 from .crates import LEFT_CRATES, crates_with_tests, try_tests
-from .examples import scripts, try_examples, try_scripts
+from .examples import script_examples, try_examples, try_scripts
 from .outcome import Outcome
 from .tools_tests import try_tools
 
@@ -32,18 +32,18 @@ def parts_with_rt() -> Dict[str, Part]:
         if crate.name not in LEFT_CRATES
     }
     if Crashfs.find(None) is None:
-        for files, names in scripts().items():
+        for files, names in script_examples().items():
             parts[f'scripts over {files.trace}'] = partial(try_scripts, files, names)
     return parts
 
 
-def left_without_rt() -> List[str]:
+def not_run_without_rt() -> List[str]:
     """What can't be run without the toolchain."""
     tests = sum(crate.tests for crate in crates_with_tests())
     return [f'the {tests} tests of the crates: they need `rt`, the command of the toolchain']
 
 
-def left_with_rt() -> List[str]:
+def not_run_with_rt() -> List[str]:
     """The crates that only the gate tests."""
     tests = {crate.name: crate.tests for crate in crates_with_tests()}
     return [f'the {tests[name]} tests of {name}: {why}' for name, why in LEFT_CRATES.items()]
@@ -51,16 +51,16 @@ def left_with_rt() -> List[str]:
 
 def all_outcomes(has_rt: bool, count: int) -> Iterator[Outcome]:
     """The tools' tests and the examples first, since they take least, and then the crates."""
-    yield from outcomes({'tools': try_tools, 'examples': partial(try_examples, has_rt)}, 2)
+    yield from run_parts({'tools': try_tools, 'examples': partial(try_examples, has_rt)}, 2)
     if has_rt:
-        yield from outcomes(parts_with_rt(), count)
+        yield from run_parts(parts_with_rt(), count)
 
 
 def main() -> int:
     words = argparse.ArgumentParser(
         description=DESCRIPTION, formatter_class=argparse.RawDescriptionHelpFormatter
     )
-    default = places(os.cpu_count() or 1, gigabytes_available())
+    default = parts_at_once(os.cpu_count() or 1, gigabytes_available())
     words.add_argument(
         '--jobs',
         type=int,
@@ -70,7 +70,7 @@ def main() -> int:
     )
     given = words.parse_args()
     has_rt = shutil.which('rt') is not None
-    left = left_with_rt() if has_rt else left_without_rt()
+    left = not_run_with_rt() if has_rt else not_run_without_rt()
     passed = failed = 0
     for one in all_outcomes(has_rt, max(1, given.jobs)):
         passed, failed, left = passed + one.passed, failed + one.failed, left + one.left

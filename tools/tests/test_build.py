@@ -18,7 +18,7 @@ from building import checks, main, proving
 from building.checks import Check, memory_of_machine, memory_text, run_check
 from building.order import MANY_BELOW, Work, libraries
 from building.proving import build_program, has_library, prove_in
-from building.sharing import give
+from building.sharing import give_library
 
 GIGABYTE = 2**30
 
@@ -31,7 +31,7 @@ def all_ready(work: Work) -> List[Tuple[str, int]]:
     """Takes each crate that can begin now, with its processors."""
     taken: List[Tuple[str, int]] = []
     while True:
-        chosen: Optional[Tuple[str, int]] = work.choose()
+        chosen: Optional[Tuple[str, int]] = work.best_crate()
         if chosen is None:
             return taken
         taken.append(chosen)
@@ -43,11 +43,11 @@ class Order(unittest.TestCase):
     def test_the_longest_chain_has_two_processors(self) -> None:
         work = Work(BELOW, CHAINS, 4)
         self.assertEqual(all_ready(work), [('a', 3)])
-        work.end('a', Path('/'))
+        work.end_crate('a', Path('/'))
         self.assertEqual(all_ready(work), [('b', 2), ('c', 1), ('d', 1)])
-        work.end('c', Path('/'))
+        work.end_crate('c', Path('/'))
         self.assertEqual(all_ready(work), [])
-        work.end('b', Path('/'))
+        work.end_crate('b', Path('/'))
         self.assertEqual(all_ready(work), [('e', 3)])
 
     def test_a_crate_over_many_has_one_processor(self) -> None:
@@ -65,14 +65,14 @@ class Order(unittest.TestCase):
             [(name, jobs)] = all_ready(work)
             order.append(name)
             self.assertEqual(jobs, 1)
-            work.end(name, Path('/'))
+            work.end_crate(name, Path('/'))
         self.assertEqual(order, ['a', 'b', 'e', 'c', 'd'])
 
     def test_nothing_begins_once_a_crate_is_not_proved(self) -> None:
         work = Work(BELOW, CHAINS, 4)
-        name, _ = work.next()
-        work.end(name, None)
-        self.assertIsNone(work.next())
+        name, _ = work.next_crate()
+        work.end_crate(name, None)
+        self.assertIsNone(work.next_crate())
         self.assertEqual(work.failed, 'a')
 
     def test_a_library_that_is_older_than_its_text_is_made_again(self) -> None:
@@ -119,7 +119,7 @@ class Sharing(unittest.TestCase):
 
     def test_a_library_is_given_whole(self) -> None:
         self.prove('1', 'a', 'new')
-        give(self.room / '1', self.room / '2', 'a')
+        give_library(self.room / '1', self.room / '2', 'a')
         self.assertEqual(self.given('2', 'a'), 'new')
         self.assertEqual(os.listdir(self.library('2', 'a').parent), ['rlib'])
 
@@ -127,7 +127,7 @@ class Sharing(unittest.TestCase):
         self.prove('1', 'a', 'new')
         self.prove('2', 'a', 'old')
         (self.library('2', 'a') / 'left').touch()
-        give(self.room / '1', self.room / '2', 'a')
+        give_library(self.room / '1', self.room / '2', 'a')
         self.assertEqual(self.given('2', 'a'), 'new')
         self.assertFalse((self.library('2', 'a') / 'left').exists())
 
@@ -135,13 +135,13 @@ class Sharing(unittest.TestCase):
         self.prove('1', 'a', 'new')
         self.prove('2', 'a', 'new')
         (self.library('2', 'a') / 'left').touch()
-        give(self.room / '1', self.room / '2', 'a')
+        give_library(self.room / '1', self.room / '2', 'a')
         self.assertTrue((self.library('2', 'a') / 'left').exists())
 
     def test_what_was_interrupted_is_given_again(self) -> None:
         self.prove('1', 'a', 'new')
         self.library('2', 'a').mkdir(parents=True)
-        give(self.room / '1', self.room / '2', 'a')
+        give_library(self.room / '1', self.room / '2', 'a')
         self.assertEqual(self.given('2', 'a'), 'new')
 
     def test_a_check_has_all_libraries_of_the_copies_that_proved_them(self) -> None:

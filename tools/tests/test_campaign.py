@@ -7,7 +7,7 @@ import signal
 import unittest
 from pathlib import Path
 
-from crashfs_tools.campaign.book import key_of
+from crashfs_tools.campaign.book import failure_key
 from crashfs_tools.campaign.sessions import Failure
 from crashfs_tools.campaign.shrinking import says_in
 
@@ -39,10 +39,10 @@ class Keys(unittest.TestCase):
     def test_a_failure_is_the_same_whatever_its_lines_and_texts_are(self):
         one = Failure('lost: a=1', ['line 7 (rename /a1 to /b) was not .. line 9 "a=1"'], 3, 1)
         other = Failure('lost: a=2', ['line 17 (rename /a2 to /b) was not .. line 19 "q"'], 8, 2)
-        self.assertEqual(key_of(one), key_of(other))
+        self.assertEqual(failure_key(one), failure_key(other))
         for text in ('line 7 (unlink /a1) was not .. line 9 "a=1"', one.text[0] + ' at all'):
-            self.assertNotEqual(key_of(one), key_of(Failure('lost: a=1', [text], 3, 1)))
-        self.assertNotEqual(key_of(one), key_of(Failure('corrupt: a=1', one.text, 3, 1)))
+            self.assertNotEqual(failure_key(one), failure_key(Failure('lost: a=1', [text], 3, 1)))
+        self.assertNotEqual(failure_key(one), failure_key(Failure('corrupt: a=1', one.text, 3, 1)))
 
     def test_only_acknowledged_lines_are_counted(self):
         lines = ['{"op":"say","text":"x"}', '{"op":"note","text":"\\"say\\""}', '{"op":"sync"}']

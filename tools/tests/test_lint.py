@@ -13,7 +13,7 @@ from linting import python
 from linting.command import LINTERS, Faults, lint
 from linting.crates_page import crate_page_faults
 from linting.layout import CODE_COLUMNS, long_functions, long_lines
-from linting.python import install, run, unexplained
+from linting.python import install, run, unexplained_in
 from linting.words import (
     Line,
     names_in_python,
@@ -95,9 +95,9 @@ class Python(unittest.TestCase):
     def test_a_comment_for_a_linter_must_have_a_code_and_a_reason(self) -> None:
         mark = '# type: ' + 'ignore'
         for line in (mark, f'{mark}[misc]', f'{mark}  # so', '# no' + 'qa', '# no' + 'qa: E402'):
-            self.assertEqual(len(unexplained({'a.py': f'x\n{line}\n'})), 1, line)
+            self.assertEqual(len(unexplained_in({'a.py': f'x\n{line}\n'})), 1, line)
         for line in (f'{mark}[misc]  # so', '# no' + 'qa: E402  # so', '# a ' + 'type'):
-            self.assertEqual(unexplained({'a.py': line}), [], line)
+            self.assertEqual(unexplained_in({'a.py': line}), [], line)
 
     def test_what_a_linter_prints_counts_only_if_it_fails(self) -> None:
         self.assertEqual(run(['true'], []), [])

@@ -167,8 +167,8 @@ class Lines(unittest.TestCase):
         for size in range(1, len(text) + 1):
             lines = PipeLines(-1)
             for at in range(0, len(text), size):
-                lines.take(text[at : at + size])
-            lines.take(b'')
+                lines.add_bytes(text[at : at + size])
+            lines.add_bytes(b'')
             self.assertEqual(list(lines.ready), ['a\n', '\n', 'b' * 9 + '\n', 'c\n', 'd'])
             self.assertTrue(lines.has_ended)
 
@@ -178,7 +178,7 @@ class Lines(unittest.TestCase):
         writer = threading.Thread(target=write_slowly, args=(writing, 400))
         writer.start()
         with mock.patch('os.read', side_effect=os.read) as reads:
-            found = list(iter(lines.next, None))
+            found = list(iter(lines.next_line, None))
         writer.join()
         os.close(reading)
         self.assertEqual(found, [f'{number}\n' for number in range(400)])
@@ -186,8 +186,8 @@ class Lines(unittest.TestCase):
 
     def test_a_pipe_that_ends_after_a_line_has_no_more(self):
         lines = PipeLines(-1)
-        lines.take(b'a\n')
-        lines.take(b'')
+        lines.add_bytes(b'a\n')
+        lines.add_bytes(b'')
         self.assertEqual(list(lines.ready), ['a\n'])
 
     def test_a_call_that_is_cut_in_two_is_one(self):

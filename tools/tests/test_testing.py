@@ -11,9 +11,9 @@ from typing import Dict, Iterator, List, Optional
 from unittest import mock
 
 from testing import crates, examples, main, tools_tests
-from testing.at_once import Part, outcomes, places
+from testing.at_once import Part, parts_at_once, run_parts
 from testing.crates import LEFT_CRATES, LEFT_TESTS, Crate, crates_with_tests
-from testing.examples import EXAMPLES, Files, scripts, try_examples, try_scripts
+from testing.examples import EXAMPLES, Files, script_examples, try_examples, try_scripts
 from testing.outcome import Outcome
 
 from .support import InFolder
@@ -95,13 +95,13 @@ class Examples(InFolder):
         """What comes of the scripts over the usual files, with a command in the place of `rt`."""
         self.write('rt', FAKE_RT.format(command=command), 0o755)
         path = f'{self.folder}:{os.environ["PATH"]}'
-        files, names = next(iter(scripts().items()))
+        files, names = next(iter(script_examples().items()))
         with mock.patch.dict(os.environ, PATH=path):
             return try_scripts(files, names)
 
     def test_each_script_has_its_files(self) -> None:
         self.assertEqual(
-            scripts(),
+            script_examples(),
             {
                 Files('start.trace', 'users'): ['first_exchange', 'shared_run', 'versions'],
                 Files('store.trace', 'store.users'): ['recovery'],
@@ -136,7 +136,7 @@ class AtOnce(unittest.TestCase):
     def test_there_is_a_place_for_each_processor_that_has_memory(self) -> None:
         rows = [(4, 24, 4), (4, 7.5, 2), (4, 1, 1), (1, 100, 1), (2, 6, 2)]
         for processors, gigabytes, count in rows:
-            self.assertEqual(places(processors, gigabytes), count)
+            self.assertEqual(parts_at_once(processors, gigabytes), count)
 
     def test_parts_run_at_once_and_each_has_its_outcome(self) -> None:
         both = threading.Barrier(2)
@@ -148,7 +148,7 @@ class AtOnce(unittest.TestCase):
 
             return run
 
-        found = list(outcomes({name: part(name) for name in 'ab'}, 2))
+        found = list(run_parts({name: part(name) for name in 'ab'}, 2))
         self.assertEqual(sorted(one.name for one in found), ['a', 'b'])
 
     def test_a_part_that_breaks_is_no_success(self) -> None:
@@ -157,7 +157,7 @@ class AtOnce(unittest.TestCase):
 
         threads = threading.active_count()
         with self.assertRaises(OSError):
-            list(outcomes({'a': broken}, 1))
+            list(run_parts({'a': broken}, 1))
         self.assertEqual(threading.active_count(), threads)
 
 

@@ -11,7 +11,7 @@ import unittest
 from typing import List
 
 from gating.provers import Prover, ancestors, kind_of, provers_below
-from gating.times import Share, Shares, sample, table_of, watch
+from gating.times import Share, Shares, add_sample, sample_until_end, table_of
 
 from .support import PATIENCE, TOOLS, InFolder
 
@@ -43,8 +43,8 @@ class Sums(unittest.TestCase):
 
     def test_the_table_sums_by_crate_and_the_largest_is_first(self) -> None:
         shares: Shares = {}
-        sample(shares, [[prover(1, 2.0)], [prover(2, 1.0, 'b')]], 12.0)
-        sample(shares, [[prover(1, 4.0), prover(3, 1.0)], [prover(4, 9.0, 'b', 'edits')]], 16.0)
+        add_sample(shares, [[prover(1, 2.0)], [prover(2, 1.0, 'b')]], 12.0)
+        add_sample(shares, [[prover(1, 4.0), prover(3, 1.0)], [prover(4, 9.0, 'b', 'edits')]], 16.0)
         self.assertEqual(
             table_of(shares, 60.0).splitlines(),
             [
@@ -88,10 +88,10 @@ class Processes(InFolder):
         self.start_prover('a')
         has_ended = threading.Event()
         threading.Timer(0.3, has_ended.set).start()
-        self.assertIn('\ncs_a\t', watch(os.getpid(), 0.05, has_ended))
+        self.assertIn('\ncs_a\t', sample_until_end(os.getpid(), 0.05, has_ended))
         gone = subprocess.Popen(['true'])
         gone.wait()
-        self.assertTrue(watch(gone.pid, 300.0, threading.Event()).startswith('crate\t'))
+        self.assertTrue(sample_until_end(gone.pid, 300.0, threading.Event()).startswith('crate\t'))
 
     def test_the_command_prints_its_table_when_it_is_ended(self) -> None:
         self.start_prover('a')

@@ -87,7 +87,7 @@ def read_book(path: Path, identity: List[object], first_seed: int) -> Book:
     return book
 
 
-def key_of(failure: Failure) -> str:
+def failure_key(failure: Failure) -> str:
     """What is the same of a failure in all sessions: its kind and its first sentence."""
     kind = failure.cause.partition(':')[0]
     return VARYING.sub('#', ': '.join([kind, *failure.text[:1]]))

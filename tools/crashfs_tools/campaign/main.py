@@ -20,9 +20,9 @@ from crashfs_tools.common.guard import Stopped, stop_by_exception
 from crashfs_tools.common.own_faults import run_guarded
 from crashfs_tools.common.printable import print_utf8, printable
 
-from .book import Book, KnownFailure, key_of, read_book
+from .book import Book, KnownFailure, failure_key, read_book
 from .options import NAME, CampaignOptions, read_options
-from .report import lines_of, page
+from .report import report_lines, page_text
 from .sessions import Checked, Failure, Sessions
 from .shrinking import Shrinking
 
@@ -67,7 +67,7 @@ class Campaign:
 
     def add(self, seed: int, failure: Failure) -> None:
         """Counts a failure that is known, and keeps the shortest session of a new one."""
-        key = key_of(failure)
+        key = failure_key(failure)
         known = self.book.entries.get(key)
         if known is not None:
             known.sessions += 1
@@ -105,10 +105,10 @@ def run_campaign(arguments: List[str]) -> int:
 def report(options: CampaignOptions, book: Book) -> None:
     """Prints what was found, and writes the page if one is asked for."""
     with standard_output():
-        print('\n'.join(lines_of(options, book)))
+        print('\n'.join(report_lines(options, book)))
     if options.html is not None:
         folder = os.path.dirname(os.path.abspath(options.html))
-        write_whole(options.html, [page(options, book, folder)])
+        write_whole(options.html, [page_text(options, book, folder)])
 
 
 def status_of(book: Book) -> int:

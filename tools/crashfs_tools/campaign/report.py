@@ -21,7 +21,7 @@ def count_of(count: int, noun: str) -> str:
     return f'{count:,} {noun}' if count == 1 else f'{count:,} {noun}s'
 
 
-def head(book: Book) -> str:
+def first_line(book: Book) -> str:
     """The first line: how many sessions were tried, and what fails."""
     entries = len(book.entries)
     verdict = 'none fails' if not entries else f'{entries} different failures'
@@ -45,9 +45,9 @@ def state_command(options: CampaignOptions, entry: KnownFailure) -> str:
     return shlex.join([*words, *options.recovery])
 
 
-def lines_of(options: CampaignOptions, book: Book) -> Iterator[str]:
+def report_lines(options: CampaignOptions, book: Book) -> Iterator[str]:
     """The report, line by line."""
-    yield head(book)
+    yield first_line(book)
     for entry in book.entries.values():
         yield f'  {printable(entry.failure.cause)}'
         yield (
@@ -55,13 +55,13 @@ def lines_of(options: CampaignOptions, book: Book) -> Iterator[str]:
             f'kept: {size_of(entry)}'
         )
         for line in entry.failure.text:
-            yield from folded(printable(line))
+            yield from folded_line(printable(line))
         yield f'    {state_command(options, entry)}'
     for seed, text in book.faults[:20]:
-        yield from folded(printable(f'seed {seed}: {text}'))
+        yield from folded_line(printable(f'seed {seed}: {text}'))
 
 
-def folded(line: str) -> List[str]:
+def folded_line(line: str) -> List[str]:
     """A line as indented lines of the usual width."""
     return textwrap.wrap(line, COLUMNS, initial_indent='    ', subsequent_indent='      ')
 
@@ -76,15 +76,15 @@ PAGE = (
 )
 
 
-def page(options: CampaignOptions, book: Book, folder: str) -> str:
+def page_text(options: CampaignOptions, book: Book, folder: str) -> str:
     """An index of the entries, each with a link to its own page. The links are from the folder."""
-    body = ''.join(section(options, entry, folder) for entry in book.entries.values())
+    body = ''.join(page_section(options, entry, folder) for entry in book.entries.values())
     faults = ''.join(f'<li>seed {seed}: {html.escape(text)}</li>' for seed, text in book.faults)
     body += f'<h2>Without a verdict</h2><ul>{faults}</ul>\n' if faults else ''
-    return PAGE.format(title=html.escape(f'Campaign: {head(book)}'), style=STYLE, body=body)
+    return PAGE.format(title=html.escape(f'Campaign: {first_line(book)}'), style=STYLE, body=body)
 
 
-def section(options: CampaignOptions, entry: KnownFailure, folder: str) -> str:
+def page_section(options: CampaignOptions, entry: KnownFailure, folder: str) -> str:
     """A failure as a part of the page, with a link to its own report."""
     link = os.path.relpath(os.path.join(options.results, entry.page), folder)
     text = '<br>'.join(html.escape(line) for line in entry.failure.text)

@@ -6,7 +6,7 @@ import json
 from pathlib import Path
 from typing import List, Optional
 
-from .book import key_of
+from .book import failure_key
 from .sessions import Failure, Sessions
 
 
@@ -39,7 +39,7 @@ class Shrinking:
         text = ''.join(self.lines[: last + 1])
         self.cut.write_text(text, 'utf-8', 'surrogateescape')
         found = self.sessions.check(self.cut).failures
-        return next((failure for failure in found if key_of(failure) == self.key), None)
+        return next((failure for failure in found if failure_key(failure) == self.key), None)
 
     def run(self) -> int:
         """The fewest acknowledged lines with which it still fails, by a binary search: what a

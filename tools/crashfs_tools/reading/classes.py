@@ -25,7 +25,7 @@ Shown = Tuple[object, ...]
 Tree = FrozenSet[Tuple[str, Optional[Shown]]]
 
 
-class Found(NamedTuple):
+class SetResult(NamedTuple):
     """What the micro-operations of a set leave: names and files as numbers, and its lines."""
 
     names: int
@@ -60,9 +60,9 @@ class Classes:
 
     def different(self) -> Iterator[int]:
         """The first set of each different state, ascending as every_set has them."""
-        followed: Set[Tuple[int, Found]] = set()
+        followed: Set[Tuple[int, SetResult]] = set()
         trees: Set[Tuple[int, Tree]] = set()
-        waiting = [(0, self.order.full, Found(self.number({}), (), 0))]
+        waiting = [(0, self.order.full, SetResult(self.number_of_names({}), (), 0))]
         while waiting:
             places, future, found = waiting.pop()
             one = future, self.left(found, future)
@@ -72,15 +72,15 @@ class Classes:
             if future:
                 lowest = future & -future
                 unit = self.order.unit(lowest)
-                waiting.append((places | unit, future & ~unit, self.step(one[1], unit)))
-                waiting.append((places, self.order.future_without(future, lowest), one[1]))
+                waiting.append((places | unit, future & ~unit, self.after_unit(one[1], unit)))
+                waiting.append((places, self.order.later_without(future, lowest), one[1]))
                 continue
             tree = found.says, self.tree(one[1])
             if tree not in trees:
                 trees.add(tree)
                 yield places
 
-    def left(self, found: Found, future: int) -> Found:
+    def left(self, found: SetResult, future: int) -> SetResult:
         """What was found without what no extension can show."""
         files = []
         for file, content in found.files:
@@ -91,13 +91,13 @@ class Classes:
                     files.append((file, content))
         return found._replace(files=tuple(files))
 
-    def step(self, found: Found, unit: int) -> Found:
+    def after_unit(self, found: SetResult, unit: int) -> SetResult:
         """What a unit of micro-operations leaves."""
         for place in bits(unit):
-            found = self.step_of(found, place)
+            found = self.after_operation(found, place)
         return found
 
-    def step_of(self, found: Found, place: int) -> Found:
+    def after_operation(self, found: SetResult, place: int) -> SetResult:
         """What one micro-operation leaves."""
         operation = self.reading.operations[place]
         if operation.file is not None:
@@ -106,22 +106,22 @@ class Classes:
             files[operation.file] = self.contents.changed(content, place)
             return found._replace(files=tuple(sorted(files.items())))
         if operation.entries or operation.directory is not None:
-            return found._replace(names=self.renamed(found.names, place, operation))
+            return found._replace(names=self.names_after(found.names, place, operation))
         return found._replace(says=found.says + 1)
 
-    def renamed(self, names: int, place: int, operation: Micro) -> int:
+    def names_after(self, names: int, place: int, operation: Micro) -> int:
         """The number of the names after a micro-operation changed entries."""
         key = names, place
         if key not in self._renamed:
             changed = dict(self.names[names])
             self.change_names(changed, operation)
             self.change_directories(changed, operation)
-            self._renamed[key] = self.number(changed)
+            self._renamed[key] = self.number_of_names(changed)
         return self._renamed[key]
 
     def change_names(self, changed: Names, operation: Micro) -> None:
         """Changes entries as a micro-operation does; those that are as at the start go."""
-        nodes = {entry: self.node(changed, entry) for entry in operation.entries}
+        nodes = {entry: self.node_at_entry(changed, entry) for entry in operation.entries}
         there = {entry: node for entry, node in nodes.items() if node is not None}
         change_entries(there, operation)
         for entry in operation.entries:
@@ -140,13 +140,13 @@ class Classes:
         if operation.removed_directory is not None:
             changed.pop(operation.removed_directory, None)
 
-    def node(self, names: Names, entry: Entry) -> Optional[Inode]:
+    def node_at_entry(self, names: Names, entry: Entry) -> Optional[Inode]:
         """What an entry names, or None."""
         node = names[entry] if entry in names else self.reading.start.get(entry)
         assert node is None or isinstance(node, Inode)
         return node
 
-    def number(self, names: Names) -> int:
+    def number_of_names(self, names: Names) -> int:
         """The number of changed names, the same for equal ones."""
         key = frozenset(names.items())
         if key not in self.numbers:
@@ -172,14 +172,14 @@ class Classes:
 
     # The trees
 
-    def tree(self, found: Found) -> Tree:
+    def tree(self, found: SetResult) -> Tree:
         """The paths at which the state differs from the start tree, with what is there."""
         names, contents = self.names[found.names], dict(found.files)
         nodes = self.nodes_at_home(found) if self.is_at_home(names) else self.all_nodes(names)
         items = {}
         for path, node in nodes.items():
-            there = self.shown(node, names, contents)
-            if there != self.shown(self.start_paths.get(path), {}, {}):
+            there = self.shown_item(node, names, contents)
+            if there != self.shown_item(self.start_paths.get(path), {}, {}):
                 items[path] = there
         return frozenset(items.items())
 
@@ -193,16 +193,16 @@ class Classes:
     def is_at_home(self, names: Names) -> bool:
         """Whether each directory has the path that it has if no directory is moved."""
         return all(
-            self.home(entry) == self.reading.homes[node.number]
+            self.home_path(entry) == self.reading.homes[node.number]
             for entry, node in names.items()
             if isinstance(entry, tuple) and isinstance(node, Inode) and node.kind == DIRECTORY
         )
 
-    def home(self, entry: Entry) -> str:
+    def home_path(self, entry: Entry) -> str:
         """The path of an entry whose directory is where it was made."""
         return f'{self.reading.homes[entry[0]]}/{entry[1]}'
 
-    def nodes_at_home(self, found: Found) -> Dict[str, Optional[Inode]]:
+    def nodes_at_home(self, found: SetResult) -> Dict[str, Optional[Inode]]:
         """What is at the paths of changed entries, files and directories."""
         names = self.names[found.names]
         nodes: Dict[str, Optional[Inode]] = {}
@@ -210,12 +210,12 @@ class Classes:
             if isinstance(key, int):
                 nodes[self.reading.homes[key] or '/'] = Inode(DIRECTORY, key)
                 continue
-            node = self.node(names, key)
+            node = self.node_at_entry(names, key)
             # A directory that is gone and one that is made again may have the same paths.
-            nodes[self.home(key)] = node or nodes.get(self.home(key))
+            nodes[self.home_path(key)] = node or nodes.get(self.home_path(key))
         for file, _ in found.files:
             for entry in self.entries_of(found.names, file):
-                nodes[self.home(entry)] = self.node(names, entry)
+                nodes[self.home_path(entry)] = self.node_at_entry(names, entry)
         return nodes
 
     def all_nodes(self, names: Names) -> Dict[str, Optional[Inode]]:
@@ -223,14 +223,14 @@ class Classes:
         entries = dict(self.reading.start)
         for key in names:
             if isinstance(key, tuple):
-                node = self.node(names, key)
+                node = self.node_at_entry(names, key)
                 if node is None:
                     entries.pop(key, None)
                 else:
                     entries[key] = node
         return {**dict.fromkeys(self.start_paths), **dict(reached(entries.items()))}
 
-    def shown(
+    def shown_item(
         self, node: Optional[Inode], names: Names, contents: Dict[int, int]
     ) -> Optional[Shown]:
         """What a state shows of a file or directory, with its rights."""

@@ -28,7 +28,7 @@ def every_set(order: Order) -> Iterator[int]:
         lowest = future & -future
         unit = order.unit(lowest)
         waiting.append((places | unit, future & ~unit))
-        waiting.append((places, order.future_without(future, lowest)))
+        waiting.append((places, order.later_without(future, lowest)))
 
 
 def futures(order: Order) -> List[Dict[int, int]]:
@@ -51,7 +51,7 @@ def steps(order: Order, future: int, lowest: int) -> List[int]:
     """The futures that follow one: without its lowest place, and with it; or itself."""
     if not future & lowest:
         return [future]
-    return [order.future_without(future, lowest), future & ~order.unit(lowest)]
+    return [order.later_without(future, lowest), future & ~order.unit(lowest)]
 
 
 def count_sets(order: Order) -> int:
@@ -92,7 +92,7 @@ def set_at(order: Order, extensions: List[Dict[int, int]], number: int) -> int:
     for place in range(order.count):
         lowest = 1 << place
         if future & lowest:
-            without = order.future_without(future, lowest)
+            without = order.later_without(future, lowest)
             before = extensions[place + 1][without]
             if number < before:
                 future = without

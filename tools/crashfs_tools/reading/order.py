@@ -24,7 +24,7 @@ Mark = Tuple[object, ...]
 IN_ORDER = ('ordered', 'journal')
 
 
-def same_thing(operation: Micro) -> Iterator[Mark]:
+def marks_of_same_thing(operation: Micro) -> Iterator[Mark]:
     """What no two micro-operations change out of order: a block, a size, a file's rights (P1, P7),
     an entry, and a directory that is made or removed or gets rights (P2)."""
     if isinstance(operation, WriteBlock):
@@ -46,7 +46,7 @@ def same_thing(operation: Micro) -> Iterator[Mark]:
 
 def marks_left(operation: Micro) -> Iterator[Mark]:
     """What a micro-operation is found by when a later one asks."""
-    yield from same_thing(operation)
+    yield from marks_of_same_thing(operation)
     if isinstance(operation, Acknowledgement):
         yield ('say',)
     if operation.entries:
@@ -61,7 +61,7 @@ def marks_left(operation: Micro) -> Iterator[Mark]:
 
 def marks_asked(operation: Micro, reading: Reading, profile: str) -> Iterator[Mark]:
     """What a micro-operation asks for: it needs all earlier ones with such a mark."""
-    yield from same_thing(operation)
+    yield from marks_of_same_thing(operation)
     if operation.removed_directory is not None:
         yield 'entry in', operation.removed_directory  # P4
     if isinstance(operation, Acknowledgement) or reading.version >= 3:
@@ -116,7 +116,7 @@ class Order:
         """The set of all places."""
         return (1 << self.count) - 1
 
-    def future_without(self, future: int, lowest: int) -> int:
+    def later_without(self, future: int, lowest: int) -> int:
         """What can still be added if the lowest place of a future is left out for good."""
         return future & ~lowest & ~self.needed_by[lowest.bit_length() - 1]
 
@@ -124,7 +124,7 @@ class Order:
         """What is added with the lowest place of a future."""
         return self.units.get(lowest.bit_length() - 1, lowest)
 
-    def both(self, other: Order) -> Order:
+    def needed_in_both(self, other: Order) -> Order:
         """The order that allows a set if this one and another do, of the same micro-operations."""
         both = copy(self)
         both.needs, both.units = [], {**self.units, **other.units}
@@ -143,7 +143,7 @@ class Order:
         other = Order(reading, profile)
         if profile != 'blocks':
             other.units = {place: 0b11 << place for place in half_places(reading.operations)}
-        return self.both(other)
+        return self.needed_in_both(other)
 
     def acknowledged_first(self, reading: Reading) -> Order:
         """The order that besides allows only sets that, for each member, have all acknowledged
@@ -153,7 +153,7 @@ class Order:
         for place, operation in enumerate(reading.operations):
             first.needs.append(says)
             says |= isinstance(operation, Acknowledgement) << place
-        return self.both(first)
+        return self.needed_in_both(first)
 
     def is_allowed(self, places: int) -> bool:
         """Whether a crash may leave these micro-operations and no others."""

@@ -48,11 +48,11 @@ class Reading:
         self.syncs: List[SyncPoint] = []
         self.names = Names()
 
-    def take(self, line: Line) -> None:
+    def read_line(self, line: Line) -> None:
         """Reads one line: judges it, and adds what it does."""
         self.names.judge(line)
         if line.key == 'trace':
-            self.take_header(line)
+            self.begin(line)
         else:
             getattr(self, f'{line.key}_{line.word}')(line)
         for operation in reversed(self.operations):
@@ -60,7 +60,7 @@ class Reading:
                 break
             operation.line = line.number
 
-    def take_header(self, line: Line) -> None:
+    def begin(self, line: Line) -> None:
         """Begins the tree, in the header's version."""
         self.version = self.names.version = line.fields['trace']
         self.profile = line.fields.get('profile', self.profile)
@@ -258,7 +258,7 @@ def read(data: bytes) -> Reading:
     for number, line in enumerate(text.split('\n'), 1):
         if line.strip(BLANKS):
             try:
-                reading.take(lines.read(number, line))
+                reading.read_line(lines.read(number, line))
             except LineFault as fault:
                 raise fault.at(number) from fault
     if not lines.version:

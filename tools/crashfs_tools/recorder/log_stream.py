@@ -83,7 +83,7 @@ class LogStream:
         try:
             # A process whose mapped files are copied is stopped until its line is read.
             lines = PipeLines(descriptor, gathers=self.mapped is None)
-            while self.process_line(lines.next(), lines):
+            while self.process_line(lines.next_line(), lines):
                 pass
         finally:
             os.close(descriptor)
@@ -144,7 +144,7 @@ class LogStream:
         taken for a later stop; returns the stopped threads of other processes."""
         later = []
         while not threads <= seen:
-            line = lines.next(SAME_STOP)
+            line = lines.next_line(SAME_STOP)
             if line is None:
                 break
             stopped = self.add_line(line)

@@ -29,7 +29,7 @@ class PipeLines:
         self.rest: List[bytes] = []
         self.has_ended = False
 
-    def next(self, seconds: Optional[float] = None) -> Optional[str]:
+    def next_line(self, seconds: Optional[float] = None) -> Optional[str]:
         """The next line, with its end. None at the pipe's end, or if none comes in that time."""
         while not self.ready and not self.has_ended:
             if seconds is not None:
@@ -43,9 +43,9 @@ class PipeLines:
         piece = os.read(self.descriptor, PIECE)
         if self.gathers and 0 < len(piece) < PIECE // 4:
             time.sleep(GATHER_SECONDS)
-        self.take(piece)
+        self.add_bytes(piece)
 
-    def take(self, piece: bytes) -> None:
+    def add_bytes(self, piece: bytes) -> None:
         """Takes bytes of the pipe; none are its end."""
         self.rest.append(piece)
         if b'\n' in piece:
