@@ -10,6 +10,7 @@ import unittest
 from pathlib import Path
 from typing import Set
 from unittest import mock
+from xml.etree import ElementTree
 
 from crashfs_tools.checker.findings import disk_search
 from crashfs_tools.checker.findings.sightings import (
@@ -19,6 +20,10 @@ from crashfs_tools.checker.findings.sightings import (
     Sightings,
     sentence,
 )
+from crashfs_tools.checker.report.junit import junit_lines
+from crashfs_tools.checker.report.page import page
+from crashfs_tools.checker.report.report import Report
+from crashfs_tools.checker.running.results import Head
 from crashfs_tools.checker.running.runner import BAD, Outcome
 from crashfs_tools.common.entry import Entry
 from crashfs_tools.disks.disk import Crash
@@ -89,6 +94,38 @@ class Explanations(unittest.TestCase):
         self.assertEqual(
             disk_search.search(trace, {('none', 0)}).explanation(('none', 0)), Explanation(OUTSIDE)
         )
+
+
+class Reports(unittest.TestCase):
+    """The file of --junit and the page of --html have what was seen on disks."""
+
+    def setUp(self) -> None:
+        self.report = Report(Head('t.trace', '', ['true']))
+        tree = {'/f': Entry('u', 'g', 0o644, bytearray(3))}
+        why = Explanation(OUTSIDE)
+        one = DiskFailure(Outcome(BAD, 'zeros: <1>', 'out'), [1], {'ext4': FIRST}, tree, why)
+        self.seen = Sightings(['ext4'], {'ext4': 1200}, {'ext4': 9}, {'ext4': 1}, {}, [one])
+
+    def test_a_failure_that_no_state_has_is_a_test_case(self) -> None:
+        before = ElementTree.fromstring(''.join(junit_lines(self.report)))
+        self.assertEqual((before.get('tests'), before.get('failures')), ('1', '0'))
+        self.report.sightings = self.seen
+        suite = ElementTree.fromstring(''.join(junit_lines(self.report)))
+        counts = suite.get('tests'), suite.get('failures'), suite.get('errors')
+        self.assertEqual(counts, ('2', '1', '0'))
+        case = suite[0]
+        self.assertEqual(case.get('name'), 'zeros: <1> (outside the model)')
+        self.assertIn('seen on ext4 (after line 9', case[0].get('message') or '')
+        self.assertIn('/f (3 bytes)', case[0].text or '')
+        self.assertEqual(case[1].text, 'out')
+
+    def test_the_page_has_the_counts_and_the_failure(self) -> None:
+        self.assertNotIn('On real disks', ''.join(page(self.report)))
+        self.report.sightings = self.seen
+        text = ''.join(page(self.report))
+        self.assertIn('<li>ext4: 1,200 crashes, 9 different trees: 1 fails</li>', text)
+        self.assertIn('<h3>zeros: &lt;1&gt;</h3>\n<p>outside the model</p>', text)
+        self.assertIn('<li>no crash state has this tree</li>', text)
 
 
 class Refusals(InStore):

@@ -28,6 +28,8 @@ from .read_trees import entries_of
 from .sightings import OUTSIDE, UNKNOWN, UNTRIED, DiskFailure, Explanation, Sightings, keep_first
 
 MEMORY = '/dev/shm'
+# So many processes make disks for each job.
+DISKS_AT_ONCE = 3
 # So many different crash states are looked through for a disk's tree, and for so long.
 MOST_STATES, MOST_SECONDS = 20_000, 20
 
@@ -54,10 +56,15 @@ def sightings_of(trying: Trying, by_state: Dict[int, Outcome]) -> Sightings:
     trace = read_trace(text.decode('utf-8', 'surrogateescape'))
     size = bytes_written(trace)
     filesystems = [with_room(one, size) for one in named(trying.options.disks or [])]
-    room = IMAGES * trying.options.jobs * sum(one.size for one in filesystems)
+    room = IMAGES * processes(trying) * sum(one.size for one in filesystems)
     with Guard('crashfs-disks-', MEMORY if has_room(MEMORY, room) else None) as guard:
         search = Search(trying, by_state, text)
         return search.run(DiskPool(filesystems, trace, guard.directory), trying.progress.note)
+
+
+def processes(trying: Trying) -> int:
+    """How many processes make disks: most of the time they wait for a mount."""
+    return DISKS_AT_ONCE * trying.options.jobs
 
 
 def has_room(folder: str, size: int) -> bool:
@@ -80,7 +87,7 @@ class Search:
         self.checker = trying.checker()
 
     def run(self, pool: DiskPool, on_step: Callable[[int, int], None]) -> Sightings:
-        disks = pool.disks(self.trying.options.jobs, on_step)
+        disks = pool.disks(processes(self.trying), on_step)
         found = Sightings(list(disks))
         for name, different in disks.items():
             found.crashes[name] = sum(len(one.crashes) for one in different)

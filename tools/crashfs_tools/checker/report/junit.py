@@ -8,6 +8,7 @@ from typing import Iterator
 from xml.sax.saxutils import escape, quoteattr
 
 from crashfs_tools.checker.findings.groups import Group
+from crashfs_tools.checker.findings.sightings import DiskFailure
 from crashfs_tools.checker.running.runner import BAD
 from crashfs_tools.common.printable import printable
 
@@ -18,16 +19,18 @@ SPACES = '\n\t'
 
 
 def junit_lines(report: Report) -> Iterator[str]:
-    """A test case for each entry of the report, and one for all other states. The time of an entry
-    is that of its example's second run, and that of the last case is the rest of the check's."""
-    groups = report.groups()
-    failures = sum(group.result == BAD for group in groups)
+    """A test case for each entry of the report, for each failure on disks that no tried state has,
+    and one for all other states. The time of an entry is that of its example's second run, and that
+    of the last case is the rest of the check's."""
+    groups, on_disks = report.groups(), report.disk_failures()
+    results = [*(group.result for group in groups), *(one.outcome.result for one in on_disks)]
+    failures = results.count(BAD)
     seconds = report.seconds
     name = attribute(f'crashfs-check {report.head.trace}')
     yield '<?xml version="1.0" encoding="UTF-8"?>\n'
     yield (
-        f'<testsuite name={name} tests="{len(groups) + 1}" failures="{failures}" '
-        f'errors="{len(groups) - failures}" time="{seconds:.3f}">\n'
+        f'<testsuite name={name} tests="{len(results) + 1}" failures="{failures}" '
+        f'errors="{len(results) - failures}" time="{seconds:.3f}">\n'
     )
     names: Counts[str] = Counter()
     for group in groups:
@@ -36,6 +39,8 @@ def junit_lines(report: Report) -> Iterator[str]:
         case = f'{group.cause} ({number})' if number > 1 else group.cause
         yield from case_lines(report, group, f'classname={name} name={attribute(case)}')
         seconds -= group.seconds
+    for one in on_disks:
+        yield from disk_case_lines(one, name)
     rest = f'all other states ({report.counts.good:,})'
     yield f'<testcase classname={name} name={attribute(rest)} time="{max(0.0, seconds):.3f}"/>\n'
     yield '</testsuite>\n'
@@ -50,6 +55,17 @@ def case_lines(report: Report, group: Group, names: str) -> Iterator[str]:
     yield f'<{kind} message={attribute(message)}>'
     yield text('\n'.join([head.strip(), *details])) + f'</{kind}>\n'
     yield f'<system-out>{text(group.outcome.output)}</system-out>\n'
+    yield '</testcase>\n'
+
+
+def disk_case_lines(one: DiskFailure, name: str) -> Iterator[str]:
+    """A test case for a failure on disks that no tried state has."""
+    kind = 'failure' if one.outcome.result == BAD else 'error'
+    case = f'{one.outcome.cause} ({one.explanation.where})'
+    yield f'<testcase classname={name} name={attribute(case)} time="0.000">\n'
+    lines = one.lines()
+    yield f'<{kind} message={attribute(lines[0])}>' + text('\n'.join(lines)) + f'</{kind}>\n'
+    yield f'<system-out>{text(one.outcome.output)}</system-out>\n'
     yield '</testcase>\n'
 
 

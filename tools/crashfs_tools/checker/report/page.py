@@ -32,6 +32,7 @@ def page(report: Report) -> Iterator[str]:
     groups = report.groups()
     for group in groups:
         yield from entry_lines(report, group)
+    yield from disk_section(report)
     yield f'<h2>The states</h2>\n<p>{shown_text(report.counts.tried_text)}</p>\n'
     yield '<div id="states"></div><p id="shown"></p>\n'
     if report.counts.windows > len(report.drawings[:DRAWN]):
@@ -77,6 +78,23 @@ def entry_lines(report: Report, group: Group) -> Iterator[str]:
     yield from difference_lines(group)
     if group.outcome.output:
         yield f'<pre>{shown_text(group.outcome.output)}</pre>\n'
+    yield '</section>\n'
+
+
+def disk_section(report: Report) -> Iterator[str]:
+    """What was seen on real disks, and the failures there that no tried state has."""
+    if report.sightings is None:
+        return
+    yield '<section><h2>On real disks</h2>\n<ul>\n'
+    for line in report.sightings.lines():
+        yield f'<li>{shown_text(line)}</li>\n'
+    yield '</ul>\n'
+    for one in report.disk_failures():
+        yield f'<h3>{shown_text(one.outcome.cause)}</h3>\n'
+        yield f'<p>{shown_text(one.explanation.where)}</p>\n<ul>\n'
+        for line in one.lines():
+            yield f'<li>{shown_text(line)}</li>\n'
+        yield '</ul>\n'
     yield '</section>\n'
 
 

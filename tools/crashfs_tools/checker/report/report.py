@@ -28,7 +28,7 @@ from .profiles import profiles_text
 from .rest import rest_lines
 
 if TYPE_CHECKING:
-    from crashfs_tools.checker.findings.sightings import Sightings
+    from crashfs_tools.checker.findings.sightings import DiskFailure, Sightings
     from crashfs_tools.checker.findings.second_crashes import Recovery, SecondCrash
 
     from .drawing import Drawing
@@ -122,8 +122,8 @@ class Report:
     def status(self) -> int:
         if self.counts.results[NO_ANSWER]:
             return NOT_ALL_TRIED
-        further = self.sightings is not None and self.sightings.further
-        if self.counts.failing or further or any(one.groups for one in self.recoveries):
+        further = self.disk_failures() or any(one.groups for one in self.recoveries)
+        if self.counts.failing or further:
             return SOME_FAIL
         is_whole = not self.counts.left and not self.head.stopped
         is_whole = is_whole and not any(one.fault for one in self.recoveries)
@@ -225,12 +225,16 @@ class Report:
         ]
         return lines
 
+    def disk_failures(self) -> List[DiskFailure]:
+        """The failures on real disks that no tried state has."""
+        return self.sightings.further if self.sightings is not None else []
+
     def disk_lines(self) -> List[str]:
         """What was seen on real disks, and the failures there that no tried state has."""
         if self.sightings is None:
             return []
         lines = [f'  {line}' for line in self.sightings.lines()]
-        for one in self.sightings.further:
+        for one in self.disk_failures():
             lines.append(
                 f'  {cut(one.outcome.cause, CAUSE_WIDTH):<{CAUSE_WIDTH}} {one.explanation.where}'
             )
