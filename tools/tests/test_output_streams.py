@@ -46,6 +46,17 @@ class Lines(unittest.TestCase):
             with self.subTest(log[-1]):
                 self.assertEqual(lines_of(log), ['one', 'two'])
 
+    def test_a_stream_that_exec_closes_is_none_any_more(self):
+        log = [
+            '1 write(1<pipe:[7]>, "one\n", 4) = 4',
+            '1 openat(AT_FDCWD</d>, "/proc/self/fd/1", O_WRONLY%s) = 5<pipe:[7]>',
+            '1 execve("/bin/x", ["x"], 0x7ffc /* 3 vars */) = 0',
+            '1 write(5</etc/x>, "two\n", 4) = 4',
+        ]
+        for flag, wanted in (('|O_CLOEXEC', ['one']), ('', ['one', 'two'])):
+            lines = [line.replace('%s', flag) for line in log]
+            self.assertEqual(lines_of(lines), wanted)
+
     def test_the_pipe_of_a_log_from_elsewhere_is_known_by_its_first_use(self):
         log = [
             '1 write(1<pipe:[9]>, "one\n", 4) = 4',

@@ -19,6 +19,11 @@ TROUBLES = [
         [],
         ['1 write(1<pipe:[7]>, "a\n", 2) = 2', '1 tee(5<pipe:[8]>, 1<pipe:[7]>, 9, 0) = 9'],
     ),
+    (
+        '/f: fallocate with FALLOC_FL_INSERT_RANGE; its later bytes are not recorded',
+        FILE,
+        [OPEN_F, '1 fallocate(3</d/f>, FALLOC_FL_INSERT_RANGE, 0, 4096) = 0'],
+    ),
     ('/: io_submit: what is done by it is not in the log', [], ['1 io_submit(0x7f, 1, [{}]) = 1']),
     (
         '/f: a file of O_TMPFILE that was synced before it had this name',

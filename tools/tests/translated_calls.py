@@ -1,7 +1,7 @@
 """Calls as strace writes them, and the operations that they become."""
 
 
-from crashfs_tools.common.trace import Start
+from crashfs_tools.common.trace import Start, StartSymlink
 
 FILE = [Start('/f', 'u', 'u', 0o644, b'hello')]
 TWO_FILES = FILE + [Start('/g', 'u', 'u', 0o644, b'')]
@@ -141,6 +141,46 @@ CASES = [
             '1 fallocate(3</d/f>, FALLOC_FL_KEEP_SIZE|FALLOC_FL_PUNCH_HOLE, 1, 100) = 0',
         ],
         ['truncate /f 2', 'truncate /f 10', 'truncate /f 3', 'write /f 1 \0\0'],
+    ),
+    (
+        'zeros that fallocate writes, up to the end and past it',
+        FILE,
+        [
+            OPEN_F,
+            '1 fallocate(3</d/f>, FALLOC_FL_KEEP_SIZE|FALLOC_FL_ZERO_RANGE, 3, 9) = 0',
+            '1 fallocate(3</d/f>, FALLOC_FL_ZERO_RANGE, 4, 2) = 0',
+        ],
+        ['write /f 3 \0\0', 'write /f 4 \0\0'],
+    ),
+    (
+        'a symbolic link that is opened itself',
+        [*FILE, StartSymlink('/l', 'u', 'u', 'f')],
+        [
+            '1 openat(AT_FDCWD</d>, "l", O_RDONLY|O_PATH|O_NOFOLLOW) = 3',
+            '1 fchownat(3, "", 54321, -1, AT_EMPTY_PATH) = 0',
+        ],
+        ['chown /l u54321 u'],
+    ),
+    (
+        'a file that is opened again by its descriptor is truncated',
+        FILE,
+        [OPEN_F, '1 openat(AT_FDCWD</d>, "/proc/self/fd/3", O_WRONLY|O_TRUNC) = 4</d/f>'],
+        ['truncate /f 0'],
+    ),
+    (
+        'descriptors that exec closes: of dup3, and of F_DUPFD_CLOEXEC; not after F_SETFD',
+        FILE,
+        [
+            '1 openat(AT_FDCWD</d>, "f", O_RDWR|O_CLOEXEC) = 3</d/f>',
+            '1 dup3(3</d/f>, 8, O_CLOEXEC) = 8</d/f>',
+            '1 fcntl(3</d/f>, F_DUPFD_CLOEXEC, 9) = 9</d/f>',
+            '1 fcntl(3</d/f>, F_SETFD, 0) = 0',
+            '1 execve("/bin/x", ["x"], 0x7ffc /* 3 vars */) = 0',
+            '1 write(8</etc/x>, "a", 1) = 1',
+            '1 write(9</etc/x>, "b", 1) = 1',
+            '1 write(3</d/f>, "J", 1) = 1',
+        ],
+        ['write /f 0 J'],
     ),
     (
         'O_DSYNC and O_SYNC sync what each write covers',

@@ -47,6 +47,19 @@ SYNCS = [
         ],
     ),
     (
+        'a mapping that is moved, and one that stays where it was, too',
+        FILE,
+        [
+            OPEN_F,
+            '1 mmap(NULL, 4096, PROT_READ, MAP_SHARED, 3</d/f>, 0) = 0x10000',
+            '1 mremap(0x10000, 4096, 4096, MREMAP_MAYMOVE|MREMAP_DONTUNMAP, 0) = 0x20000',
+            '1 msync(0x10000, 4096, MS_SYNC) = 0',
+            '1 mremap(0x20000, 4096, 4096, MREMAP_MAYMOVE) = 0x30000',
+            '1 msync(0x20000, 4096, MS_SYNC) = 0',
+        ],
+        ['fsyncrange /f 0 4096'],
+    ),
+    (
         'msync is a sync of the pages that it names',
         FILE,
         [
