@@ -1,4 +1,4 @@
-"""Each crate of crates.txt is in ARCHITECTURE's picture of layers and in its table, once."""
+"""Each crate of the program is in ARCHITECTURE's picture of layers and in its table, once."""
 
 from __future__ import annotations
 
@@ -36,7 +36,7 @@ def crates_in_picture(page: str) -> List[Tuple[str, int]]:
 
 
 def crates_in_table(page: str) -> List[Tuple[str, int]]:
-    """Each crate of the table with the layer that it is below; 0 for tests and benchmarks."""
+    """Each crate of the table with the layer that it is below."""
     found, layer = [], 0
     for name, *_ in table_rows(page):
         head = re.match(r'\*\*(\d) ', name)
@@ -58,8 +58,8 @@ def crate_page_faults(page: str, uses: Dict[str, List[str]]) -> Iterator[str]:
     """What the page says otherwise than crates.txt, whose crates are given with what each uses."""
     picture, table = crates_in_picture(page), crates_in_table(page)
     layers = dict(picture)
-    yield from count_faults('the table', [name for name, _ in table], list(uses))
     program = [name for name in uses if not NOT_OF_THE_PROGRAM.search(name)]
+    yield from count_faults('the table', [name for name, _ in table], program)
     yield from count_faults('the picture', [name for name, _ in picture], program)
     for name, layer in table:
         if layers.get(name, 0) != layer:

@@ -38,8 +38,6 @@ PAGE = """
 | cs_a | a | all |
 | **2 above** | | |
 | cs_b | b | all |
-| **Tests** | | |
-| cs_b_tests | tests | none |
 """
 USES = {'cs_a': [], 'cs_b': ['cs_a', 'hex'], 'cs_b_tests': ['cs_b']}
 
@@ -126,6 +124,7 @@ class CratesPage(unittest.TestCase):
             ('| cs_a | a | all |\n', '', 'cs_a is 0 times in the table, not 1 times'),
             ('| 1 below | cs_a |\n', '', 'cs_a is 0 times in the picture, not 1 times'),
             ('cs_b |', 'cs_b cs_b |', 'cs_b is 2 times in the picture, not 1 times'),
+            ('| cs_b | b |', '| cs_b_tests | b |', 'cs_b_tests is 1 times in the table, not 0'),
             ('| 2 above', '| 3 above', 'cs_b is in layer 3 of the picture, 2 of the table'),
             ('| cs_a | a | all |', '| cs_a | a | |', 'cs_a: its row must say what it is'),
             ('| 1 below', '| 3 below', 'cs_b uses cs_a of a higher layer'),
