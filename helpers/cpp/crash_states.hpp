@@ -111,6 +111,8 @@ inline std::vector<std::string> entries_of(const Path &report) {
     if (version != 3 && version != 4) throw std::runtime_error("a report of another version");
     std::vector<std::string> entries;
     for (const json::Value &entry : found.at("groups").list()) {
+        // A known failure of --accept.
+        if (entry.at("accepted").is_object()) continue;
         const int example = static_cast<int>(entry.at("example").number());
         std::string text = entry.at("cause").text() + ", e.g. state " + std::to_string(example);
         for (const json::Value &line : entry.at("text").list()) text += "\n  " + line.text();
@@ -119,7 +121,8 @@ inline std::vector<std::string> entries_of(const Path &report) {
     return entries;
 }
 
-inline std::vector<std::string> record_and_check(const Path &room, const std::string &test) {
+inline std::vector<std::string> record_and_check(const Path &room, const std::string &test,
+                                                 const std::vector<std::string> &options) {
     const Path store = room / "store", output = room / "output", report = room / "report.json";
     const std::string trace = room / "session.trace";
     fs::create_directory(store);
@@ -130,7 +133,9 @@ inline std::vector<std::string> record_and_check(const Path &room, const std::st
     record.insert(record.end(), itself.begin(), itself.end());
     int status = run(record, "session", output);
     if (status != 0 && status != 4) throw std::runtime_error(content_of(output));
-    std::vector<std::string> check = {tool("crashfs-check"), "--json", report, trace, "--"};
+    std::vector<std::string> check = {tool("crashfs-check"), "--json", report};
+    check.insert(check.end(), options.begin(), options.end());
+    check.insert(check.end(), {trace, "--"});
     check.insert(check.end(), itself.begin(), itself.end());
     status = run(check, "recovery", output);
     if (status != 0 && status != 1) throw std::runtime_error(content_of(output));
@@ -140,8 +145,10 @@ inline std::vector<std::string> record_and_check(const Path &room, const std::st
 }  // namespace detail
 
 // Records the session and runs the recovery in its crash states. Each entry of the report is a
-// failure of the calling test.
-inline void check(const Session &session, const Recovery &recovery) {
+// failure of the calling test. The options are those of crashfs-check, such as {"--accept", FILE}:
+// known failures don't fail the test.
+inline void check(const Session &session, const Recovery &recovery,
+                  const std::vector<std::string> &options = {}) {
     const char *role = std::getenv(detail::kRole);
     if (role != nullptr && std::string(role) == "session")
         detail::run_and_exit([&] { session(fs::current_path(), detail::acknowledge); });
@@ -153,7 +160,7 @@ inline void check(const Session &session, const Recovery &recovery) {
     ASSERT_NE(mkdtemp(room.data()), nullptr);
     const std::string name = std::string(test->test_suite_name()) + "." + test->name();
     std::vector<std::string> entries;
-    ASSERT_NO_THROW(entries = detail::record_and_check(room, name));
+    ASSERT_NO_THROW(entries = detail::record_and_check(room, name, options));
     for (const std::string &entry : entries)
         ADD_FAILURE() << entry << "\nthe trace is " << room << "/session.trace";
     if (entries.empty()) fs::remove_all(room);

@@ -55,4 +55,8 @@ TEST(Json, WhatEndsEarlyIsNoReport) {
         EXPECT_ANY_THROW(crash_states::json::parse(text)) << text;
 }
 
-TEST(Store, EveryCrashState) { crash_states::check(session, recovery); }
+TEST(Store, EveryCrashState) {
+    std::vector<std::string> options;
+    if (const char *known = std::getenv("EXAMPLE_ACCEPT")) options = {"--accept", known};
+    crash_states::check(session, recovery, options);
+}

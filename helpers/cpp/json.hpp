@@ -18,6 +18,7 @@ public:
     template <typename T>
     explicit Value(T value) : value_(std::move(value)) {}
 
+    bool is_object() const { return std::holds_alternative<Object>(value_); }
     double number() const { return std::get<double>(value_); }
     const std::string &text() const { return std::get<std::string>(value_); }
     const List &list() const { return std::get<List>(value_); }

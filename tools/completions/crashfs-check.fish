@@ -15,6 +15,7 @@ complete -c crashfs-check -l state -r -d 'try only state N, and leave it laid ou
 complete -c crashfs-check -l fail-fast -d 'stop at the first failing state'
 complete -c crashfs-check -l time-limit -r -d 'stop after S seconds, and report what was tried'
 complete -c crashfs-check -l resume -r -d 'continue a check that was stopped, from its --json file'
+complete -c crashfs-check -l accept -r -d 'a JSON list of known failures'
 complete -c crashfs-check -l json -r -d 'write the outcomes, for --merge, --resume and other tools'
 complete -c crashfs-check -l junit -r -d 'write the report as JUnit XML'
 complete -c crashfs-check -l html -r -d 'write the report as one page, to be opened in a browser'

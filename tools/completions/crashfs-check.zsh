@@ -17,6 +17,7 @@ _arguments -S \
     '--fail-fast[stop at the first failing state]' \
     '--time-limit[stop after S seconds, and report what was tried]:S:_files' \
     '--resume[continue a check that was stopped, from its --json file]:FILE:_files' \
+    '--accept[a JSON list of known failures]:FILE:_files' \
     '--json[write the outcomes, for --merge, --resume and other tools]:FILE:_files' \
     '--junit[write the report as JUnit XML]:FILE:_files' \
     '--html[write the report as one page, to be opened in a browser]:FILE:_files' \

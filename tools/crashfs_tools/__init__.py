@@ -1,3 +1,62 @@
-"""Records what a program does to a directory, and checks a recovery in its crash states."""
+"""Records what a program does to a directory, and checks a recovery in its crash states.
+
+    from crashfs_tools import check, record
+
+    recording = record('store', ['./session.sh'], 'store.trace')
+    report = check(recording.trace, ['./recover.sh'])
+    for entry in report.entries:
+        print(entry)
+
+docs/TESTING.md explains it.
+"""
+
+from __future__ import annotations
+
+from typing import TYPE_CHECKING
+
+if TYPE_CHECKING:
+    from crashfs_tools.api.checks import check as check
+    from crashfs_tools.api.crash_states import CrashState as CrashState
+    from crashfs_tools.api.crash_states import states as states
+    from crashfs_tools.api.recordings import Recording as Recording
+    from crashfs_tools.api.recordings import record as record
+    from crashfs_tools.api.reports import Entry as Entry
+    from crashfs_tools.api.reports import Report as Report
+    from crashfs_tools.api.reports import StateOutcome as StateOutcome
+    from crashfs_tools.common.command import Refused as Refused
 
 VERSION = '0.2.0'
+
+# The public names, and the modules that they are imported from when they are asked for: the
+# commands need few of them.
+PUBLIC = {
+    'check': 'api.checks',
+    'CrashState': 'api.crash_states',
+    'states': 'api.crash_states',
+    'Recording': 'api.recordings',
+    'record': 'api.recordings',
+    'Entry': 'api.reports',
+    'Report': 'api.reports',
+    'StateOutcome': 'api.reports',
+    'Refused': 'common.command',
+}
+__all__ = [
+    'check',
+    'CrashState',
+    'states',
+    'Recording',
+    'record',
+    'Entry',
+    'Report',
+    'StateOutcome',
+    'Refused',
+]
+
+
+def __getattr__(name: str) -> object:
+    """A public name; AttributeError for another one."""
+    if name not in PUBLIC:
+        raise AttributeError(f'module {__name__!r} has no attribute {name!r}')
+    from importlib import import_module
+
+    return getattr(import_module(f'{__name__}.{PUBLIC[name]}'), name)

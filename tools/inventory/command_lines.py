@@ -8,7 +8,7 @@ from dataclasses import dataclass
 from typing import Dict, List, Optional, Tuple
 
 from crashfs_tools.campaign import options as campaign_options
-from crashfs_tools.checker import options as check_options
+from crashfs_tools.checker import command_line as check_options
 from crashfs_tools.recorder import options as record_options
 
 from .sources import TOP

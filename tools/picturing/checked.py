@@ -5,20 +5,21 @@ from __future__ import annotations
 import os
 from typing import NamedTuple, Sequence
 
-from crashfs_tools.checker.options import read_options
-from crashfs_tools.checker.checking import Checking, Run
+from crashfs_tools.checker.command_line import read_options
+from crashfs_tools.checker.checked_trace import CheckedTrace
+from crashfs_tools.checker.checking import Check
 from crashfs_tools.common.entry import Entries
 from crashfs_tools.checker.findings.groups import Findings
 from crashfs_tools.common.guard import Guard
 from crashfs_tools.common.program import Crashfs
-from crashfs_tools.checker.report.report import Report
+from crashfs_tools.checker.report.report import CheckReport
 
 
 class Checked(NamedTuple):
     """What a check found, its report, and the files of the state that is shown."""
 
     findings: Findings
-    report: Report
+    report: CheckReport
     files: Entries
 
 
@@ -29,13 +30,13 @@ def checked(trace: str, command: Sequence[str]) -> Checked:
     options = read_options(words)
     program = Crashfs.find_or_read(None, unproved=True)
     with Guard('crashfs-picture-') as guard:
-        checking = Checking(options, program, guard)
-        run = Run(checking)
-        report, stop = run.run()
-        if stop is not None:
-            raise stop
-        planned = next(iter(checking.all_planned()))
-        assert run.window is not None
+        checked_trace = CheckedTrace(options, program, guard)
+        check = Check(checked_trace)
+        report, _, end = check.run()
+        if end is not None:
+            raise end
+        planned = next(iter(checked_trace.all_planned()))
+        assert check.last is not None
         state = report.groups()[0].example.number
-        files = checking.trying(planned).tree(state)
-    return Checked(run.window.findings, report, files)
+        files = checked_trace.trials(planned).tree(state)
+    return Checked(check.last.findings, report, files)

@@ -6,6 +6,7 @@ import textwrap
 from typing import Dict, List
 
 from crashfs_tools.checker.report.drawing import Drawing, drawing_of
+from crashfs_tools.checker.report.text import ReportText
 
 
 from .checked import Checked
@@ -133,7 +134,7 @@ def states_picture(checked: Checked) -> str:
     drawing = drawing_of(checked.findings)
     title = f'The crash states of {checked.report.head.trace}'
     picture = Picture(title, alternative(checked, drawing))
-    for line in textwrap.wrap(checked.report.summary(), COLUMNS):
+    for line in textwrap.wrap(ReportText(checked.report).summary(), COLUMNS):
         picture.line(line, 'title')
     draw_holes(picture, checked, drawing)
     draw_key(picture)
@@ -142,7 +143,7 @@ def states_picture(checked: Checked) -> str:
     picture.y += 8
     for line in textwrap.wrap(group.cause, COLUMNS):
         picture.line(line, 'title bad')
-    for detail in checked.report.details(group):
+    for detail in ReportText(checked.report).details(group):
         for line in textwrap.wrap(detail, COLUMNS, subsequent_indent='  '):
             picture.line(line)
     return picture.svg(STYLE)

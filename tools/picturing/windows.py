@@ -2,14 +2,13 @@
 
 from __future__ import annotations
 
-import os
 import tempfile
 import textwrap
 from pathlib import Path
 from typing import List, NamedTuple
 
-from crashfs_tools.checker.checking import Checking
-from crashfs_tools.checker.options import read_options
+from crashfs_tools.checker.checked_trace import CheckedTrace
+from crashfs_tools.checker.options import Options
 from crashfs_tools.common.guard import Guard
 from crashfs_tools.common.program import Crashfs
 
@@ -51,10 +50,10 @@ def windows_of_session() -> List[Window]:
     with tempfile.TemporaryDirectory() as folder, Guard('crashfs-picture-') as guard:
         trace = Path(folder, 'session.trace')
         trace.write_text(session(), 'utf-8')
-        words = ['--quick', '--window', str(LARGEST), str(trace), '--', os.devnull]
-        checking = Checking(read_options(words), Crashfs.find_or_read(None, unproved=True), guard)
-        for planned in checking.all_planned():
-            plan, begin = planned.plan, planned.before.operations
+        options = Options(str(trace), quick=True, window=LARGEST)
+        checked = CheckedTrace(options, Crashfs.find_or_read(None, unproved=True), guard)
+        for planned in checked.all_planned():
+            plan, begin = planned.plan, planned.offsets.operations
             creat = [at for at, one in enumerate(plan.operations) if one.kind == 'create_dir_entry']
             found.append(Window(begin, begin + len(plan.operations), [begin + at for at in creat]))
     return found

@@ -6,6 +6,7 @@ import unittest
 from crashfs_tools.checker.findings.advice import Advice, Tried
 from crashfs_tools.checker.findings.swaps import moved_lines
 from crashfs_tools.checker.findings.sync_points import sync_points
+from crashfs_tools.checker.report.text import ReportText
 from crashfs_tools.common.trace_text import read_text, with_syncs
 
 from .support import FAKE
@@ -88,7 +89,7 @@ class Said(unittest.TestCase):
         )
         self.assertEqual(report.groups()[0].advice.syncs, {2: '/', 4: '/'})
         synced = report_of(text + line('fsync', '/'), cause)
-        self.assertNotIn('never synced', ' '.join(synced.lines()))
+        self.assertNotIn('never synced', ' '.join(ReportText(synced).lines()))
 
 
 class Swapped(unittest.TestCase):

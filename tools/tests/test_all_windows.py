@@ -7,7 +7,8 @@ import unittest
 from types import SimpleNamespace
 from typing import Any, Set, Tuple
 
-from crashfs_tools.checker.report.counts import StateCounts
+from crashfs_tools.checker.report.counts import NO_ACCEPTED, StateCounts
+from crashfs_tools.checker.report.summary import Summary
 from crashfs_tools.checker.running.results import Head
 from crashfs_tools.checker.states.plan import AllStates
 from crashfs_tools.checker.states.planning import Planner
@@ -66,7 +67,7 @@ class AllWindows(InFolder):
             ([(2, 7)], '40 crash states of the windows: none fails'),
         ]:
             head = Head('t', '', [], cut_off=cut_off)
-            self.assertEqual(counts.summary(head), begin + text)
+            self.assertEqual(Summary(head, counts, NO_ACCEPTED).line, begin + text)
 
 
 if __name__ == '__main__':

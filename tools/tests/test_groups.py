@@ -5,7 +5,9 @@ import unittest
 
 from crashfs_tools.checker.findings.advice import Tried
 from crashfs_tools.checker.findings.groups import Findings
-from crashfs_tools.checker.report.report import WIDTH, Report
+from crashfs_tools.checker.report.report import CheckReport
+from crashfs_tools.checker.report.json_report import group_fields
+from crashfs_tools.checker.report.text import WIDTH, ReportText
 from crashfs_tools.checker.running.results import Head, Results
 from crashfs_tools.checker.running.runner import BAD, GOOD, Outcome
 from crashfs_tools.checker.states.plan import read_plan
@@ -72,7 +74,7 @@ def report_of(text, cause):
 
 
 def reported(findings):
-    report = Report(findings.head, has_json=True, has_page=True)
+    report = CheckReport(findings.head, has_json=True, has_page=True)
     report.add(findings)
     return report
 
@@ -181,7 +183,7 @@ class Groups(unittest.TestCase):
             text, lambda files, says: 'lost: f' if says and not files.get('/f') else ''
         )
         report, plan = reported(findings), findings.plan
-        whole = '\n'.join(report.lines())
+        whole = '\n'.join(ReportText(report).lines())
         for group in report.groups():
             lacking = [bin(plan.lacking(state)).count('1') for state in group.states]
             self.assertEqual(bin(plan.lacking(group.example)).count('1'), min(lacking))
@@ -195,9 +197,9 @@ class Groups(unittest.TestCase):
         report = report_of(
             text, lambda files, says: 'corrupt: f' if files.get('/f', b'x') != b'x' else ''
         )
-        self.assertIn('    line 6 is fsync /, which is not enough', report.lines())
-        self.assertNotIn('fsync /u,', ' '.join(report.lines()))
-        self.assertIn('    fsync /t between them', report.lines())
+        self.assertIn('    line 6 is fsync /, which is not enough', ReportText(report).lines())
+        self.assertNotIn('fsync /u,', ' '.join(ReportText(report).lines()))
+        self.assertIn('    fsync /t between them', ReportText(report).lines())
 
     def test_a_sync_belongs_before_the_first_rename_of_its_file(self):
         text = HEADER + line('creat', '/t') + rename('/t', '/a') + line('creat', '/t')
@@ -216,17 +218,20 @@ class Groups(unittest.TestCase):
         text = THIRD + line('creat', '/f', note='put (kv.py:8)') + line('say', text='a', note='ack')
         report = report_of(text, lambda files, says: 'lost: f' if says and not files else '')
         self.assertEqual(
-            [one.strip() for one in report.lines()[2:4]], ['line 2: put (kv.py:8)', 'line 3: ack']
+            [one.strip() for one in ReportText(report).lines()[2:4]],
+            ['line 2: put (kv.py:8)', 'line 3: ack'],
         )
 
     def test_notes_are_shown_in_the_order_of_their_lines_and_once(self):
         text = THIRD + line('creat', '/f', note='a') + line('fsync', '/')
         text += line('write', '/f', offset=0, bytes='aa' * 5000, note='b')
         empty = report_of(text, lambda files, says: 'empty' if files.get('/f') == b'' else '')
-        self.assertEqual([one.strip() for one in empty.lines()[2:4]], ['line 2: a', 'line 4: b'])
+        lines = [one.strip() for one in ReportText(empty).lines()]
+        self.assertEqual(lines[2:4], ['line 2: a', 'line 4: b'])
         torn = report_of(text, lambda files, says: 'torn' if b'\0' in files.get('/f', b'') else '')
         self.assertEqual(
-            [one.strip()[:9] for one in torn.lines()[2:5]], ['line 4: b', 'line 4 (w', 'no sync h']
+            [one.strip()[:9] for one in ReportText(torn).lines()[2:5]],
+            ['line 4: b', 'line 4 (w', 'no sync h'],
         )
 
     def test_a_torn_line_and_a_change_in_two_lines_are_told_as_such(self):
@@ -274,8 +279,8 @@ class Groups(unittest.TestCase):
         report = report_of(
             text, lambda files, says: 'lost: ' + 'as ' * 60 if says and not files else ''
         )
-        self.assertTrue(all(len(one) <= WIDTH for one in report.lines()[1:]))
-        self.assertIn(name, report.group_fields(report.groups()[0])['text'][0])
+        self.assertTrue(all(len(one) <= WIDTH for one in ReportText(report).lines()[1:]))
+        self.assertIn(name, group_fields(report, report.groups()[0])['text'][0])
 
     def test_a_cause_is_shown_as_it_is(self):
         text = HEADER + line('creat', '/f') + line('say', text='a')
@@ -283,7 +288,9 @@ class Groups(unittest.TestCase):
             text,
             lambda files, says: 'it was started as --force,  --x' if says and not files else '',
         )
-        self.assertTrue(report.lines()[1].startswith('  it was started as --force,  --x  '))
+        self.assertTrue(
+            ReportText(report).lines()[1].startswith('  it was started as --force,  --x  ')
+        )
 
 
 class Texts(unittest.TestCase):

@@ -1,6 +1,7 @@
 """The packages for Go, Rust and C++ that run crash states as tests. Each has an example store,
 whose test passes with its syncs and fails without them."""
 
+import json
 import os
 import shutil
 import subprocess
@@ -17,6 +18,18 @@ FOUND = (
     '(rename /config.new to /config) was not durable when line 5 acknowledged "version 1":',
     'the directory / is never synced: fsync it between them',
 )
+
+# The entry of the second sentence as a known failure, with its causes in the three examples.
+CAUSES = 'lost: there is no configuration', 'lost: a version that was saved is not there'
+ACCEPTED = [
+    {
+        'cause': cause,
+        'lost': 'rename /config.new to /config',
+        'kept': 'say',
+        'why': 'the example has this bug',
+    }
+    for cause in CAUSES
+]
 
 
 def needs(*programs):
@@ -48,13 +61,20 @@ class Helpers(unittest.TestCase):
         )
 
     def check(self, helper, *words, **variables):
-        """The example passes, and without its syncs each sentence of the report is printed."""
+        """The example passes. Without its syncs each sentence of the report is printed, but not the
+        one of a known failure."""
         ran = self.run_in(helper, *words, **variables)
         self.assertEqual(ran.returncode, 0, ran.stdout)
         ran = self.run_in(helper, *words, EXAMPLE_BUG='1', **variables)
         self.assertNotEqual(ran.returncode, 0)
         for sentence in FOUND:
             self.assertIn(sentence, ran.stdout)
+        known = self.folder / 'known.json'
+        known.write_text(json.dumps(ACCEPTED))
+        variables.update(EXAMPLE_BUG='1', EXAMPLE_ACCEPT=str(known))
+        accepted = self.run_in(helper, *words, **variables)
+        self.assertIn(FOUND[0], accepted.stdout)
+        self.assertNotIn(FOUND[1], accepted.stdout)
         return ran.stdout
 
     @needs('go')

@@ -10,7 +10,7 @@ from contextlib import contextmanager
 from unittest import mock
 
 from crashfs_tools.checker.running.runner import GOOD, NO_ANSWER
-from crashfs_tools.checker.running.workers import Workers
+from crashfs_tools.checker.running.workers import StateWorkers
 from crashfs_tools.checker.states.layout import Layout
 from crashfs_tools.common import descendants
 
@@ -132,7 +132,7 @@ class Reapers(InRuns):
     def outcomes_of(self, script, wanted, **more):
         outcomes = {}
         checker = self.checker(script, **more)
-        workers = Workers(checker, OneState(self.path('state')), 1, outcomes.__setitem__)
+        workers = StateWorkers(checker, OneState(self.path('state')), 1, outcomes.__setitem__)
         try:
             workers.run(set(wanted), dict.fromkeys(wanted, 0))
         finally:

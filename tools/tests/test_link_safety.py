@@ -5,7 +5,7 @@ import subprocess
 import unittest
 from unittest import mock
 
-from crashfs_tools.checker.running.runner import Says
+from crashfs_tools.checker.running.runner import AcknowledgedLines
 from crashfs_tools.checker.states import kept_tree
 from crashfs_tools.checker.states.kept_tree import KeptTree
 from crashfs_tools.checker.states.layout import lay_out
@@ -166,7 +166,7 @@ class Safety(InFolder):
                     os.symlink(self.outside, full)
 
     def test_acknowledged_lines_are_not_written_through_a_link(self):
-        says = Says(['one', 'two'], self.folder)
+        says = AcknowledgedLines(['one', 'two'], self.folder)
         self.assertEqual(self.read(says.path(2)), 'one\ntwo\n')
         self.assertEqual(self.read(says.path(1)), 'one\n')
         os.unlink(says.file)

@@ -9,7 +9,7 @@ import signal
 import unittest
 
 from crashfs_tools.checker.address import Address
-from crashfs_tools.checker.options import address
+from crashfs_tools.checker.command_line import address
 
 from .support import FAKE, PATIENCE, PYTHON_FOLDER
 from .test_check_command import InStore

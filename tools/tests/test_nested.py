@@ -7,7 +7,8 @@ from types import SimpleNamespace
 
 from crashfs_tools.checker.findings.nested import Nested
 from crashfs_tools.checker.findings.second_crashes import Recovery
-from crashfs_tools.checker.report.report import Report
+from crashfs_tools.checker.report.report import CheckReport
+from crashfs_tools.checker.report.text import ReportText
 from crashfs_tools.checker.running.results import Head, Results
 from crashfs_tools.checker.running.runner import BAD, GOOD, Outcome
 
@@ -107,9 +108,9 @@ class Counted(unittest.TestCase):
                 '2 recoveries: 1,001 different states of a second crash, 2 fail',
             ),
         ]:
-            report = Report(Head('a', '', []))
+            report = CheckReport(Head('a', '', []))
             report.recoveries = recoveries
-            self.assertEqual(report.lines()[1:], ['  ' + line])
+            self.assertEqual(ReportText(report).lines()[1:], ['  ' + line])
 
 
 class Chosen(unittest.TestCase):

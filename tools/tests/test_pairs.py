@@ -4,11 +4,12 @@ import unittest
 
 from crashfs_tools.checker.findings.groups import Findings
 from crashfs_tools.checker.findings.pairs import Pair, Pairs
-from crashfs_tools.checker.report.report import Report
+from crashfs_tools.checker.report.report import CheckReport
+from crashfs_tools.checker.report.text import ReportText
 from crashfs_tools.checker.running.results import Head, Results
 from crashfs_tools.checker.running.runner import BAD, GOOD, NO_ANSWER, Outcome
 from crashfs_tools.checker.states.plan import (
-    Before,
+    Offsets,
     MicroOperation,
     Needs,
     Plan,
@@ -86,7 +87,7 @@ class Listed(unittest.TestCase):
         self.assertEqual(plan.needs.masks, [0b1, 0b11])
 
     def test_a_window_has_the_numbers_places_says_and_lines_of_its_session(self):
-        plan = read_listed(LISTED, Before(100, 40, 7, (0, 11, 12, 0, 14, 15)))
+        plan = read_listed(LISTED, Offsets(100, 40, 7, (0, 11, 12, 0, 14, 15)))
         self.assertEqual(
             plan.operations[3], MicroOperation(43, 'move_dir_entry', '/a b', '/c\nd', 14)
         )
@@ -179,7 +180,7 @@ class Blame(unittest.TestCase):
 
 class Text(unittest.TestCase):
     def report(self, outcomes):
-        report = Report(Head('a.trace', '', [], lines=LINES))
+        report = CheckReport(Head('a.trace', '', [], lines=LINES))
         report.add(Findings(report.head, Results(read_plan(LISTED), outcomes), {}))
         return report
 
@@ -187,7 +188,7 @@ class Text(unittest.TestCase):
         outcomes = {state: Outcome(GOOD) for state in (0, 1, 2, 3, 4, 5, 8, 10)}
         report = self.report({**outcomes, 9: LOST, 1: LOST})
         self.assertEqual(
-            report.lines(),
+            ReportText(report).lines(),
             [
                 'a.trace: 5 micro-operations, 13 states, 9 different: '
                 '2 fail (4 of all 13 states): 2 lost',
@@ -209,7 +210,8 @@ class Text(unittest.TestCase):
     def test_no_answer_counts_more_than_a_failure(self):
         report = self.report({0: Outcome(NO_ANSWER, 'it had not ended'), 1: LOST})
         self.assertIn(
-            ': 1 of the 2 tried fails: 1 lost; 1 gave no answer; 7 not tried', report.summary()
+            ': 1 of the 2 tried fails: 1 lost; 1 gave no answer; 7 not tried',
+            ReportText(report).summary(),
         )
         self.assertEqual(report.status, 3)
         self.assertEqual(self.report({0: Outcome(GOOD)}).status, 3)

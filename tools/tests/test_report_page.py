@@ -11,6 +11,8 @@ from crashfs_tools.checker.findings.tree_diff import different_lines, nearest_go
 from crashfs_tools.checker.report.drawing import drawing_of
 from crashfs_tools.checker.report.junit import junit_lines
 from crashfs_tools.checker.report.page import page
+from crashfs_tools.checker.report.json_report import json_pieces
+from crashfs_tools.checker.report.text import ReportText
 from crashfs_tools.checker.running.runner import BAD, GOOD, NO_ANSWER, Outcome
 from crashfs_tools.checker.states.plan import Trial
 from crashfs_tools.common.entry import Entry
@@ -101,10 +103,10 @@ class Pages(unittest.TestCase):
         group = report.groups_of_windows[0][0]
         group.outcome = Outcome(BAD, 'lost: \x1b[31m\udcff', '\x1b[31m\n')
         shown = {
-            'report': '\n'.join(report.lines()),
+            'report': '\n'.join(ReportText(report).lines()),
             'page': ''.join(page(report)),
             'junit': ''.join(junit_lines(report)),
-            'json': ''.join(report.json_pieces()),
+            'json': ''.join(json_pieces(report)),
         }
         for name, text in shown.items():
             self.assertNotRegex(text, '[\x1b\x07\u202e]' if name != 'json' else '[\x1b\x07]', name)
@@ -179,7 +181,7 @@ class Differences(unittest.TestCase):
         text = ''.join(page(report))
         self.assertIn('and state 3, which is good', text)
         self.assertIn('<li>/&lt;b&gt; is only here</li>', text)
-        fields = json.loads(''.join(report.json_pieces()))
+        fields = json.loads(''.join(json_pieces(report)))
         self.assertEqual(fields['groups'][0]['differences'], ['/<b> is only here'])
 
 

@@ -7,7 +7,15 @@ import threading
 import unittest
 from unittest import mock
 
-from crashfs_tools.checker.running.runner import BAD, GOOD, NO_ANSWER, Checker, Over, Says
+from crashfs_tools.checker.running.recoveries import CommandRecovery
+from crashfs_tools.checker.running.runner import (
+    BAD,
+    GOOD,
+    NO_ANSWER,
+    AcknowledgedLines,
+    CheckEnded,
+    Checker,
+)
 
 from .support import FAKE, PATIENCE, TOOLS, InFolder
 from .test_check_command import InStore
@@ -19,9 +27,13 @@ FLOOD = 'it printed more than 16 MB'
 class InRuns(InFolder):
     def checker(self, script: str, **more) -> Checker:
         os.makedirs(self.path('state'), exist_ok=True)
-        says = Says(['one', 'zwölf', 'three'], self.temporary)
+        says = AcknowledgedLines(['one', 'zwölf', 'three'], self.temporary)
         return Checker(
-            ['/bin/sh', '-c', script], more.pop('timeout', PATIENCE), dict(os.environ), says, **more
+            CommandRecovery(['/bin/sh', '-c', script]),
+            more.pop('timeout', PATIENCE),
+            dict(os.environ),
+            says,
+            **more,
         )
 
     def run_once(self, script: str, says: int = 0, **more):
@@ -88,7 +100,7 @@ class Runs(InRuns):
                 side_effect=None if has_descriptors else OSError,
                 wraps=os.pidfd_open,
             ):
-                with self.assertRaises(Over):
+                with self.assertRaises(CheckEnded):
                     self.run_once('sleep 60', life=life)
             os.close(life)
 

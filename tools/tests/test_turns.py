@@ -12,7 +12,7 @@ from crashfs_tools.checker.running.pace import MEASURED, Pace, TooSlow
 from crashfs_tools.checker.running.progress import Progress
 from crashfs_tools.checker.running.results import Results
 from crashfs_tools.checker.running.runner import GOOD_OUTCOME
-from crashfs_tools.checker.running.trying import Trying
+from crashfs_tools.checker.running.trials import Trials, Workplace
 from crashfs_tools.checker.running.turns import family_turns, turns
 from crashfs_tools.checker.states.plan import Planned
 
@@ -25,7 +25,7 @@ MANY = HEADER + ''.join(creat(f'/{number}') for number in range(9)) + said('1')
 TORN = HEADER + creat('/a') + sync('/') + said('1') + write('/a', 6 * 4096) + said('2')
 
 
-class TriedNowhere(Trying):
+class TriedNowhere(Trials):
     """Gives each state an outcome without running anything."""
 
     def __init__(self, planned: Planned, seconds: float, **more: Any) -> None:
@@ -39,7 +39,7 @@ class TriedNowhere(Trying):
         )
         found: Any = options
         nothing: Any = None
-        super().__init__(found, planned, nothing, nothing, nothing, Progress())
+        super().__init__(Workplace(found, nothing, nothing, nothing, Progress()), planned)
         self.order: List[Set[int]] = []
 
     def layout(self, many: bool = False) -> Any:
@@ -94,12 +94,12 @@ class Order(Listing):
 
     def test_with_a_limit_families_come_first(self) -> None:
         planned = self.planned(MANY)
-        trying = TriedNowhere(planned, 1e9)
-        trying.options.time_limit = 5.0
+        trials = TriedNowhere(planned, 1e9)
+        trials.options.time_limit = 5.0
         results = Results(planned.plan)
-        trying.run(results)
-        self.assertEqual(trying.order, turns(results, are_all=True))
-        self.assertGreater(len(trying.order), 2)
+        trials.run(results)
+        self.assertEqual(trials.order, turns(results, are_all=True))
+        self.assertGreater(len(trials.order), 2)
 
 
 class Paces(unittest.TestCase):

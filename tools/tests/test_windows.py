@@ -6,9 +6,10 @@ from types import SimpleNamespace
 from unittest import mock
 
 from crashfs_tools.checker.findings.read_trees import entries_of
-from crashfs_tools.checker.report.report import Report
+from crashfs_tools.checker.report.report import CheckReport
+from crashfs_tools.checker.report.text import ReportText
 from crashfs_tools.checker.running.results import Head, Results, known_states
-from crashfs_tools.checker.states.plan import Before, Planned, places_of, read_plan
+from crashfs_tools.checker.states.plan import Offsets, Planned, places_of, read_plan
 from crashfs_tools.checker.states.planning import Planner
 from crashfs_tools.checker.states.steps import Session, Steps
 from crashfs_tools.checker.states.windows import Windows
@@ -227,9 +228,9 @@ class Cuts(InWindows):
             [(2, 7), (3, 6), (4, 5), (5, 4), (6, 7)],
         )
         lines = read_text(text).operations
-        report = Report(Head('a', '', [], lines=lines, cut_off=[(2, 7), (3, 6)]))
+        report = CheckReport(Head('a', '', [], lines=lines, cut_off=[(2, 7), (3, 6)]))
         self.assertEqual(
-            report.lines()[1:],
+            ReportText(report).lines()[1:],
             [
                 '  the loss of line 2 (creat /0) was tried for 7 later micro-operations only, '
                 'and so with 1 more line'
@@ -288,7 +289,7 @@ class Shown(InWindows):
     def test_progress_says_which_part_of_the_session_it_is(self):
         _, results = self.windows(log_of(12), 9)
         planned = [
-            Planned('', [], one.plan, Before(operations=one.plan.begin), is_last)
+            Planned('', [], one.plan, Offsets(operations=one.plan.begin), is_last)
             for one, is_last in ((results[0], False), (results[1], True))
         ]
         self.assertEqual(

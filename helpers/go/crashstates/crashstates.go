@@ -54,6 +54,10 @@ type entry struct {
 	Cause   string   `json:"cause"`
 	Text    []string `json:"text"`
 	Example int      `json:"example"`
+	// The known failure of --accept that the entry is, or nil.
+	Accepted *struct {
+		Why string `json:"why"`
+	} `json:"accepted"`
 }
 
 type report struct {
@@ -89,7 +93,8 @@ func Serve(session Session, recovery Recovery) {
 }
 
 // Check records the session and runs the recovery in its crash states. Each entry of the report is
-// a subtest that fails. The options are those of crashfs-check, such as "--quick".
+// a subtest that fails, or is skipped if it is a known failure. The options are those of
+// crashfs-check, such as "--accept", "known.json".
 func Check(t *testing.T, options ...string) {
 	t.Helper()
 	directory := t.TempDir()
@@ -112,6 +117,9 @@ func Check(t *testing.T, options ...string) {
 		for _, found := range read(t, written).Entries {
 			found := found
 			t.Run(found.Cause, func(t *testing.T) {
+				if found.Accepted != nil {
+					t.Skip("accepted: " + found.Accepted.Why)
+				}
 				t.Errorf("%s\nstate %d of %s", strings.Join(found.Text, "\n"), found.Example, kept)
 			})
 		}

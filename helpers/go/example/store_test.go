@@ -44,5 +44,9 @@ func TestMain(m *testing.M) {
 }
 
 func TestCrashStates(t *testing.T) {
-	crashstates.Check(t)
+	var options []string
+	if known := os.Getenv("EXAMPLE_ACCEPT"); known != "" {
+		options = []string{"--accept", known}
+	}
+	crashstates.Check(t, options...)
 }

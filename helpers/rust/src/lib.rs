@@ -49,6 +49,16 @@ pub type Recovery = fn(&Path, &[String]) -> Result<(), String>;
 ///
 /// If a state fails, with each entry of the report; or if nothing can be recorded or checked.
 pub fn check(test: &str, session: Session, recovery: Recovery) {
+    check_with(test, session, recovery, &[]);
+}
+
+/// The same with options of `crashfs-check`, such as `&["--accept", "known.json"]`. Files are
+/// relative to the package's folder.
+///
+/// # Panics
+///
+/// If a state fails that is no known failure; or if nothing can be recorded or checked.
+pub fn check_with(test: &str, session: Session, recovery: Recovery, options: &[&str]) {
     match env::var(ROLE).as_deref() {
         Ok("session") => end(run_session(session).map_err(|error| error.to_string())),
         Ok("recovery") => end(run_recovery(recovery)),
@@ -59,7 +69,7 @@ pub fn check(test: &str, session: Session, recovery: Recovery) {
         process::id(),
         test.replace(':', "-")
     ));
-    let failures = failures_in(&room, test).unwrap_or_else(|error| panic!("{error}"));
+    let failures = failures_in(&room, test, options).unwrap_or_else(|error| panic!("{error}"));
     if failures.is_empty() {
         fs::remove_dir_all(&room).unwrap_or_else(|error| panic!("{}: {error}", room.display()));
         return;
@@ -72,7 +82,7 @@ pub fn check(test: &str, session: Session, recovery: Recovery) {
 }
 
 /// Records and checks in this new directory; a text for each entry of the report.
-fn failures_in(room: &Path, test: &str) -> Result<Vec<String>, String> {
+fn failures_in(room: &Path, test: &str, options: &[&str]) -> Result<Vec<String>, String> {
     let (store, trace, report) = (
         room.join("store"),
         room.join("session.trace"),
@@ -95,6 +105,7 @@ fn failures_in(room: &Path, test: &str) -> Result<Vec<String>, String> {
     check
         .arg("--json")
         .arg(&report)
+        .args(options)
         .arg(&trace)
         .arg("--")
         .arg(&itself)
@@ -109,7 +120,13 @@ fn entries_of(report: &Value) -> Option<Vec<String>> {
     VERSIONS
         .contains(&report.get("crashfs-check")?.number()?)
         .then_some(())?;
-    report.get("groups")?.list()?.iter().map(text_of).collect()
+    let entries = report.get("groups")?.list()?.iter();
+    entries.filter(|it| !is_accepted(it)).map(text_of).collect()
+}
+
+/// Whether an entry is a known failure of `--accept`.
+fn is_accepted(entry: &Value) -> bool {
+    matches!(entry.get("accepted"), Some(Value::Object(_)))
 }
 
 fn text_of(entry: &Value) -> Option<String> {

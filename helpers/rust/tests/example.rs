@@ -50,5 +50,7 @@ fn recovery(directory: &Path, acknowledged: &[String]) -> Result<(), String> {
 
 #[test]
 fn every_crash_state() {
-    crash_states::check("every_crash_state", session, recovery);
+    let known = env::var("EXAMPLE_ACCEPT").ok();
+    let options: Vec<&str> = known.iter().flat_map(|file| ["--accept", file]).collect();
+    crash_states::check_with("every_crash_state", session, recovery, &options);
 }

@@ -1,68 +1,64 @@
-"""The command crashfs-check. What few checks need is imported where they need it: it takes as long
-as many states."""
+"""The command crashfs-check: the interface of the package, by a command line. What few checks need
+is imported where they need it: it takes as long as many states."""
 
 from __future__ import annotations
 
 import os
-import stat
 import sys
 import tempfile
 from functools import reduce
 from operator import and_
 from typing import Dict, List, Optional
 
-from crashfs_tools.checker.report.report import NOT_ALL_TRIED, Report
+from crashfs_tools.api.checks import run_check
+from crashfs_tools.api.reports import Report
+from crashfs_tools.checker.report.report import NOT_ALL_TRIED
+from crashfs_tools.checker.running.progress import Progress
 from crashfs_tools.checker.running.runner import keep_descriptors
 from crashfs_tools.checker.states.plan import PlanError
 from crashfs_tools.common.command import (
     Refused,
     folder_to_write,
-    with_program_path,
     print_line,
     standard_output,
-    write_whole,
 )
 from crashfs_tools.common.guard import Guard, Stopped, stop_by_exception
 from crashfs_tools.common.own_faults import run_guarded
 from crashfs_tools.common.printable import print_utf8
-from crashfs_tools.common.program import Crashfs, ProgramFault
+from crashfs_tools.common.program import ProgramFault
 
-from .checking import Checking, Interrupted, Run
-from .options import NAME, Options, read_options
+from .checking import Interrupted, refuse_unreadable
+from .command_line import read_options
+from .options import NAME, Options
 
 BAD_INPUT = 2
 
 
-def check(options: Options) -> int:
+def run_command(options: Options) -> int:
+    """Does what the options ask for, and returns the status."""
     refuse_outputs(options)
     if options.merge is not None:
-        from .merging import merged_report
-
-        if options.trace is not None:
-            refuse_unreadable(options.trace)
-        return finish(options, merged_report(options), mode_of_reports(options.merge))
-    refuse_unreadable(options.trace or '')
-    if options.disks is not None:
-        from crashfs_tools.disks.filesystems import need
-
-        need(options.disks)
-    program = Crashfs.find_or_read(options.crashfs, options.unproved)
-    options.command = with_program_path(options.command)
+        return finish(options, merged(options))
     keep_descriptors()
-    with Guard('crashfs-check-') as guard:
-        checking = Checking(options, program, guard)
-        try:
-            if options.state is not None:
-                from .show_state import show_state
+    with Guard(f'{NAME}-') as guard:
+        if options.state is not None:
+            from .show_state import show_state
 
-                return show_state(checking, *options.state)
-            report, end = Run(checking).run()
-        except ProgramFault as fault:
-            raise checking.planner.refused('tar', fault) from fault
-    status = finish(options, report, checking.mode)
-    if end is not None:
-        raise end
+            return show_state(options, guard)
+        checked = run_check(options, guard, Progress())
+    status = finish(options, checked.report)
+    if checked.end is not None:
+        raise checked.end
     return status
+
+
+def merged(options: Options) -> Report:
+    """The report of --merge."""
+    from .merging import merged_report
+
+    if options.trace is not None:
+        refuse_unreadable(options.trace)
+    return Report(merged_report(options), mode_of_reports(options.merge or []))
 
 
 def refuse_outputs(options: Options) -> None:
@@ -82,62 +78,44 @@ def outputs_of(options: Options) -> Dict[str, str]:
     return {name: path for name, path in outputs.items() if path is not None}
 
 
-def refuse_unreadable(trace: str) -> None:
-    """Refuses a trace that can't be read, or is a device; a pipe isn't opened, it is read once."""
-    try:
-        mode = os.stat(trace).st_mode
-        if stat.S_ISREG(mode):
-            with open(trace, 'rb'):
-                return
-        if not stat.S_ISFIFO(mode):
-            raise Refused(f'{trace} is no file')
-    except OSError as error:
-        raise Refused(f'{trace}: {error.strerror}') from error
-
-
 def mode_of_reports(paths: List[str]) -> int:
     """Who may read a report of others: those who may read them all."""
     return reduce(and_, (0o600 | os.stat(path).st_mode & 0o066 for path in paths))
 
 
-def finish(options: Options, report: Report, mode: int) -> int:
+def finish(options: Options, report: Report) -> int:
     """Writes the files and then prints the report; it prints it also if a file can't be written. If
     standard output has a file, the report goes to standard error."""
     fault = None
     try:
-        write_files(options, report, mode)
+        write_files(options, report)
     except OSError as error:
         fault = error
-    text = '\n'.join(report.lines())
     if '-' in outputs_of(options).values():
-        print(text, file=sys.stderr)
+        print(report, file=sys.stderr)
     else:
         with standard_output():
-            print(text)
+            print(report)
     if fault is not None:
         raise fault
     return report.status
 
 
-def write_files(options: Options, report: Report, mode: int) -> None:
+def write_files(options: Options, report: Report) -> None:
     if options.json is not None:
-        write_whole(options.json, report.json_pieces(), mode)
+        report.write_json(options.json)
     if options.junit is not None:
-        from crashfs_tools.checker.report.junit import junit_lines
-
-        write_whole(options.junit, junit_lines(report), mode)
+        report.write_junit(options.junit)
     if options.html is not None:
-        from crashfs_tools.checker.report.page import page
-
-        write_whole(options.html, page(report), mode)
+        report.write_html(options.html)
 
 
-def run_check(arguments: List[str]) -> int:
-    """Runs a check. A fault that somebody else can mend is in a line that names it."""
+def run_reported(arguments: List[str]) -> int:
+    """Runs the command. A fault that somebody else can mend is in a line that names it."""
     options = read_options(arguments)
     stop_by_exception()
     try:
-        return check(options)
+        return run_command(options)
     except Stopped as stopped:
         print_line(NAME, f'stopped by {stopped}')
         return stopped.status
@@ -166,4 +144,4 @@ def print_fault(fault: Optional[BaseException]) -> None:
 def main(arguments: Optional[List[str]] = None) -> int:
     words = sys.argv[1:] if arguments is None else arguments
     print_utf8()
-    return run_guarded(NAME, lambda: run_check(words), NOT_ALL_TRIED)
+    return run_guarded(NAME, lambda: run_reported(words), NOT_ALL_TRIED)

@@ -5,48 +5,57 @@ from __future__ import annotations
 from typing import Dict, Optional
 
 from crashfs_tools.checker.findings.groups import Findings
+from crashfs_tools.checker.findings.accepted_failures import AcceptedFailures
 from crashfs_tools.checker.findings.tree_diff import find_differences
-from crashfs_tools.checker.report.report import Report
-from crashfs_tools.checker.running.results import AllResults, Results, merged
+from crashfs_tools.checker.report.report import CheckReport
+from crashfs_tools.checker.running.results import AllResults, Head, Results, merged
 from crashfs_tools.checker.running.read_results import read_json
 from crashfs_tools.checker.running.runner import Outcome
 from crashfs_tools.common.command import Refused
 from crashfs_tools.common.guard import Guard
 from crashfs_tools.common.program import Crashfs
 
-from .checking import Checking
-from .options import Options
+from .checked_trace import CheckedTrace
+from .options import NAME, Options
 
 OTHER_TRACE = 'that is not the trace of the reports'
 OTHER_PLAN = (
-    'the trace has other states than the reports: give the options that they were made ' 'with'
+    'the trace has other states than the reports: give the options that they were made with'
 )
 
 
-def merged_report(options: Options) -> Report:
+def new_report(head: Head, options: Options) -> CheckReport:
+    """A report without findings, with the known failures of --accept."""
+    known = AcceptedFailures.read(options.accept) if options.accept else None
+    return CheckReport(head, options.json is not None, options.html is not None, known)
+
+
+def merged_report(options: Options) -> CheckReport:
     """The report; how files differ is in it if the trace is given, of which trees are made."""
     results = merged([read_json(path) for path in options.merge or []])
     if options.trace is None:
         return report_of(options, results)
     program = Crashfs.find_or_read(options.crashfs, options.unproved)
-    with Guard('crashfs-check-') as guard:
-        checking = Checking(options, program, guard)
-        if checking.head().digest != results.head.digest:
+    with Guard(f'{NAME}-') as guard:
+        trace = CheckedTrace(options, program, guard)
+        if trace.head().digest != results.head.digest:
             raise Refused(f'{options.trace}: {OTHER_TRACE}')
-        return report_of(options, results, checking)
+        return report_of(options, results, trace)
 
 
-def report_of(options: Options, results: AllResults, checking: Optional[Checking] = None) -> Report:
-    report = Report(results.head, options.json is not None, options.html is not None)
+def report_of(
+    options: Options, results: AllResults, trace: Optional[CheckedTrace] = None
+) -> CheckReport:
+    report = new_report(results.head, options)
     outcomes: Dict[int, Outcome] = {}
-    planned = checking.all_planned() if checking else None
+    planned = trace.all_planned() if trace else None
     for window in results.windows:
         findings = Findings(results.head, window, outcomes)
         outcomes = findings.by_state
         report.add(findings)
-        if checking is not None and planned is not None:
+        if trace is not None and planned is not None:
             one = next(planned)
             if Results(one.plan).identity() != window.identity():
                 raise Refused(OTHER_PLAN)
-            find_differences(checking.trying(one), findings)
+            find_differences(trace.trials(one), findings)
     return report

@@ -11,7 +11,7 @@ import signal
 import time
 from typing import AbstractSet, Callable, Dict, Iterator, Set
 
-PR_SET_CHILD_SUBREAPER = 36
+PR_SET_PDEATHSIG, PR_SET_CHILD_SUBREAPER = 1, 36
 # The name of a process that cleans up behind another one, and then ends by itself.
 CLEANER = 'crashfs-guard'
 CLEANING_SECONDS = 5.0
@@ -22,6 +22,17 @@ PAUSE_SECONDS = 0.0005
 
 class NoReaper(Exception):
     """The system doesn't make this process a reaper."""
+
+
+def die_with_parent() -> None:
+    """From here on this process is killed when the thread that started it ends, if the system can
+    do that."""
+    try:
+        import ctypes
+
+        ctypes.CDLL(None).prctl(PR_SET_PDEATHSIG, signal.SIGKILL, 0, 0, 0)
+    except (ImportError, OSError, AttributeError):
+        pass
 
 
 def become_reaper() -> None:

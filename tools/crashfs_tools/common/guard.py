@@ -27,11 +27,13 @@ STOPS = (signal.SIGINT, signal.SIGTERM, signal.SIGHUP)
 
 class Guard:
     """Used by `with`. Start processes with `environment`, and put files below `directory`, which is
-    made in `folder`, or where temporary files are."""
+    made in `folder`, or where temporary files are. A guard that is no reaper leaves other children
+    of this process alone."""
 
-    def __init__(self, prefix: str, folder: Optional[str] = None) -> None:
+    def __init__(self, prefix: str, folder: Optional[str] = None, is_reaper: bool = True) -> None:
         self.prefix = prefix
         self.folder = folder
+        self.may_reap = is_reaper
         self.token = os.urandom(16).hex()
         self.directory = ''
         self.is_reaper = False
@@ -47,7 +49,7 @@ class Guard:
             name = error.filename or 'temporary files'
             raise OSError(error.errno, error.strerror, name) from error
         self.report_other_place()
-        self.is_reaper = is_reaper_now()
+        self.is_reaper = self.may_reap and is_reaper_now()
         waiting, self.alive = os.pipe()
         # A signal waits meanwhile: it must not reach the second process before that ignores it.
         before = signal.pthread_sigmask(signal.SIG_BLOCK, STOPS)

@@ -9,16 +9,16 @@ import re
 import select
 import shutil
 import subprocess
-import sys
 import tempfile
 from contextlib import contextmanager
 from functools import cached_property
 from itertools import groupby
-from typing import Any, Dict, FrozenSet, Iterator, List, Optional, Tuple
+from typing import Any, Dict, FrozenSet, Iterator, List, Optional, Tuple, Union
 
 from .archive import ArchiveFault, Member, members
 from .command import Refused, ending_text
 from .entry import Entries
+from .forked_reading import ForkedReading
 
 PACKAGE = os.path.dirname(os.path.dirname(os.path.realpath(__file__)))
 LIBRARY = os.path.dirname(PACKAGE)
@@ -45,6 +45,9 @@ TOO_LARGE = ('plan too large', 'too many micro-operations')
 def can_be_built() -> bool:
     """Whether these tools are those of a clone, which has `tools/build`; installed ones haven't."""
     return os.access(BUILDER, os.X_OK) and os.path.isdir(os.path.join(TOP, 'crates'))
+
+
+RunningProgram = Union['subprocess.Popen[bytes]', ForkedReading]
 
 
 class ProgramFault(Exception):
@@ -135,14 +138,14 @@ class Crashfs:
             raise ProgramFault(child.returncode, error_text)
         return out.decode('utf-8', 'surrogateescape')
 
-    def start(
-        self, words: List[str], environment: Optional[Dict[str, str]]
-    ) -> subprocess.Popen[bytes]:
-        """Starts the program, or the second reading; ProgramFault if it can't be started."""
-        interpreter = [sys.executable, '-S'] if self.unproved else []
+    def start(self, words: List[str], environment: Optional[Dict[str, str]]) -> RunningProgram:
+        """Starts a command, the second reading without another Python. ProgramFault if it can't be
+        started."""
+        if os.path.realpath(self.path) == READING:
+            return ForkedReading(words)
         try:
             return subprocess.Popen(
-                [*interpreter, self.path, *words],
+                [self.path, *words],
                 stdin=subprocess.DEVNULL,
                 stdout=subprocess.PIPE,
                 stderr=subprocess.PIPE,
@@ -260,7 +263,7 @@ class Streams(io.RawIOBase):
         return bool(piece)
 
 
-def read_to_end(child: subprocess.Popen[bytes], streams: Streams) -> bytes:
+def read_to_end(child: RunningProgram, streams: Streams) -> bytes:
     """Waits for a program's end, so that it can write all; the end of what it printed as an
     error."""
     assert child.stdout is not None and child.stderr is not None

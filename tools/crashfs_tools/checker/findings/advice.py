@@ -12,7 +12,7 @@ from .sync_points import Places, is_synced, sync_points
 ATOMIC = 'write a new file, sync it, rename it, sync the directory'
 ONE_CHANGE = f'no sync helps: make these lines one change ({ATOMIC})'
 NOT_REPRODUCIBLE = (
-    'not reproducible: 1 of 2 runs failed',
+    'not reproducible: another run passed',
     'does COMMAND share a port or a place with other runs? (try --jobs 1)',
 )
 

@@ -7,8 +7,8 @@ from typing import Dict, FrozenSet, Iterable, List, NamedTuple, Optional, Set, T
 
 from crashfs_tools.checker.running.results import Results
 from crashfs_tools.checker.running.runner import GOOD, Outcome
-from crashfs_tools.checker.running.trying import Trying
-from crashfs_tools.checker.states.plan import Before, Plan, Planned, Trial
+from crashfs_tools.checker.running.trials import Trials
+from crashfs_tools.checker.states.plan import Offsets, Plan, Planned, Trial
 from crashfs_tools.checker.states.planning import Planner
 from crashfs_tools.common.command import TEXT
 from crashfs_tools.common.trace_text import with_syncs
@@ -33,19 +33,19 @@ class SyncedCopy(NamedTuple):
     keys: Set[object]
 
 
-def add_details(trying: Trying, planner: Planner, findings: Findings) -> None:
+def add_details(trials: Trials, planner: Planner, findings: Findings) -> None:
     """Adds to the groups how files differ, and the results of their advice."""
-    find_differences(trying, findings)
-    add_swaps(trying, planner, findings)
-    AdviceTrials(trying, planner, findings).run()
+    find_differences(trials, findings)
+    add_swaps(trials, planner, findings)
+    AdviceTrials(trials, planner, findings).run()
 
 
 class AdviceTrials:
     """Tries the advice of the largest groups, then all advised syncs at once. A set of
     micro-operations that was tried before is not tried again."""
 
-    def __init__(self, trying: Trying, planner: Planner, findings: Findings) -> None:
-        self.trying = trying
+    def __init__(self, trials: Trials, planner: Planner, findings: Findings) -> None:
+        self.trials = trials
         self.planner = planner
         self.findings = findings
         self.kept = findings.plan.kept
@@ -54,7 +54,7 @@ class AdviceTrials:
         }
         self.before = count_failing(findings.plan, self.known)
         # The copies have the same micro-operations.
-        self.equal = equal_sets(trying.planned, findings)
+        self.equal = equal_sets(trials.planned, findings)
         every = findings.plan.all_states
         self.has_all = every is not None and every.are_listed
 
@@ -106,18 +106,18 @@ class AdviceTrials:
 
     def copy(self, points: Points) -> SyncedCopy:
         """A copy of the trace that has these syncs."""
-        planned = self.trying.planned
+        planned = self.trials.planned
         with open(planned.trace, **TEXT) as file:
             text = file.read()
         own = [
             (line, path)
             for number, path in points
-            for line in planned.before.own_lines({number: path})
+            for line in planned.offsets.own_lines({number: path})
         ]
-        path = os.path.join(self.trying.guard.directory, 'advice.trace')
+        path = os.path.join(self.trials.guard.directory, 'advice.trace')
         with open(path, 'w', **TEXT) as file:
             file.write(with_syncs(text, own))
-        copy = self.planner.plan(path, Before(says=planned.before.says))
+        copy = self.planner.plan(path, Offsets(says=planned.offsets.says))
         plan = copy.plan
         keys = {self.key(plan.kept[one.number]) for one in plan.states} if self.has_all else set()
         return SyncedCopy(copy, keys)
@@ -137,7 +137,7 @@ class AdviceTrials:
 
     def try_states(self, planned: Planned) -> None:
         """Tries the states of a copy; known has the outcome of each set afterwards."""
-        copy = self.trying.with_plan(planned)
+        copy = self.trials.with_plan(planned)
         plan = planned.plan
         found: Dict[Trial, Outcome] = {}
         for state in plan.states:

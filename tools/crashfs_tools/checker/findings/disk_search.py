@@ -9,7 +9,7 @@ from dataclasses import dataclass
 from typing import Callable, Dict, Iterator, List, NamedTuple, Optional, Sequence, Set, Tuple
 
 from crashfs_tools.checker.running.runner import GOOD, Outcome
-from crashfs_tools.checker.running.trying import Trying
+from crashfs_tools.checker.running.trials import Trials
 from crashfs_tools.checker.states.layout import lay_out
 from crashfs_tools.common.archive import Member
 from crashfs_tools.common.entry import Entries
@@ -48,23 +48,25 @@ class DiskTree:
     crashes: Dict[str, Crash]
 
 
-def sightings_of(trying: Trying, by_state: Dict[int, Outcome]) -> Sightings:
+def sightings_of(trials: Trials, by_state: Dict[int, Outcome]) -> Sightings:
     """Makes the session again on the file systems of --disks. Images are in memory if there is room
     for them: a crash is then taken in a fraction of a second."""
-    with open(trying.planned.trace, 'rb') as file:
+    with open(trials.planned.trace, 'rb') as file:
         text = file.read()
     trace = read_trace(text.decode('utf-8', 'surrogateescape'))
     size = bytes_written(trace)
-    filesystems = [with_room(one, size) for one in named(trying.options.disks or [])]
-    room = IMAGES * processes(trying) * sum(one.size for one in filesystems)
+    filesystems = [with_room(one, size) for one in named(trials.options.disks or [])]
+    room = IMAGES * processes(trials) * sum(one.size for one in filesystems)
     with Guard('crashfs-disks-', MEMORY if has_room(MEMORY, room) else None) as guard:
-        search = Search(trying, by_state, text)
-        return search.run(DiskPool(filesystems, trace, guard.directory), trying.progress.note)
+        search = Search(trials, by_state, text)
+        return search.run(
+            DiskPool(filesystems, trace, guard.directory), trials.workplace.progress.note
+        )
 
 
-def processes(trying: Trying) -> int:
+def processes(trials: Trials) -> int:
     """How many processes make disks: most of the time they wait for a mount."""
-    return DISKS_AT_ONCE * trying.options.jobs
+    return DISKS_AT_ONCE * trials.options.jobs
 
 
 def has_room(folder: str, size: int) -> bool:
@@ -80,14 +82,14 @@ class Search:
     """Makes the session again, and looks for each disk. by_state has the outcomes of states, trace
     is the trace's text."""
 
-    def __init__(self, trying: Trying, by_state: Dict[int, Outcome], trace: bytes) -> None:
-        self.trying = trying
+    def __init__(self, trials: Trials, by_state: Dict[int, Outcome], trace: bytes) -> None:
+        self.trials = trials
         self.by_state = by_state
         self.trace = trace
-        self.checker = trying.checker()
+        self.checker = trials.checker()
 
     def run(self, pool: DiskPool, on_step: Callable[[int, int], None]) -> Sightings:
-        disks = pool.disks(processes(self.trying), on_step)
+        disks = pool.disks(processes(self.trials), on_step)
         found = Sightings(list(disks))
         for name, different in disks.items():
             found.crashes[name] = sum(len(one.crashes) for one in different)
@@ -117,11 +119,11 @@ class Search:
 
     def states_by_tree(self) -> Dict[TreeAndCount, List[int]]:
         """The listed states by what they leave."""
-        planned = self.trying.planned
+        planned = self.trials.planned
         digests: Dict[int, str] = {}
         firsts = {state.same for state in planned.plan.listed}
         for request in planned.requests(firsts):
-            trees = self.trying.program.trees(request.words, self.trying.guard.environment)
+            trees = self.trials.program.trees(request.words, self.trials.guard.environment)
             digests.update((own + request.lead, digest_of(tree)) for own, tree in trees)
         found: Dict[TreeAndCount, List[int]] = {}
         for state in planned.plan.listed:
@@ -134,10 +136,10 @@ class Search:
 
     def run_in(self, one: DiskTree) -> Outcome:
         """Runs COMMAND in a tree that is no listed state: CRASHFS_STATE is a number past them."""
-        directory = os.path.join(self.trying.guard.directory, 'disk')
+        directory = os.path.join(self.trials.guard.directory, 'disk')
         lay_out(directory, members_of(one.tree))
         try:
-            plan = self.trying.plan
+            plan = self.trials.plan
             return self.checker.run(plan.first + len(plan.listed), one.says, directory)
         finally:
             remove_tree(directory)

@@ -20,6 +20,7 @@ from .advice import (
     swap_text,
     torn_advice,
 )
+from .accepted_failures import AcceptedFailure, operation_text
 from .pairs import Loss, Pair, Pairs
 from .sync_points import Places, never_synced_directory
 from .torn import kept_part
@@ -63,7 +64,8 @@ class Group:
     result of another order of the two lines, and overwrites says whether the kept line overwrites
     bytes in use. is_covered says whether the advice of larger groups removes all states. under has
     for each profile those of tried that a crash may leave by its rules, and explained those that
-    lack the lost operation and have the kept one."""
+    lack the lost operation and have the kept one. accepted is the known failure that the group is;
+    expired is one whose last day has passed."""
 
     outcome: Outcome
     example: State
@@ -85,6 +87,8 @@ class Group:
     overwrites: bool = False
     is_covered: bool = False
     under: Dict[str, FrozenSet[Tuple[int, ...]]] = field(default_factory=dict)
+    accepted: Optional[AcceptedFailure] = None
+    expired: Optional[AcceptedFailure] = None
     explained: FrozenSet[Tuple[int, ...]] = frozenset()
 
     @property
@@ -99,6 +103,11 @@ class Group:
     @property
     def result(self) -> str:
         return self.outcome.result
+
+    @property
+    def as_known(self) -> AcceptedFailure:
+        """The group as a file of known failures names it."""
+        return AcceptedFailure(self.cause, operation_text(self.lost), operation_text(self.kept), '')
 
     @property
     def is_reproducible(self) -> bool:

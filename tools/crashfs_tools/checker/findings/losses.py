@@ -11,7 +11,7 @@ from __future__ import annotations
 from typing import Dict, Generator, Iterator, List, NamedTuple, Optional
 
 from crashfs_tools.checker.running.runner import Outcome
-from crashfs_tools.checker.running.trying import Trying
+from crashfs_tools.checker.running.trials import Trials
 from crashfs_tools.checker.states.plan import Plan, State, places_of, set_of
 from crashfs_tools.checker.states.planning import Planner
 
@@ -42,10 +42,10 @@ class Lines(NamedTuple):
         return Lines([sets[line] for line in sorted(sets)])
 
 
-def find_losses(trying: Trying, planner: Planner, findings: Findings) -> None:
+def find_losses(trials: Trials, planner: Planner, findings: Findings) -> None:
     """Finds the smallest loss of each entry's example whose pair is a guess. Other states that lack
     the same and keep the same get the same pair."""
-    searched, equal = 0, equal_sets(trying.planned, findings)
+    searched, equal = 0, equal_sets(trials.planned, findings)
     every = findings.plan.all_states
     most = SEARCHED_OF_ALL if every is not None and every.are_listed else SEARCHED
     while searched < most:
@@ -58,7 +58,7 @@ def find_losses(trying: Trying, planner: Planner, findings: Findings) -> None:
             return
         examples = examples[: most - searched]
         searched += len(examples)
-        found = Searches(trying, planner, findings, equal).run(examples)
+        found = Searches(trials, planner, findings, equal).run(examples)
         findings.take_losses(found)
 
 
@@ -67,12 +67,12 @@ class Searches:
 
     def __init__(
         self,
-        trying: Trying,
+        trials: Trials,
         planner: Planner,
         findings: Findings,
         equal: Optional[EqualSets] = None,
     ) -> None:
-        self.trying = trying
+        self.trials = trials
         self.planner = planner
         self.findings = findings
         self.equal = equal
@@ -133,7 +133,7 @@ class Searches:
         return self.findings.pairs.are_alike(self.findings.by_state[number], outcome)
 
     def try_sets(self, sets: List[int]) -> None:
-        planned = self.planner.plan_of_sets(self.trying.planned, sets)
+        planned = self.planner.plan_of_sets(self.trials.planned, sets)
         numbers = {
             planned.plan.kept[state.number]: state.number for state in reversed(planned.plan.states)
         }
@@ -142,7 +142,7 @@ class Searches:
         def on_outcome(number: int, outcome: Outcome) -> None:
             self.known[of_number[number]] = outcome
 
-        self.trying.with_plan(planned).try_states(set(of_number), on_outcome)
+        self.trials.with_plan(planned).try_states(set(of_number), on_outcome)
 
 
 class EndSearch(Exception):

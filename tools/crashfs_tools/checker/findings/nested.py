@@ -10,8 +10,8 @@ from typing import Iterator, List, Optional, Set, Tuple
 
 from crashfs_tools.checker.running.results import Head, Results
 from crashfs_tools.checker.running.runner import GOOD, Outcome
-from crashfs_tools.checker.running.trying import Trying
-from crashfs_tools.checker.states.plan import Before, State
+from crashfs_tools.checker.running.trials import Trials
+from crashfs_tools.checker.states.plan import Offsets, State
 from crashfs_tools.checker.states.planning import Planner, TooLarge
 from crashfs_tools.common.command import TEXT, Refused
 from crashfs_tools.common.program import LIBRARY
@@ -36,16 +36,16 @@ SLOWER = 10
 class Recorder:
     """Records COMMAND in a state, in a trace without its own lines: they acknowledge nothing."""
 
-    def __init__(self, trying: Trying) -> None:
-        self.trying = trying
-        self.guard = trying.guard
+    def __init__(self, trials: Trials) -> None:
+        self.trials = trials
+        self.guard = trials.guard
 
-    def recovery(self, state: State) -> Trying:
+    def recovery(self, state: State) -> Trials:
         """Where states of the recovery are tried; Refused if it can't be recorded, or is too long.
         It may need a trace of another version than the session."""
         folder = os.path.join(self.guard.directory, f'recovery-{state.number}')
         os.mkdir(folder)
-        ((_, directory),) = self.trying.archive(folder).states({state.number})
+        ((_, directory),) = self.trials.archive(folder).states({state.number})
         trace = os.path.join(folder, f'recovery-{state.number}.trace')
         self.record(state, directory, trace)
         remove_tree(directory)
@@ -53,12 +53,12 @@ class Recorder:
             text = without_says(file.read())
         with open(trace, 'w', **TEXT) as file:
             file.write(text)
-        program = self.trying.program.for_version(version_of(text))
-        planner = Planner(self.trying.options, program, self.guard)
-        return self.trying.with_plan(planner.plan(trace, Before(says=state.says)), program)
+        program = self.trials.program.for_version(version_of(text))
+        planner = Planner(self.trials.options, program, self.guard)
+        return self.trials.with_plan(planner.plan(trace, Offsets(says=state.says)), program)
 
     def record(self, state: State, directory: str, trace: str) -> None:
-        checker = self.trying.checker()
+        checker = self.trials.checker()
         line = [
             sys.executable,
             '-S',
@@ -68,7 +68,7 @@ class Recorder:
             directory,
             trace,
             '--',
-            *checker.command,
+            *checker.recovery.words,
         ]
         environment = {
             **checker.environment,
@@ -101,24 +101,24 @@ class Nested:
         self.left = count
         self.seen: Set[Tuple[str, str]] = set()
 
-    def run(self, trying: Trying, findings: Findings) -> Iterator[Recovery]:
+    def run(self, trials: Trials, findings: Findings) -> Iterator[Recovery]:
         for state in self.choose(findings):
             self.left -= 1
             try:
-                recovery = Recorder(trying).recovery(state)
+                recovery = Recorder(trials).recovery(state)
             except (Refused, TooLarge) as fault:
                 yield Recovery(state.number, fault=str(fault))
                 continue
             yield self.recovery_of(recovery, state, findings.by_state[state.number])
 
-    def recovery_of(self, trying: Trying, state: State, first: Outcome) -> Recovery:
+    def recovery_of(self, trials: Trials, state: State, first: Outcome) -> Recovery:
         """The recovery of a state. If the state already fails, only other causes count."""
-        results = Results(trying.plan)
-        trying.run(results)
-        with open(trying.planned.trace, **TEXT) as file:
+        results = Results(trials.plan)
+        trials.run(results)
+        with open(trials.planned.trace, **TEXT) as file:
             head = Head('', '', [], lines=read_text(file.read()).operations)
         found = Findings(head, results, {}, first if first.result != GOOD else None)
-        rerun_examples(trying, found)
+        rerun_examples(trials, found)
         failing = sum(group.count for group in found.groups)
         return Recovery(
             state.number,
@@ -126,7 +126,7 @@ class Nested:
             failing,
             found.groups,
             {group.example.number: crash_place(found, group) for group in found.groups},
-            unproved=trying.program.unproved,
+            unproved=trials.program.unproved,
         )
 
     def choose(self, findings: Findings) -> Iterator[State]:

@@ -5,8 +5,9 @@ from __future__ import annotations
 
 import time
 
-from crashfs_tools.checker.running.trying import Trying
-from crashfs_tools.checker.states.plan import Trial
+from crashfs_tools.checker.running.trials import Trials
+from crashfs_tools.checker.running.runner import GOOD, Outcome
+from crashfs_tools.checker.states.plan import State, Trial
 
 from .groups import Findings
 
@@ -14,7 +15,14 @@ from .groups import Findings
 ENTRIES = 20
 
 
-def rerun_examples(trying: Trying, findings: Findings, seconds: float = float('inf')) -> None:
+def rerun(trials: Trials, example: State) -> Outcome:
+    """The outcome of a further run; of another one if that fails too: COMMAND may fail only each so
+    many runs."""
+    outcome = trials.try_one(example)
+    return outcome if outcome.result == GOOD else trials.try_one(example)
+
+
+def rerun_examples(trials: Trials, findings: Findings, seconds: float = float('inf')) -> None:
     """Runs the examples of the largest groups again; begins none after so many seconds."""
     deadline = time.monotonic() + seconds
     results = findings.results
@@ -22,6 +30,6 @@ def rerun_examples(trying: Trying, findings: Findings, seconds: float = float('i
         number = results.first_of[Trial(group.example.same, group.example.says)]
         if number not in results.reruns and time.monotonic() < deadline:
             began = time.monotonic()
-            results.reruns[number] = trying.try_one(group.example)
+            results.reruns[number] = rerun(trials, group.example)
             group.seconds = time.monotonic() - began
     findings.take_reruns()

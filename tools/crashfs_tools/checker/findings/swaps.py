@@ -8,8 +8,8 @@ from typing import Dict, Iterable, List, Optional, Tuple
 
 from crashfs_tools.checker.running.results import Results
 from crashfs_tools.checker.running.runner import Outcome
-from crashfs_tools.checker.running.trying import Trying
-from crashfs_tools.checker.states.plan import Before, Plan, Planned, Trial, places_of
+from crashfs_tools.checker.running.trials import Trials
+from crashfs_tools.checker.states.plan import Offsets, Plan, Planned, Trial, places_of
 from crashfs_tools.checker.states.planning import Planner
 from crashfs_tools.common.command import TEXT, Refused
 from crashfs_tools.common.sparse import PAGE_BYTES, SparseBytes
@@ -21,13 +21,13 @@ from .groups import Findings, Group, Totals
 ENTRIES, MOST_STATES = 3, 2_000
 
 
-def add_swaps(trying: Trying, planner: Planner, findings: Findings) -> None:
+def add_swaps(trials: Trials, planner: Planner, findings: Findings) -> None:
     """Tries the other order for the largest groups that lose nothing, and finds out whether their
     first line overwrites what is in use."""
     spans = [group for group in findings.groups if is_swappable(group)]
     for group in spans[:ENTRIES]:
-        group.swap = Swap(trying, planner, findings, group).run()
-        group.overwrites = overwrites(trying, findings, group)
+        group.swap = Swap(trials, planner, findings, group).run()
+        group.overwrites = overwrites(trials, findings, group)
         group.set_advice(findings.head.lines)
 
 
@@ -45,8 +45,8 @@ def is_swappable(group: Group) -> bool:
 class Swap:
     """A copy of the trace in which the later line, with what it needs, comes before the earlier."""
 
-    def __init__(self, trying: Trying, planner: Planner, findings: Findings, group: Group) -> None:
-        self.trying = trying
+    def __init__(self, trials: Trials, planner: Planner, findings: Findings, group: Group) -> None:
+        self.trials = trials
         self.planner = planner
         self.findings = findings
         assert group.kept is not None and group.lost is not None
@@ -69,8 +69,8 @@ class Swap:
 
     def copy(self, moved: List[int]) -> Optional[Planned]:
         """The plan of the copy; None if no program can do the lines in that order."""
-        before = self.trying.planned.before
-        with open(self.trying.planned.trace, **TEXT) as file:
+        before = self.trials.planned.offsets
+        with open(self.trials.planned.trace, **TEXT) as file:
             text = file.read().rstrip('\n').split('\n')
         numbered = list(zip(before.lines or range(1, len(text) + 1), text))
         taken = [(number, line) for number, line in numbered if number in moved]
@@ -83,12 +83,12 @@ class Swap:
                 lines += [*taken, (0, json.dumps(sync, ensure_ascii=False))]
             if number not in moved:
                 lines.append((number, line))
-        path = os.path.join(self.trying.guard.directory, 'swap.trace')
+        path = os.path.join(self.trials.guard.directory, 'swap.trace')
         with open(path, 'w', **TEXT) as file:
             file.write('\n'.join(line for _, line in lines))
         try:
             return self.planner.plan(
-                path, Before(says=before.says, lines=tuple(number for number, _ in lines))
+                path, Offsets(says=before.says, lines=tuple(number for number, _ in lines))
             )
         except Refused:
             return None
@@ -109,7 +109,7 @@ class Swap:
             results.outcomes[number] = outcome
 
         new = set(results.trials.values()) - set(results.outcomes)
-        self.trying.with_plan(planned).try_states(new, on_outcome)
+        self.trials.with_plan(planned).try_states(new, on_outcome)
         return results.of_states({})
 
 
@@ -168,14 +168,14 @@ def failing(plan: Plan, by_state: Dict[int, Outcome]) -> int:
     )
 
 
-def overwrites(trying: Trying, findings: Findings, group: Group) -> bool:
+def overwrites(trials: Trials, findings: Findings, group: Group) -> bool:
     """Whether the kept line overwrites bytes that aren't zeros with others."""
     plan, place = findings.plan, group.pair.kept
     if place is None or plan.operations[place].kind != 'write_block':
         return False
     path = plan.operations[place].path
     prefixes = findings.pairs.prefixes
-    trees = trying.trees([prefixes[place], prefixes[place + 1]])
+    trees = trials.trees([prefixes[place], prefixes[place + 1]])
     before, after = (tree.get(path) for tree in trees)
     if before is None or after is None or before.data is None or after.data is None:
         return False

@@ -5,7 +5,7 @@ from __future__ import annotations
 from typing import Iterator, Optional, Tuple
 
 from crashfs_tools.checker.running.runner import GOOD
-from crashfs_tools.checker.running.trying import Trying
+from crashfs_tools.checker.running.trials import Trials
 from crashfs_tools.checker.states.plan import State, count
 from crashfs_tools.common import sparse
 from crashfs_tools.common.entry import Entries, Entry
@@ -17,12 +17,12 @@ SHOWN_LINES, ENTRIES = 20, 5
 SHOWN_BYTES = 8
 
 
-def find_differences(trying: Trying, findings: Findings) -> None:
+def find_differences(trials: Trials, findings: Findings) -> None:
     """Compares the examples of the largest groups with their nearest good states."""
     for group in findings.groups[:ENTRIES]:
         good = nearest_good(findings, group)
         if good is not None:
-            failing, other = trying.trees([group.example.number, good.number])
+            failing, other = trials.trees([group.example.number, good.number])
             lines = list(different_lines(failing, other))
             group.difference = Difference(good.number, lines[:SHOWN_LINES])
 

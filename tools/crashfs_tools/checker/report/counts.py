@@ -1,4 +1,4 @@
-"""What a check counts, and the first line of its report."""
+"""What a check counts."""
 
 from __future__ import annotations
 
@@ -6,18 +6,25 @@ from collections import Counter
 from dataclasses import dataclass, field
 from itertools import takewhile
 from typing import Counter as Counts
-from typing import List, Optional
+from typing import FrozenSet, List, NamedTuple, Optional, Tuple
 
-from crashfs_tools.checker.findings.groups import Findings
+from crashfs_tools.checker.findings.groups import Findings, Group
 from crashfs_tools.checker.running.results import Head
-from crashfs_tools.checker.running.runner import BAD, GOOD, NO_ANSWER, Outcome
+from crashfs_tools.checker.running.runner import BAD, GOOD, Outcome
 from crashfs_tools.checker.states.plan import AllStates
-from crashfs_tools.common.printable import printable
 
-# So many words of causes are counted in the first line.
-SHOWN_WORDS = 5
 # There are more sets than so many if they can't be counted.
 LEAST_OF_MANY = 1_000_000
+
+
+class AcceptedStates(NamedTuple):
+    """How many different failing states are of known failures, and by the words of their causes."""
+
+    total: int
+    words: Counts[str]
+
+
+NO_ACCEPTED = AcceptedStates(0, Counter())
 
 
 @dataclass
@@ -83,17 +90,6 @@ class StateCounts:
         """How many different states should have been tried, and weren't."""
         return self.wanted - self.tried
 
-    def summary(self, head: Head) -> str:
-        """The first line: what was checked, and the verdict."""
-        trace = printable(head.trace)
-        if not self.windows:
-            return f'{trace}: nothing was tried{stop_text(head)}'
-        windows = f' in {self.windows:,} windows' if self.windows > 1 else ''
-        return (
-            f'{trace}: {self.operations:,} micro-operations{windows}, {self.shown_states(head)}: '
-            f'{self.verdict(head)}'
-        )
-
     @property
     def has_every(self) -> bool:
         """Whether all crash states of each window are listed."""
@@ -109,20 +105,6 @@ class StateCounts:
         """How many sets the rules allow; None if that isn't known."""
         only = self.every[0] if len(self.every) == 1 else None
         return only.sets if only is not None else None
-
-    def shown_states(self, head: Head) -> str:
-        """How many states there are."""
-        under = f' under {self.profile}' if self.profile else ''
-        if self.is_part:
-            return f'{self.tried:,} of {self.total} crash states{under} tried{stop_text(head)}'
-        if not self.has_every:
-            return f'{self.states:,} states{under}, {self.different:,} different'
-        is_all = self.is_whole(head) and not head.cut_off
-        all_of = 'all ' if is_all else ''
-        sets = f' ({self.sets:,} set{"" if self.sets == 1 else "s"})' if self.sets else ''
-        states = 'crash states' if self.different > 1 else 'crash state'
-        states += ' of the windows' if head.cut_off else ''
-        return f'{all_of}{self.different:,} {states}{under or sets}'
 
     @property
     def tried_text(self) -> str:
@@ -144,42 +126,13 @@ class StateCounts:
         """Whether all was tried."""
         return head.shard.parts == 1 and not self.left and not head.has_rest
 
-    def verdict(self, head: Head) -> str:
-        """How many fail; `none fails` is only said of a whole check."""
-        if not self.tried:
-            return f'nothing was tried{stop_text(head)}'
-        parts = [self.failing_text(head)]
-        if self.results[NO_ANSWER]:
-            parts.append(f'{self.results[NO_ANSWER]:,} gave no answer')
-        if self.is_part:
-            return '; '.join(parts)
-        if self.left or head.has_rest:
-            parts.append(f'{self.left_text(head)} not tried{stop_text(head)}')
-        return '; '.join(parts)
 
-    def failing_text(self, head: Head) -> str:
-        shard = head.shard
-        of_tried = f' of the {self.tried:,} tried'
-        if shard.parts > 1:
-            of_tried += f' by shard {shard.part}/{shard.parts}'
-        if not self.failing and self.is_part:
-            return 'none of these fails'
-        if not self.failing:
-            return 'none fails' if self.is_whole(head) else f'none{of_tried} fails'
-        words = ', '.join(
-            f'{count:,} {printable(word)}' for word, count in self.words.most_common(SHOWN_WORDS)
-        )
-        fail = f'fail{"s" if self.failing == 1 else ""}'
-        if not self.is_whole(head) and not self.is_part:
-            return f'{self.failing:,}{of_tried} {fail}: {words}'
-        of_all = f' ({self.all_failing:,} of all {self.states:,} states)'
-        is_every = self.is_part or self.has_every
-        return f'{self.failing:,} {fail}{"" if is_every else of_all}: {words}'
-
-    def left_text(self, head: Head) -> str:
-        rest = f'all states after micro-operation {self.operations - 1:,}' if head.has_rest else ''
-        return ' and '.join(filter(None, [f'{self.left:,}' if self.left else '', rest]))
-
-
-def stop_text(head: Head) -> str:
-    return f' (stopped by {head.stopped})' if head.stopped else ''
+def accepted_states(groups: List[Group]) -> AcceptedStates:
+    """The states of accepted groups that no other group has."""
+    none: FrozenSet[Tuple[int, ...]] = frozenset()
+    others = none.union(*(group.tried for group in groups if group.accepted is None))
+    found: Counts[str] = Counter()
+    for group in groups:
+        if group.accepted is not None:
+            found[group.outcome.word] += len(group.tried - others)
+    return AcceptedStates(sum(found.values()), found)

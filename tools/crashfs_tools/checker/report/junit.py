@@ -12,25 +12,28 @@ from crashfs_tools.checker.findings.sightings import DiskFailure
 from crashfs_tools.checker.running.runner import BAD
 from crashfs_tools.common.printable import printable
 
-from .report import Report
+from .report import CheckReport
+from .text import ReportText, accepted_text
 
 # Control characters that XML has too.
 SPACES = '\n\t'
 
 
-def junit_lines(report: Report) -> Iterator[str]:
+def junit_lines(report: CheckReport) -> Iterator[str]:
     """A test case for each entry of the report, for each failure on disks that no tried state has,
     and one for all other states. The time of an entry is that of its example's second run, and that
     of the last case is the rest of the check's."""
     groups, on_disks = report.groups(), report.disk_failures()
     results = [*(group.result for group in groups), *(one.outcome.result for one in on_disks)]
-    failures = results.count(BAD)
+    skipped = sum(group.accepted is not None for group in groups)
+    failures = results.count(BAD) - skipped
     seconds = report.seconds
     name = attribute(f'crashfs-check {report.head.trace}')
     yield '<?xml version="1.0" encoding="UTF-8"?>\n'
     yield (
         f'<testsuite name={name} tests="{len(results) + 1}" failures="{failures}" '
-        f'errors="{len(results) - failures}" time="{seconds:.3f}">\n'
+        f'errors="{len(results) - failures - skipped}" skipped="{skipped}" '
+        f'time="{seconds:.3f}">\n'
     )
     names: Counts[str] = Counter()
     for group in groups:
@@ -46,12 +49,15 @@ def junit_lines(report: Report) -> Iterator[str]:
     yield '</testsuite>\n'
 
 
-def case_lines(report: Report, group: Group, names: str) -> Iterator[str]:
-    """A test case; its message is the whole sentence with the advice."""
-    head, *details = report.group_lines(group)
+def case_lines(report: CheckReport, group: Group, names: str) -> Iterator[str]:
+    """A test case; its message is the whole sentence with the advice, or why it is accepted."""
+    head, *details = ReportText(report).group_lines(group)
     kind = 'failure' if group.result == BAD else 'error'
     message = ' '.join(group.advice.lines()) or head.strip()
     yield f'<testcase {names} time="{group.seconds:.3f}">\n'
+    if group.accepted is not None:
+        yield f'<skipped message={attribute(accepted_text(group.accepted))}/>\n</testcase>\n'
+        return
     yield f'<{kind} message={attribute(message)}>'
     yield text('\n'.join([head.strip(), *details])) + f'</{kind}>\n'
     yield f'<system-out>{text(group.outcome.output)}</system-out>\n'

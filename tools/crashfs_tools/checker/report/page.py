@@ -13,25 +13,31 @@ from crashfs_tools.common.trace_lines import SYNCS, TraceLine
 from crashfs_tools.common.version import version_of
 
 from .page_parts import SCRIPT, STYLE
-from .report import COMPACT, DRAWN, Report, as_json
+from .json_text import COMPACT, as_json
+from .report import CheckReport
+from .text import ReportText
 
 # Of a long session, so many lines are shown before and after each one that is named.
 NEAR = 20
+# So many windows are drawn: the page must stay small.
+DRAWN = 8
 
 
-def page(report: Report) -> Iterator[str]:
+def page(report: CheckReport) -> Iterator[str]:
     title = shown_text(report.head.trace)
     yield (
         f'<!DOCTYPE html>\n<html lang="en"><head><meta charset="utf-8">'
         '<meta name="viewport" content="width=device-width">\n'
         f'<title>{title}</title>\n<style>{STYLE}</style></head>\n<body>\n<h1>{title}</h1>\n'
     )
-    for line in report.first_lines():
+    for line in ReportText(report).first_lines():
         yield f'<p class="summary">{shown_text(line)}</p>\n'
     yield about_line(report)
-    groups = report.groups()
+    groups = sorted(report.groups(), key=lambda group: group.accepted is not None)
     for group in groups:
         yield from entry_lines(report, group)
+    for line in ReportText(report).missing_lines():
+        yield f'<p>{shown_text(line.strip())}</p>\n'
     yield from disk_section(report)
     yield f'<h2>The states</h2>\n<p>{shown_text(report.counts.tried_text)}</p>\n'
     yield '<div id="states"></div><p id="shown"></p>\n'
@@ -51,7 +57,7 @@ def shown_text(text: str) -> str:
     return html.escape(printable(text, '\n\t'))
 
 
-def about_line(report: Report) -> str:
+def about_line(report: CheckReport) -> str:
     """The command, the versions and the date."""
     states = (
         'states by the second reading, in Python' if report.head.unproved else 'states by crashfs'
@@ -65,11 +71,12 @@ def about_line(report: Report) -> str:
     return f'<p class="about">{shown_text("; ".join(parts))}</p>\n'
 
 
-def entry_lines(report: Report, group: Group) -> Iterator[str]:
+def entry_lines(report: CheckReport, group: Group) -> Iterator[str]:
     """A cause, what it says, the lines that the example lost, and what the command printed."""
-    states = report.states_text(group)
-    yield (f'<section><h2>{shown_text(group.cause)}</h2><p>{shown_text(states)}</p>\n<ul>\n')
-    for line in report.details(group):
+    states = ReportText.states_text(group)
+    kind = '' if group.accepted is None else ' class="accepted"'
+    yield f'<section{kind}><h2>{shown_text(group.cause)}</h2><p>{shown_text(states)}</p>\n<ul>\n'
+    for line in ReportText(report).details(group):
         yield f'<li>{shown_text(line)}</li>\n'
     yield '</ul>\n<table class="session">\n'
     for number in sorted({line.number for line in (group.lost, group.kept) if line}):
@@ -81,7 +88,7 @@ def entry_lines(report: Report, group: Group) -> Iterator[str]:
     yield '</section>\n'
 
 
-def disk_section(report: Report) -> Iterator[str]:
+def disk_section(report: CheckReport) -> Iterator[str]:
     """What was seen on real disks, and the failures there that no tried state has."""
     if report.sightings is None:
         return
@@ -118,7 +125,7 @@ def difference_lines(group: Group) -> Iterator[str]:
     yield '</ul>\n'
 
 
-def session_lines(report: Report, groups: List[Group]) -> Iterator[str]:
+def session_lines(report: CheckReport, groups: List[Group]) -> Iterator[str]:
     """The session; of one in many windows the lines that are named, and those near them."""
     named = {line.number for group in groups for line in (group.lost, group.kept) if line}
     near = {number for one in named for number in range(one - NEAR, one + NEAR + 1)}
@@ -135,7 +142,7 @@ def line_row(line: TraceLine, mark: str) -> str:
     )
 
 
-def script_data(report: Report) -> str:
+def script_data(report: CheckReport) -> str:
     """What the page's script draws, with no `<` that could end the script."""
     shown = as_json(report.drawings[:DRAWN], **COMPACT)
     return shown.replace('<', '\\u003c')

@@ -7,6 +7,7 @@ h1 { font-size: 1.5em } h2 { font-size: 1.15em; margin: 1.2em 0 .3em }
 .about { color: #666; font-size: .9em; overflow-wrap: anywhere }
 .summary { font-family: monospace; font-size: 1.05em }
 section { border: 1px solid #ccc; border-left: 6px solid #c33; padding: 0 1em .8em; margin: 1em 0 }
+section.accepted { border-left-color: #aaa; color: #666 }
 section h2 { margin-top: .5em; font-family: monospace }
 pre { background: #f4f4f4; padding: .6em; overflow-x: auto; white-space: pre-wrap }
 table { border-collapse: collapse; font-family: monospace; font-size: .92em }

@@ -11,25 +11,29 @@ from crashfs_tools.common.command import Refused, relative_arguments
 
 from .results import Results
 from .runner import BAD, Outcome
-from .trying import Trying
+from .trials import Trials
 
 
 class FirstTrials:
     """Tries the two trees; end is a plan of the tree at the end, if the first window hasn't it."""
 
-    def __init__(self, trying: Trying, results: Results, end: Optional[Planned] = None) -> None:
-        self.trying = trying
+    def __init__(self, trials: Trials, results: Results, end: Optional[Planned] = None) -> None:
+        self.trials = trials
         self.results = results
         self.end = end
 
+    @property
+    def is_command(self) -> bool:
+        return self.trials.options.function is None
+
     def run(self) -> None:
         """Refused if COMMAND fails in one. An outcome is kept if its state will be tried."""
-        prefixes = [state for state in self.trying.plan.states if state.family == 'prefix']
+        prefixes = [state for state in self.trials.plan.states if state.family == 'prefix']
         if self.end is None:
             self.try_state(prefixes[-1], "the tree at the session's end")
         else:
             state = self.end.plan.listed[0]
-            outcome = self.trying.with_plan(self.end).try_one(state)
+            outcome = self.trials.with_plan(self.end).try_one(state)
             self.judge(
                 outcome,
                 f"the tree at the session's end, where nothing is lost (says {state.says})",
@@ -40,12 +44,12 @@ class FirstTrials:
     def try_state(self, state: State, tree: str) -> None:
         number = self.results.first_of[Trial(state.same, state.says)]
         outcomes: Dict[int, Outcome] = self.results.outcomes
-        first = self.trying.plan.state(number)
-        outcome = outcomes.get(number) or self.trying.try_one(first)
-        if number in self.trying.wanted(self.results):
+        first = self.trials.plan.state(number)
+        outcome = outcomes.get(number) or self.trials.try_one(first)
+        if number in self.trials.wanted(self.results):
             outcomes[number] = outcome
-        look = [f'inspect it with --state {number}']
-        if outcome.result == BAD and state.numbers[0] == 0 and self.trying.tree(number):
+        look = [f'inspect it with --state {number}'] if self.is_command else []
+        if outcome.result == BAD and state.numbers[0] == 0 and self.trials.tree(number):
             look.insert(
                 0, 'did the directory have files of an earlier session when it was recorded?'
             )
@@ -55,15 +59,18 @@ class FirstTrials:
 
     def judge(self, outcome: Outcome, tree: str, more: List[str]) -> None:
         if outcome.result == BAD:
+            name = 'COMMAND' if self.is_command else 'the recovery'
             raise Refused(
                 '\n'.join(
-                    [f'COMMAND fails in {tree}: {outcome.cause}', *self.hints(outcome.cause), *more]
+                    [f'{name} fails in {tree}: {outcome.cause}', *self.hints(outcome.cause), *more]
                 )
             )
 
     def hints(self, cause: str) -> List[str]:
         """What to look at."""
-        relative = relative_arguments(self.trying.options.command)
+        if not self.is_command:
+            return ['does it expect more than the session did, or files of another place?']
+        relative = relative_arguments(self.trials.options.command)
         if relative:
             return [
                 f'{word} is a relative path, but COMMAND runs in the directory of a state: '

@@ -2,7 +2,6 @@
 
 from __future__ import annotations
 
-import errno
 import os
 import select
 import signal
@@ -14,12 +13,13 @@ from itertools import accumulate
 from typing import Callable, Dict, List, NamedTuple, Optional, Set
 
 from crashfs_tools.common import descendants
-from crashfs_tools.common.command import Refused, ending_text
+from crashfs_tools.common.command import ending_text
 from crashfs_tools.common.mount_table import MountTable
 from crashfs_tools.common.program import last_line
 from crashfs_tools.common.trace_lines import without_numbers
 
 from .output import MOST_BYTES, Output
+from .recoveries import StateRecovery, StandardStreams
 
 GOOD, BAD, NO_ANSWER = 'good', 'bad', 'no answer'
 CAUSE_LETTERS = 200
@@ -30,8 +30,6 @@ SLOW_SECONDS = 0.01
 LOOK_SECONDS = 0.002
 # COMMAND may put a symbolic link in the place of this file.
 LINES_FILE = os.O_WRONLY | os.O_NOFOLLOW | os.O_CLOEXEC
-# The signals that Python ignores, and that a command has as usual.
-IGNORED = (signal.SIGPIPE, signal.SIGXFSZ)
 
 
 class Outcome(NamedTuple):
@@ -56,7 +54,7 @@ class Outcome(NamedTuple):
 GOOD_OUTCOME = Outcome(GOOD)
 
 
-class Says:
+class AcknowledgedLines:
     """What was acknowledged up to each state, as a file for the commands' standard input. Each
     process has one file, which it cuts or extends: one for each state would be too much."""
 
@@ -86,7 +84,7 @@ class Says:
         return ''.join(f'{text}\n' for text in self.texts[first:count])
 
 
-class Over(Exception):
+class CheckEnded(Exception):
     """The check is over: the command that ran was ended."""
 
 
@@ -105,14 +103,14 @@ def nothing() -> None:
 
 @dataclass
 class Checker:
-    """One command, and what it is run with. life is the end of a pipe that is closed when the check
-    is over; when_slow is called once for each command that takes long. end_bearers ends what was
-    started with the environment, if this process isn't the reaper of what a command leaves."""
+    """One recovery, and what it is run with. life is the end of a pipe that is closed when the
+    check is over; when_slow is called once for each command that takes long. end_bearers ends what
+    was started with the environment, if this process isn't the reaper of what a command leaves."""
 
-    command: List[str]
+    recovery: StateRecovery
     timeout: float
     environment: Dict[str, str]
-    says: Says
+    says: AcknowledgedLines
     life: Optional[int] = None
     when_slow: Callable[[], None] = nothing
     end_bearers: Callable[[], None] = nothing
@@ -196,26 +194,11 @@ class Checker:
     def start(
         self, directory: str, environment: Dict[bytes, bytes], lines: str, output: Output
     ) -> int:
-        """Starts the command in a session of its own; its directory is this process's meanwhile."""
+        """Starts the recovery; its directory is this process's meanwhile."""
         here = self.here
         os.chdir(directory)
         try:
-            return os.posix_spawn(
-                self.command[0],
-                self.command,
-                environment,
-                setsid=True,
-                setsigdef=IGNORED,
-                file_actions=[
-                    (os.POSIX_SPAWN_OPEN, 0, lines, os.O_RDONLY, 0),
-                    (os.POSIX_SPAWN_DUP2, output.writing, 1),
-                    (os.POSIX_SPAWN_DUP2, output.writing, 2),
-                ],
-            )
-        except OSError as error:
-            if error.errno in (errno.EAGAIN, errno.ENOMEM):
-                raise
-            raise Refused(f'{self.command[0]}: {error.strerror}') from error
+            return self.recovery.start(environment, StandardStreams(lines, output.writing))
         finally:
             os.fchdir(here)
             output.close_writing()
@@ -236,7 +219,7 @@ class Checker:
                 left = self.timeout - passed if is_slow else SLOW_SECONDS - passed
                 ready = waiting.wait(min(left, self.timeout - passed, TURN_SECONDS))
                 if self.life in ready:
-                    raise Over
+                    raise CheckEnded
                 has_ended = waiting.has_ended(ready)
                 if has_ended:
                     output.tail()

@@ -18,7 +18,7 @@ from crashfs_tools.common.descendants import NoReaper, become_reaper
 from crashfs_tools.common.guard import STOPS, end_bearers, with_token
 from crashfs_tools.common.program import ProgramFault
 
-from .runner import BAD, GOOD, GOOD_OUTCOME, TURN_SECONDS, Checker, Outcome, Over
+from .runner import BAD, GOOD, GOOD_OUTCOME, TURN_SECONDS, CheckEnded, Checker, Outcome
 
 ENDING_SECONDS = 5
 PIECE_BYTES = 1 << 16
@@ -71,7 +71,7 @@ class Outbox:
         self.sent = time.monotonic()
 
 
-class Workers:
+class StateWorkers:
     """Takes turns: the k-th process has every k-th state. Each ends when the pipe `life` is closed,
     also if that is because this process was killed."""
 
@@ -145,7 +145,7 @@ class Workers:
                 outbox.add(number, outcome)
                 if self.fail_fast and outcome.result == BAD:
                     break
-        except Over:
+        except CheckEnded:
             pass
         except BaseException as fault:
             outbox.add_fields(as_fields(fault))

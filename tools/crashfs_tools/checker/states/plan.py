@@ -47,7 +47,7 @@ class Trial(NamedTuple):
     says: int
 
 
-class Before(NamedTuple):
+class Offsets(NamedTuple):
     """What of a session comes before a plan: so many states, micro-operations and acknowledged
     lines. lines has the session's line of each line of the plan's trace, or is empty if they are
     the same."""
@@ -242,18 +242,18 @@ class Request(NamedTuple):
 @dataclass
 class Planned:
     """A trace that the program takes: the options that name its plan, in one part or several, and
-    the plan. Each part has the prefixes. before says what of the session comes before it, and
+    the plan. Each part has the prefixes. offsets has what of the session comes before it, and
     is_last whether nothing comes after it."""
 
     trace: str
     parts: List[Part]
     plan: Plan
-    before: Before = Before()
+    offsets: Offsets = Offsets()
     is_last: bool = True
 
     def part(self) -> str:
         """Which part of the session it is, before what is said of it; nothing if it is all."""
-        begin = self.before.operations
+        begin = self.offsets.operations
         if self.is_last and begin == 0:
             return ''
         return f'micro-operations {begin:,} to {begin + len(self.plan.operations) - 1:,}: '
@@ -309,10 +309,10 @@ def places_of(mask: int) -> Iterator[int]:
         mask ^= lowest
 
 
-def read_plan(listed: str, before: Before = Before(), more: Sequence[str] = ()) -> Plan:
+def read_plan(listed: str, offsets: Offsets = Offsets(), more: Sequence[str] = ()) -> Plan:
     """The plan that the program printed, with numbers, places and lines of the whole session. more
     has what it printed of further parts, of which the picks are taken."""
-    read = Listed(before)
+    read = Listed(offsets)
     for part in (listed, *more):
         read.begin()
         for line in part.rstrip('\n').split('\n'):
@@ -321,14 +321,14 @@ def read_plan(listed: str, before: Before = Before(), more: Sequence[str] = ()) 
             except (ValueError, KeyError, TypeError, AttributeError) as error:
                 raise PlanError(f'crashfs list printed: {line}') from error
     needs = Needs(read.masks)
-    return Plan(read.operations, read.states, needs, before.states, profiles=read.profiles())
+    return Plan(read.operations, read.states, needs, offsets.states, profiles=read.profiles())
 
 
 class Listed:
     """What `crashfs list` printed of the parts of a plan."""
 
-    def __init__(self, before: Before) -> None:
-        self.before = before
+    def __init__(self, offsets: Offsets) -> None:
+        self.offsets = offsets
         self.operations: List[MicroOperation] = []
         self.states: List[State] = []
         self.masks: List[int] = []
@@ -348,7 +348,7 @@ class Listed:
         if 'op' not in fields:
             self.take_state(fields)
         elif self.is_first:
-            self.operations.append(operation_of(fields, self.before))
+            self.operations.append(operation_of(fields, self.offsets))
             self.masks.append(set_of(fields['needs']))
 
     def take_state(self, fields: Dict[str, Any]) -> None:
@@ -358,23 +358,23 @@ class Listed:
             fields['state'] += self.lead
             # A prefix has the same number in each part.
             fields['same'] += self.lead if fields['same'] > len(self.operations) else 0
-        self.states.append(state_of(fields, self.before))
+        self.states.append(state_of(fields, self.offsets))
         if 'profiles' in fields:
             self.allowed.append(fields['profiles'])
 
 
-def operation_of(fields: Dict[str, Any], before: Before) -> MicroOperation:
+def operation_of(fields: Dict[str, Any], offsets: Offsets) -> MicroOperation:
     rest = ' '.join(str(fields[key]) for key in DETAILS if key in fields)
     return MicroOperation(
-        fields['op'] + before.operations,
+        fields['op'] + offsets.operations,
         fields['kind'],
         fields.get('path') or '',
         rest,
-        before.line(fields['line']),
+        offsets.line(fields['line']),
     )
 
 
-def state_of(fields: Dict[str, Any], before: Before) -> State:
+def state_of(fields: Dict[str, Any], offsets: Offsets) -> State:
     kind = fields['kind']
     if kind == 'pick':
         numbers = tuple(fields['places'])
@@ -382,9 +382,9 @@ def state_of(fields: Dict[str, Any], before: Before) -> State:
         names = {'prefix': ('end',), 'hole': ('missing', 'end')}[kind]
         numbers = tuple(fields[name] for name in names)
     return State(
-        fields['state'] + before.states,
+        fields['state'] + offsets.states,
         kind,
         numbers,
-        fields['says'] + before.says,
-        fields['same'] + before.states,
+        fields['says'] + offsets.says,
+        fields['same'] + offsets.states,
     )

@@ -18,7 +18,7 @@ from .all_sets import AllSets, ReadSets, all_sets
 from .joining import joined
 from .plan import (
     AllStates,
-    Before,
+    Offsets,
     Needs,
     Part,
     Plan,
@@ -47,24 +47,24 @@ class Planner:
         self.program = program
         self.guard = guard
 
-    def plan(self, trace: str, before: Before = Before()) -> Planned:
+    def plan(self, trace: str, offsets: Offsets = Offsets()) -> Planned:
         """The families that are asked for; and all crash states, if they are asked for and not too
         many."""
         options = self.options
         if not (options.has_lost or options.has_files or options.has_every):
-            return self.planned(trace, before, [])
+            return self.planned(trace, offsets, [])
         prefixes = self.prefixes(trace)
         families = self.families(trace, prefixes.needs)
         if not options.has_every:
-            return self.planned(trace, before, [families])
+            return self.planned(trace, offsets, [families])
         losses = line_losses(prefixes.operations, prefixes.needs)
         more = [one for one in losses if not self.is_listed(prefixes.needs, one)]
         return self.every_planned(
-            trace, before, prefixes.needs, list(dict.fromkeys(families + more))
+            trace, offsets, prefixes.needs, list(dict.fromkeys(families + more))
         )
 
     def every_planned(
-        self, trace: str, before: Before, needs: Needs, families: List[int]
+        self, trace: str, offsets: Offsets, needs: Needs, families: List[int]
     ) -> Planned:
         """The plan of some families and of all crash states; if these are too many, of some that
         are drawn."""
@@ -74,7 +74,7 @@ class Planner:
         drawn = [] if found is not None else sets.drawn(self.options.draws, SEED) or []
         more = [one for one in (found or drawn) if not self.is_listed(needs, one)]
         picks = list(dict.fromkeys([*families, *more]))
-        planned = self.planned(trace, before, in_parts(picks, self.room(needs), len(needs.masks)))
+        planned = self.planned(trace, offsets, in_parts(picks, self.room(needs), len(needs.masks)))
         plan = planned.plan
         numbers = {plan.kept[one.number]: one.number for one in reversed(plan.listed)}
         every = AllStates(
@@ -104,7 +104,7 @@ class Planner:
         listed."""
         return limits.STATES - 1 - len(needs.masks) - (0 if self.options.prefixes else needs.holes)
 
-    def planned(self, trace: str, before: Before, picks: Sequence[Sequence[int]]) -> Planned:
+    def planned(self, trace: str, offsets: Offsets, picks: Sequence[Sequence[int]]) -> Planned:
         """A plan in as many parts as there are lists of picks; the first has the holes too."""
         words = ['--trace', trace, *([] if self.options.prefixes else ['--holes'])]
         ways = [words] if not any(picks) else []
@@ -113,18 +113,18 @@ class Planner:
             write_sets(path, sets)
             ways.append([*(words if number == 0 else ['--trace', trace]), '--picks', path])
         listed = [self.ask(['list', *way, '--json']) for way in ways]
-        plan = read_plan(listed[0], before, listed[1:])
+        plan = read_plan(listed[0], offsets, listed[1:])
         if len(ways) > 1:
             plan = plan.with_states(joined(trace, plan), None, plan.profiles)
-        return Planned(trace, parts_of(plan, ways, [len(sets) for sets in picks]), plan, before)
+        return Planned(trace, parts_of(plan, ways, [len(sets) for sets in picks]), plan, offsets)
 
     def plan_of_sets(self, planned: Planned, sets: Iterable[int]) -> Planned:
         """A plan of the same trace that has the prefixes and these sets of micro-operations."""
         path = os.path.join(self.guard.directory, os.path.basename(planned.trace) + '.sets')
         write_sets(path, dict.fromkeys(sets))
         words = ['--trace', planned.trace, '--picks', path]
-        plan = read_plan(self.ask(['list', *words, '--json']), planned.before)
-        return Planned(planned.trace, parts_of(plan, [words], []), plan, planned.before)
+        plan = read_plan(self.ask(['list', *words, '--json']), planned.offsets)
+        return Planned(planned.trace, parts_of(plan, [words], []), plan, planned.offsets)
 
     def prefixes(self, trace: str) -> Plan:
         """The plan of the prefixes only: it has no limit but that of the micro-operations."""

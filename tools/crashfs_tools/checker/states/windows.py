@@ -15,7 +15,7 @@ from crashfs_tools.checker.options import Options
 from crashfs_tools.common import limits
 from crashfs_tools.common.command import TEXT, Refused
 
-from .plan import Before, Planned, count
+from .plan import Offsets, Planned, count
 from .planning import Planner, TooLarge
 from .steps import Session, Steps
 
@@ -98,7 +98,7 @@ class Windows:
                 end = steps.end_within(fitting)
                 continue
             write(path, text)
-            place = Before(states, self.session.places[steps.begin], steps.says, lines)
+            place = Offsets(states, self.session.places[steps.begin], steps.says, lines)
             try:
                 planned = self.planner.plan(path, place)
             except TooLarge:
@@ -138,7 +138,7 @@ class Windows:
     def next_begin(self, last: PlannedWindow) -> int:
         """The step of the first pending micro-operation, but no earlier than half a window on."""
         places, plan = self.session.places, last.planned.plan
-        begin = last.planned.before.operations
+        begin = last.planned.offsets.operations
         half = begin + (len(plan.operations) + 1) // 2
         first = begin + min(last.pending, default=len(plan.operations))
         step = next(one for one in range(last.end, -1, -1) if places[one] <= first)
@@ -150,7 +150,7 @@ class Windows:
         """Whether a window from a step ends behind the last one. What it needs is what that one
         needs, without what is durable where it begins."""
         places = self.session.places
-        first = places[step] - last.planned.before.operations
+        first = places[step] - last.planned.offsets.operations
         needs = [mask >> first for mask in last.needs[first:]]
         fitting = self.fitting(needs)
         return step < last.end and (
@@ -159,7 +159,7 @@ class Windows:
 
     def go_to(self, steps: Steps, last: PlannedWindow, step: int) -> None:
         """Goes to a step, with the tree that the program gives of its moment."""
-        prefix = self.session.places[step] - last.planned.before.operations
+        prefix = self.session.places[step] - last.planned.offsets.operations
         words = [*last.planned.parts[0].words, '--state', str(prefix)]
         start = self.planner.program.whole_tree(words, self.planner.guard.environment)
         steps.go_to(step, start)

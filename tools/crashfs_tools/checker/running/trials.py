@@ -2,6 +2,7 @@
 
 from __future__ import annotations
 
+from dataclasses import dataclass, replace
 from typing import TYPE_CHECKING, Callable, Dict, List, Optional, Sequence, Set
 
 from crashfs_tools.checker.options import Options
@@ -15,10 +16,11 @@ from crashfs_tools.common.trace_text import is_large_trace, root_owner
 
 from .pace import Pace, TooSlow
 from .progress import Progress
+from .recoveries import CommandRecovery, FunctionRecovery, StateRecovery
 from .results import Results
-from .runner import Checker, Outcome, Says, nothing
+from .runner import AcknowledgedLines, Checker, Outcome, nothing
 from .turns import turns
-from .workers import OnOutcome, Workers
+from .workers import OnOutcome, StateWorkers
 
 if TYPE_CHECKING:
     from crashfs_tools.common.entry import Entries
@@ -28,35 +30,45 @@ if TYPE_CHECKING:
 MUCH_ENTRIES, MUCH_BYTES = 32, 1 << 20
 
 
-class Trying:
-    """One window of a check: the program, the trace, and where its states are laid out."""
+@dataclass
+class Workplace:
+    """What all trials of a check share: its options, the program, the place for its files, the
+    acknowledged lines, and what shows the progress."""
 
-    def __init__(
-        self,
-        options: Options,
-        planned: Planned,
-        program: Crashfs,
-        guard: Guard,
-        says: Says,
-        progress: Progress,
-    ) -> None:
-        self.options = options
+    options: Options
+    program: Crashfs
+    guard: Guard
+    says: AcknowledgedLines
+    progress: Progress
+
+
+class Trials:
+    """Tries the states of one plan."""
+
+    def __init__(self, workplace: Workplace, planned: Planned) -> None:
+        self.workplace = workplace
+        self.options = workplace.options
+        self.program = workplace.program
+        self.guard = workplace.guard
+        self.says = workplace.says
         self.planned = planned
         self.plan = planned.plan
-        self.program = program
-        self.guard = guard
-        self.says = says
-        self.progress = progress
 
-    def with_plan(self, planned: Planned, program: Optional[Crashfs] = None) -> Trying:
+    def with_plan(self, planned: Planned, program: Optional[Crashfs] = None) -> Trials:
         """The same with another plan, also of another program."""
-        program = program or self.program
-        return Trying(self.options, planned, program, self.guard, self.says, self.progress)
+        workplace = self.workplace
+        if program is not None:
+            workplace = replace(workplace, program=program)
+        return Trials(workplace, planned)
 
     def checker(self) -> Checker:
-        return Checker(
-            self.options.command, self.options.timeout, self.guard.environment, self.says
-        )
+        return Checker(self.recovery(), self.options.timeout, self.guard.environment, self.says)
+
+    def recovery(self) -> StateRecovery:
+        function = self.options.function
+        if function is not None:
+            return FunctionRecovery(function)
+        return CommandRecovery(self.options.command)
 
     def archive(self, folder: str) -> Archive:
         return Archive(self.program, self.planned, folder, self.guard.environment)
@@ -101,7 +113,7 @@ class Trying:
 
     def try_in_turns(self, turns: Sequence[Set[int]], on_outcome: OnOutcome) -> None:
         """Tries states, turn by turn."""
-        progress = self.progress
+        progress = self.workplace.progress
         progress.begin(sum(map(len, turns)), self.planned.part())
 
         def step(number: int, outcome: Outcome) -> None:
@@ -118,7 +130,7 @@ class Trying:
     def run_workers(self, layout: Layout, wanted: Set[int], on_outcome: OnOutcome) -> None:
         """Runs COMMAND in other processes: nothing of it is left if this one is killed."""
         options = self.options
-        workers = Workers(self.checker(), layout, options.jobs, on_outcome, options.fail_fast)
+        workers = StateWorkers(self.checker(), layout, options.jobs, on_outcome, options.fail_fast)
         try:
             workers.run(wanted, {state.number: state.says for state in self.plan.listed})
         finally:

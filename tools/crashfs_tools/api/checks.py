@@ -1,0 +1,121 @@
+"""Checks a trace: what crashfs-check does, as a function."""
+
+from __future__ import annotations
+
+import functools
+import io
+import os
+from pathlib import Path
+from typing import Callable, List, NamedTuple, Optional, Sequence, Union
+
+from crashfs_tools.checker.checking import check_trace
+from crashfs_tools.checker.options import NAME, TIMEOUT, Options, processors
+from crashfs_tools.checker.running.progress import Progress
+from crashfs_tools.common.command import Refused
+from crashfs_tools.common.guard import Guard
+
+from .reports import PathLike, Report
+
+# Opens a state's directory, and compares it with the acknowledged lines; raises what is wrong.
+RecoveryOf = Callable[[Path, List[str]], object]
+
+
+class Checked(NamedTuple):
+    """The report of a check, and what ended it early, if anything did."""
+
+    report: Report
+    end: Optional[Exception]
+
+
+def check(
+    trace: PathLike,
+    recovery: Union[RecoveryOf, Sequence[str]],
+    *,
+    jobs: Optional[int] = None,
+    every: Optional[int] = None,
+    families: bool = False,
+    prefixes: bool = False,
+    quick: bool = False,
+    profile: Optional[str] = None,
+    nested: int = 0,
+    fail_fast: bool = False,
+    time_limit: Optional[float] = None,
+    timeout: float = TIMEOUT,
+    accept: Optional[PathLike] = None,
+    cache: Optional[PathLike] = None,
+    crashfs: Optional[PathLike] = None,
+    unproved: bool = False,
+) -> Report:
+    """Runs a recovery in the crash states of a trace, and returns what was found.
+
+    recovery is a command, as a list of words, or a function. A command runs in a directory that has
+    the files as the crash left them, with the acknowledged lines on its standard input. A function
+    is called with the directory and these lines, in a fork of this process, and raises what is
+    wrong: the text of an AssertionError is the cause, of another exception its type and text.
+
+    The options are those of crashfs-check. time_limit needs the main thread. Refused is raised for
+    bad input, and if the recovery fails though nothing is lost."""
+    options = options_of_states(trace, every, families, prefixes, quick, profile, crashfs, unproved)
+    options.jobs = jobs or processors()
+    options.nested, options.fail_fast = nested, fail_fast
+    options.time_limit, options.timeout = time_limit, timeout
+    options.accept, options.cache = path_of(accept), path_of(cache)
+    set_recovery(options, recovery)
+    with Guard(f'{NAME}-', is_reaper=False) as guard:
+        checked = run_check(options, guard, Progress(io.StringIO()), has_states=True)
+    if checked.end is not None:
+        raise checked.end.__cause__ or checked.end
+    return checked.report
+
+
+def options_of_states(
+    trace: PathLike,
+    every: Optional[int],
+    families: bool,
+    prefixes: bool,
+    quick: bool,
+    profile: Optional[str],
+    crashfs: Optional[PathLike],
+    unproved: bool,
+) -> Options:
+    """The options that say which states there are, and who computes them."""
+    return Options(
+        trace=os.fspath(trace),
+        every=every,
+        families=families,
+        prefixes=prefixes,
+        quick=quick,
+        profile=profile,
+        crashfs=path_of(crashfs),
+        unproved=unproved,
+    )
+
+
+def path_of(path: Optional[PathLike]) -> Optional[str]:
+    return None if path is None else os.fspath(path)
+
+
+def set_recovery(options: Options, recovery: Union[RecoveryOf, Sequence[str]]) -> None:
+    """Sets the options' command or function."""
+    if isinstance(recovery, Sequence):
+        options.command = [recovery] if isinstance(recovery, str) else list(recovery)
+        return
+    if options.nested or options.cache:
+        raise Refused('nested and cache need a recovery that is a command')
+
+    function = recovery
+
+    @functools.wraps(function)
+    def call(directory: str, lines: List[str]) -> object:
+        return function(Path(directory), lines)
+
+    options.function = call
+
+
+def run_check(
+    options: Options, guard: Guard, progress: Progress, has_states: bool = False
+) -> Checked:
+    """Runs a check by its options: the command is no more than this. has_states says whether the
+    report has the outcome of each state."""
+    result = check_trace(options, guard, progress, has_states)
+    return Checked(Report(result.report, result.mode), result.end)

@@ -1,0 +1,87 @@
+"""The crash states of a trace, one after the other, for a loop in the calling program."""
+
+from __future__ import annotations
+
+import os
+import tempfile
+from contextlib import contextmanager
+from dataclasses import dataclass, field
+from pathlib import Path
+from typing import Dict, Iterator, List, Optional
+
+from crashfs_tools.checker.checked_trace import CheckedTrace
+from crashfs_tools.checker.options import NAME
+from crashfs_tools.checker.running.results import Results, known_states
+from crashfs_tools.checker.states.layout import lay_out
+from crashfs_tools.checker.states.plan import Plan, Planned
+from crashfs_tools.common.entry import Entries
+from crashfs_tools.common.guard import Guard
+from crashfs_tools.common.program import Crashfs
+from crashfs_tools.common.removal import remove_tree
+
+from .checks import options_of_states
+from .reports import PathLike
+
+
+@dataclass(frozen=True)
+class CrashState:
+    """What a crash may leave: its files, and the lines that were acknowledged before it. number is
+    that of crashfs-check; profiles are those that allow the state."""
+
+    number: int
+    acknowledged: List[str]
+    profiles: List[str]
+    tree: Entries = field(repr=False)
+
+    @contextmanager
+    def laid_out(self) -> Iterator[Path]:
+        """A directory that has the state's files. It is removed at the end of the `with`."""
+        folder = tempfile.mkdtemp(prefix='crashfs-state-')
+        try:
+            directory = os.path.join(folder, str(self.number))
+            lay_out(directory, ((path.lstrip('/'), one) for path, one in self.tree.items()))
+            yield Path(directory)
+        finally:
+            remove_tree(folder)
+
+    def files(self) -> Dict[str, bytes]:
+        """The bytes of each file by its path in the directory."""
+        return {
+            path.lstrip('/'): bytes(entry.data)
+            for path, entry in self.tree.items()
+            if entry.data is not None
+        }
+
+
+def states(
+    trace: PathLike,
+    *,
+    every: Optional[int] = None,
+    families: bool = False,
+    prefixes: bool = False,
+    quick: bool = False,
+    profile: Optional[str] = None,
+    crashfs: Optional[PathLike] = None,
+    unproved: bool = False,
+) -> Iterator[CrashState]:
+    """Each different crash state of a trace, as crashfs-check tries them by these options."""
+    options = options_of_states(trace, every, families, prefixes, quick, profile, crashfs, unproved)
+    program = Crashfs.find_or_read(options.crashfs, unproved)
+    with Guard(f'{NAME}-', is_reaper=False) as guard:
+        checked = CheckedTrace(options, program, guard)
+        before: Optional[Plan] = None
+        for planned in checked.all_planned():
+            known = known_states(before, planned.plan) if before else {}
+            yield from states_of(checked, planned, Results(planned.plan, known=known))
+            before = planned.plan
+
+
+def states_of(checked: CheckedTrace, planned: Planned, results: Results) -> Iterator[CrashState]:
+    """The different states of one window."""
+    texts = checked.lines.acknowledged
+    for request in planned.requests(results.trials.values()):
+        trees = checked.program.trees(request.words, checked.guard.environment)
+        for own, tree in trees:
+            state = planned.plan.state(own + request.lead)
+            profiles = planned.plan.profiles_of(state)
+            yield CrashState(state.number, texts[: state.says], profiles, tree)

@@ -1,0 +1,112 @@
+"""Records a session: what crashfs-record does, as a function."""
+
+from __future__ import annotations
+
+import inspect
+import os
+import subprocess
+import sys
+from dataclasses import dataclass
+from pathlib import Path
+from typing import Callable, List, Mapping, Optional, Sequence, Union
+
+from crashfs_tools.common.command import Refused
+from crashfs_tools.common.program import LIBRARY
+
+from .reports import PathLike
+
+# Changes the store in a directory. It calls its second argument with a line when it would answer
+# its user that something is stored.
+SessionOf = Callable[[Path, Callable[[str], None]], object]
+
+RECORD = (
+    f'import sys; sys.path.insert(0, {LIBRARY!r}); '
+    'from crashfs_tools.recorder.main import main; sys.exit(main(sys.argv[1:]))'
+)
+# Calls a function: its file, its module, its name, and where Python looks for modules.
+START = (
+    f'import sys; sys.path.insert(0, {LIBRARY!r}); '
+    'from crashfs_tools.api.sessions import main; main(sys.argv[1:])'
+)
+COMPLETE, NOTED, INCOMPLETE = 0, 4, 3
+# The descriptor for a function's acknowledged lines: what it prints is no such line.
+LINES = 3
+WITH_LINES = f'exec "$@" {LINES}>/dev/null'
+
+
+@dataclass(frozen=True)
+class Recording:
+    """A trace that was recorded. messages is what crashfs-record reported; is_complete says whether
+    the trace has all that can make a state good or bad."""
+
+    trace: Path
+    is_complete: bool
+    messages: List[str]
+
+    def __fspath__(self) -> str:
+        return str(self.trace)
+
+
+def record(
+    directory: PathLike,
+    session: Union[SessionOf, Sequence[str]],
+    trace: PathLike,
+    *,
+    ignore: Sequence[str] = (),
+    mapped: bool = False,
+    stacks: bool = False,
+    begin_after: Optional[str] = None,
+    profile: Optional[str] = None,
+    block: Optional[int] = None,
+    acknowledged: Sequence[str] = (),
+    environment: Optional[Mapping[str, str]] = None,
+) -> Recording:
+    """Runs a session in a directory under strace, and writes what it does as a trace.
+
+    session is a command, as a list of words, or a function of a module, which a new Python calls
+    with the directory and a function that acknowledges a line. The content of the directory before
+    it is the start tree. The options are those of crashfs-record; acknowledged is its --say-fd.
+    Refused is raised if no trace can be written."""
+    words = [word for glob in ignore for word in ('--ignore', glob)]
+    words += ['--mapped'] if mapped else []
+    words += ['--stacks'] if stacks else []
+    words += ['--begin-after', begin_after] if begin_after is not None else []
+    words += ['--profile', profile] if profile is not None else []
+    words += ['--block', str(block)] if block is not None else []
+    words += [word for name in acknowledged for word in ('--say-fd', name)]
+    command = list(session) if isinstance(session, Sequence) else command_of(session)
+    words += [] if isinstance(session, Sequence) else ['--say-fd', str(LINES)]
+    return run_recorder(
+        [*words, os.fspath(directory), os.fspath(trace), '--', *command], environment
+    )
+
+
+def run_recorder(words: List[str], environment: Optional[Mapping[str, str]]) -> Recording:
+    """Runs crashfs-record; Refused if it writes no trace."""
+    ran = subprocess.run(
+        [sys.executable, '-S', '-c', RECORD, *words],
+        stdin=subprocess.DEVNULL,
+        stdout=subprocess.DEVNULL,
+        stderr=subprocess.PIPE,
+        env=None if environment is None else dict(environment),
+        check=False,
+    )
+    messages = [
+        line.partition('crashfs-record: ')[2] or line
+        for line in ran.stderr.decode('utf-8', 'replace').splitlines()
+    ]
+    if ran.returncode not in (COMPLETE, NOTED, INCOMPLETE):
+        raise Refused('\n'.join(messages) or f'crashfs-record: status {ran.returncode}')
+    trace = Path(words[words.index('--') - 1])
+    return Recording(trace, ran.returncode != INCOMPLETE, messages)
+
+
+def command_of(session: SessionOf) -> List[str]:
+    """The command that calls a function. Refused if a new Python can't find it by its file and
+    name, as a function inside another one."""
+    path, name = inspect.getsourcefile(session), session.__qualname__
+    module = session.__module__
+    if path is None or '<' in name:
+        raise Refused(f'{name} is no function of a module: a new Python can not call it')
+    python = [sys.executable, '-c', START, os.path.abspath(path), module, name, *sys.path]
+    return ['sh', '-c', WITH_LINES, 'sh', *python]

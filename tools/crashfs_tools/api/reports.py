@@ -1,0 +1,144 @@
+"""The report of a check, for programs."""
+
+from __future__ import annotations
+
+import os
+from dataclasses import dataclass, field
+from typing import Callable, Dict, Iterator, List, Optional, Union
+
+from crashfs_tools.checker.findings.groups import Group
+from crashfs_tools.checker.findings.accepted_failures import AcceptedFailure
+from crashfs_tools.checker.report.report import CheckReport
+from crashfs_tools.checker.report.text import ReportText
+from crashfs_tools.common.command import write_whole
+from crashfs_tools.common.trace_lines import TraceLine
+
+PathLike = Union[str, 'os.PathLike[str]']
+
+
+@dataclass(frozen=True)
+class Entry:
+    """Failing states with one cause and one pair of lines in the wrong order.
+
+    cause is what the recovery said, and text the sentence with the two lines, the advice and what
+    was tried. states has the numbers of the failing states, count says how many of them differ, and
+    example is the one that lacks the least. lost and kept are the two lines of the trace; None if
+    there is none. syncs has the path to sync after each of these lines. profiles has for each
+    profile how many of the different states it allows. accepted is the known failure that the entry
+    is, if it is one."""
+
+    cause: str
+    text: List[str]
+    states: List[int]
+    count: int
+    example: int
+    lost: Optional[TraceLine] = None
+    kept: Optional[TraceLine] = None
+    syncs: Dict[int, str] = field(default_factory=dict)
+    profiles: Dict[str, int] = field(default_factory=dict)
+    accepted: Optional[AcceptedFailure] = None
+
+    def __str__(self) -> str:
+        return '\n'.join([self.cause, *(f'  {line}' for line in self.text)])
+
+
+@dataclass(frozen=True)
+class StateOutcome:
+    """What the recovery made of a state: result is `good`, `bad` or `no answer`, cause what it
+    said, output the end of what it printed. acknowledged is how many lines the session had
+    acknowledged, and profiles are those that allow the state."""
+
+    number: int
+    acknowledged: int
+    result: str
+    cause: str
+    output: str
+    profiles: List[str]
+
+
+class Report:
+    """What a check found. It is printed as crashfs-check prints it."""
+
+    def __init__(self, found: CheckReport, mode: int = 0o600) -> None:
+        self._found = found
+        self._mode = mode
+        self._text = ReportText(found)
+
+    @property
+    def status(self) -> int:
+        """The exit status of crashfs-check: 0 none fails, 1 some fail, 3 not all has an answer."""
+        return self._found.status
+
+    @property
+    def entries(self) -> List[Entry]:
+        """The failures, the largest first; known failures are among them."""
+        return [self._entry(group) for group in self._found.groups()]
+
+    @property
+    def failures(self) -> List[Entry]:
+        """The entries that are no known failures."""
+        return [entry for entry in self.entries if entry.accepted is None]
+
+    @property
+    def states(self) -> List[StateOutcome]:
+        """The outcome of each state that was tried, or is equal to one that was."""
+        return [
+            StateOutcome(
+                state.number, state.says, outcome.result, outcome.cause, outcome.output, profiles
+            )
+            for state, outcome, profiles in self._found.state_outcomes
+        ]
+
+    @property
+    def lines(self) -> List[str]:
+        """The report as text."""
+        return self._text.lines()
+
+    @property
+    def operations(self) -> Dict[int, TraceLine]:
+        """The operations of the trace in words, by the numbers of their lines."""
+        return dict(self._found.head.lines)
+
+    @property
+    def profiles(self) -> List[str]:
+        """The profiles for which the report says which of them allow an entry's states."""
+        return list(self._found.profiles)
+
+    def __str__(self) -> str:
+        return '\n'.join(self.lines)
+
+    def write_json(self, path: PathLike) -> None:
+        """Writes the whole report for other tools, as --json does."""
+        from crashfs_tools.checker.report.json_report import json_pieces
+
+        self._write(path, json_pieces)
+
+    def write_junit(self, path: PathLike) -> None:
+        """Writes the report as JUnit XML."""
+        from crashfs_tools.checker.report.junit import junit_lines
+
+        self._write(path, junit_lines)
+
+    def write_html(self, path: PathLike) -> None:
+        """Writes the report as a page for a browser."""
+        from crashfs_tools.checker.report.page import page
+
+        self._write(path, page)
+
+    def _write(self, path: PathLike, pieces: Callable[[CheckReport], Iterator[str]]) -> None:
+        """Who may not read the trace may not read the file; it is durable when this returns."""
+        write_whole(os.fspath(path), pieces(self._found), self._mode)
+
+    def _entry(self, group: Group) -> Entry:
+        return Entry(
+            group.cause,
+            self._text.details(group),
+            [state.number for state in group.states],
+            group.count,
+            group.example.number,
+            group.lost,
+            group.kept,
+            dict(group.advice.syncs),
+            {name: len(states) for name, states in group.under.items()},
+            group.accepted,
+        )

@@ -1,0 +1,44 @@
+"""Calls a function that is recorded, in a Python of its own."""
+
+from __future__ import annotations
+
+import importlib
+import importlib.util
+import os
+import sys
+from functools import reduce
+from pathlib import Path
+from typing import Any, List
+
+from .recordings import LINES
+
+
+def acknowledge(line: str) -> None:
+    """Writes an acknowledged line, in one write."""
+    if '\n' in line:
+        raise ValueError('an acknowledged line has no line feed')
+    os.write(LINES, f'{line}\n'.encode('utf-8', 'surrogateescape'))
+
+
+def main(arguments: List[str]) -> None:
+    """Calls the function of a file, module and name with this directory; further arguments are
+    where Python looks for modules."""
+    path, module, name, *sys.path = arguments
+    session: Any = reduce(getattr, name.split('.'), module_of(path, module))
+    session(Path.cwd(), acknowledge)
+
+
+def module_of(path: str, name: str) -> object:
+    """The module of a file: by its name if that finds this file, else as one without a package."""
+    try:
+        module = importlib.import_module(name)
+        if os.path.realpath(module.__file__ or '') == os.path.realpath(path):
+            return module
+    except ModuleNotFoundError:
+        pass
+    spec = importlib.util.spec_from_file_location(Path(path).stem, path)
+    assert spec is not None and spec.loader is not None
+    made = importlib.util.module_from_spec(spec)
+    sys.modules[spec.name] = made
+    spec.loader.exec_module(made)
+    return made

@@ -1,0 +1,126 @@
+"""The trace that is checked: its plans, window by window, and its lines. What few checks need is
+imported where they need it."""
+
+from __future__ import annotations
+
+import os
+import stat
+from functools import cached_property
+from typing import TYPE_CHECKING, Iterator, Optional
+
+from crashfs_tools.checker.running.progress import Progress
+from crashfs_tools.checker.running.results import Head
+from crashfs_tools.checker.running.runner import AcknowledgedLines
+from crashfs_tools.checker.running.trials import Trials, Workplace
+from crashfs_tools.checker.states.plan import Offsets, Planned
+from crashfs_tools.checker.states.planning import Planner, TooLarge
+from crashfs_tools.common.command import TEXT, Refused
+from crashfs_tools.common.guard import Guard
+from crashfs_tools.common.program import Crashfs
+from crashfs_tools.common.trace_text import TraceText, read_text, version_of
+
+from .options import Options
+
+if TYPE_CHECKING:
+    from crashfs_tools.checker.states.windows import Windows
+
+
+class CheckedTrace:
+    """A trace that is checked by one program. windows is None for a trace that is tried whole."""
+
+    def __init__(
+        self,
+        options: Options,
+        program: Crashfs,
+        guard: Guard,
+        progress: Optional[Progress] = None,
+    ) -> None:
+        assert options.trace is not None
+        self.options, self.guard = options, guard
+        self.progress = progress or Progress()
+        self.path = os.path.abspath(options.trace)
+        with open(self.path, **TEXT) as file:
+            self.text = file.read()
+            status = os.fstat(file.fileno())
+        # Nobody may read of the trace in a report who may not read the trace.
+        self.mode = 0o600 | status.st_mode & 0o066
+        if not stat.S_ISREG(status.st_mode):
+            self.path = self.copied()
+        self.program = program.for_version(version_of(self.text))
+        self.planner = Planner(options, self.program, guard)
+        self.windows: Optional[Windows] = None
+
+    def copied(self) -> str:
+        """A file that has the trace, which comes by a pipe: the program reads it several times."""
+        path = os.path.join(self.guard.directory, 'trace')
+        with open(path, 'w', **TEXT) as file:
+            file.write(self.text)
+        return path
+
+    def all_planned(self) -> Iterator[Planned]:
+        """The plan of the trace, or of each of its windows."""
+        if self.options.window is None:
+            try:
+                yield self.planner.plan(self.path)
+                return
+            except TooLarge as fault:
+                if self.options.serve is not None:
+                    raise Refused(f'{fault} (--serve has no windows)') from fault
+                if self.options.disks is not None:
+                    raise Refused(f'{fault} (--disks has no windows)') from fault
+        from crashfs_tools.checker.states.windows import windows_of
+
+        self.windows = windows_of(self.planner, self.options, self.text)
+        yield from self.windows.all()
+
+    @cached_property
+    def lines(self) -> TraceText:
+        """The lines in words. Ask for them only when the program has accepted the trace."""
+        return read_text(self.text)
+
+    @cached_property
+    def says(self) -> AcknowledgedLines:
+        return AcknowledgedLines(self.lines.acknowledged, self.guard.directory)
+
+    @cached_property
+    def workplace(self) -> Workplace:
+        return Workplace(self.options, self.program, self.guard, self.says, self.progress)
+
+    def trials(self, planned: Planned) -> Trials:
+        return Trials(self.workplace, planned)
+
+    def trials_of(self, number: int) -> Trials:
+        """The trials of the window that has a state; Refused if none has it."""
+        count = 0
+        for planned in self.all_planned():
+            if planned.plan.has(number):
+                return self.trials(planned)
+            count += len(planned.plan.listed)
+        raise Refused(f'no such state: {number} (there are {count:,})')
+
+    def head(self) -> Head:
+        return Head(
+            os.path.basename(self.options.trace or ''),
+            self.digest(),
+            self.options.command,
+            self.options.shard,
+            self.program.unproved,
+            refused_version=self.program.refused_version,
+        )
+
+    def digest(self) -> str:
+        """That of the trace, if a file of results has it or will have it."""
+        if not (self.options.json or self.options.resume or self.options.merge):
+            return ''
+        import hashlib
+
+        return hashlib.sha256(self.text.encode('utf-8', 'surrogateescape')).hexdigest()
+
+    def end(self) -> Optional[Planned]:
+        """A plan of the tree at the session's end, if it is in windows."""
+        if self.windows is None:
+            return None
+        path = self.windows.write_end()
+        return self.planner.plan(
+            path, Offsets(self.windows.session.places[-1], says=len(self.says.texts))
+        )

@@ -1,0 +1,112 @@
+"""Known failures: entries of a report that a project has accepted, until a day."""
+
+from __future__ import annotations
+
+import datetime
+import json
+from typing import Any, Dict, Iterable, List, NamedTuple, Optional, Tuple
+
+from crashfs_tools.common.command import Refused
+from crashfs_tools.common.trace_lines import TraceLine, without_numbers
+
+KEYS = ('cause', 'lost', 'kept', 'why', 'until')
+
+
+class AcceptedFailure(NamedTuple):
+    """An entry of a file of known failures: its cause, the lost and the kept operation or nothing,
+    why it is accepted, and the last day on which it is; None for always."""
+
+    cause: str
+    lost: str
+    kept: str
+    why: str
+    until: Optional[datetime.date] = None
+
+    @property
+    def key(self) -> Tuple[str, str, str]:
+        """Equal for entries that differ only in numbers and random parts."""
+        return without_numbers(self.cause), without_numbers(self.lost), without_numbers(self.kept)
+
+    @property
+    def fields(self) -> Dict[str, str]:
+        """What a file has of it."""
+        until = self.until.isoformat() if self.until else ''
+        return {**self._asdict(), 'until': until}
+
+    @property
+    def name(self) -> str:
+        """The cause and the operations."""
+        operations = ', then '.join(filter(None, (self.lost, self.kept)))
+        return f'{self.cause} ({operations})' if operations else self.cause
+
+
+class AcceptedFailures:
+    """The entries of a file."""
+
+    def __init__(self, path: str, entries: List[AcceptedFailure], today: datetime.date) -> None:
+        self.path = path
+        self.today = today
+        self.entries = {entry.key: entry for entry in entries}
+
+    @staticmethod
+    def read(path: str) -> AcceptedFailures:
+        """Reads a file; Refused if it isn't one of known failures."""
+        try:
+            with open(path, encoding='utf-8') as file:
+                values = json.load(file)
+        except OSError as error:
+            raise Refused(f'--accept {path}: {error.strerror}') from error
+        except ValueError as error:
+            raise Refused(f'--accept {path}: no JSON ({error})') from error
+        if not isinstance(values, list):
+            raise Refused(f'--accept {path}: no list of entries')
+        entries = [entry_of(path, place, value) for place, value in enumerate(values, 1)]
+        return AcceptedFailures(path, entries, datetime.date.today())
+
+    def of(self, failure: AcceptedFailure) -> Optional[AcceptedFailure]:
+        """The entry that a failure is, also if its day has passed."""
+        return self.entries.get(failure.key)
+
+    def is_over(self, entry: AcceptedFailure) -> bool:
+        """Whether the last day of an entry has passed."""
+        return entry.until is not None and self.today > entry.until
+
+    def not_among(self, failures: Iterable[AcceptedFailure]) -> List[AcceptedFailure]:
+        """The entries that none of the failures is."""
+        seen = {failure.key for failure in failures}
+        return [entry for key, entry in self.entries.items() if key not in seen]
+
+
+def entry_of(path: str, place: int, value: Any) -> AcceptedFailure:
+    """An entry of a file, from its value; Refused if something is missing or unknown."""
+    where = f'--accept {path}: entry {place}'
+    if not isinstance(value, dict) or not all(isinstance(text, str) for text in value.values()):
+        raise Refused(f'{where} is no object of texts')
+    unknown = [key for key in value if key not in KEYS]
+    if unknown:
+        raise Refused(f'{where} has an unknown key: {unknown[0]}')
+    for key in ('cause', 'why'):
+        if not value.get(key):
+            raise Refused(f'{where} does not say its {key}')
+    return AcceptedFailure(
+        value['cause'],
+        value.get('lost', ''),
+        value.get('kept', ''),
+        value['why'],
+        date_of(where, value.get('until', '')),
+    )
+
+
+def date_of(where: str, text: str) -> Optional[datetime.date]:
+    try:
+        return datetime.date.fromisoformat(text) if text else None
+    except ValueError as error:
+        raise Refused(f'{where}: until is no date such as 2027-01-31: {text}') from error
+
+
+def operation_text(line: Optional[TraceLine]) -> str:
+    """A line without its details: `rename /new to /old`; nothing if there is none."""
+    if line is None:
+        return ''
+    target = f'to {line.target}' if line.target else ''
+    return ' '.join(filter(None, (line.word, line.path, target)))

@@ -1,0 +1,83 @@
+"""A report as JSON, which other tools read; docs/FORMATS.md has its fields."""
+
+from __future__ import annotations
+
+import json
+from dataclasses import replace
+from typing import Any, Dict, Iterator
+
+from crashfs_tools.checker.findings.groups import Group
+from crashfs_tools.checker.findings.second_crashes import Recovery
+from crashfs_tools.checker.running.results import Results
+
+from .json_text import COMPACT, as_json, unpacked
+from .report import CheckReport
+from .text import ReportText
+
+# What stopped a check that could not say so itself.
+KILLED = 'a kill'
+
+
+def json_pieces(report: CheckReport) -> Iterator[str]:
+    """The results, and the entries with their texts."""
+    yield as_json(report.head.fields(), **COMPACT)[:-1] + ',\n"windows":[\n'
+    for place, window in enumerate(report.packed_windows):
+        yield (',\n' if place else '') + unpacked(window)
+    groups = [group_fields(report, group) for group in report.groups()]
+    yield '],\n"groups":' + as_json(groups, indent=1)
+    recoveries = [recovery_fields(one) for one in report.recoveries]
+    yield ',\n"recoveries":' + as_json(recoveries, indent=1)
+    if report.sightings is not None:
+        yield ',\n"disks":' + json.dumps(report.sightings.fields(), indent=1, ensure_ascii=False)
+    missing = [entry.fields for entry in report.missing_failures()]
+    yield ',\n"accepted_missing":' + as_json(missing, indent=1)
+    yield '}\n'
+
+
+def partial_pieces(report: CheckReport, results: Results) -> Iterator[str]:
+    """The results before the check's end, with those of the window that is tried; without
+    entries. It reads as the report of a check that was killed."""
+    yield as_json(replace(report.head, stopped=KILLED).fields())[:-1] + ',\n"windows":[\n'
+    for window in report.packed_windows:
+        yield unpacked(window) + ',\n'
+    yield as_json(results.fields()) + '],\n"groups":[],\n"recoveries":[]}\n'
+
+
+def recovery_fields(recovery: Recovery) -> Dict[str, Any]:
+    groups = [
+        {
+            'cause': group.cause,
+            'states': [state.number for state in group.states],
+            'example': group.example.number,
+            'crash': recovery.places[group.example.number],
+            'text': group.advice.lines(),
+        }
+        for group in recovery.groups
+    ]
+    return {
+        'state': recovery.state,
+        'states': recovery.states,
+        'fault': recovery.fault,
+        'groups': groups,
+    }
+
+
+def group_fields(report: CheckReport, group: Group) -> Dict[str, Any]:
+    fields = {
+        'cause': group.cause,
+        'states': [state.number for state in group.states],
+        'different': group.count,
+        'under': {name: len(states) for name, states in group.under.items()},
+        'explained': len(group.explained),
+        'covered': group.is_covered,
+        'example': group.example.number,
+        'lines': group.places,
+        'lost': group.lost_lines,
+        'text': ReportText(report).details(group),
+        'syncs': group.advice.syncs,
+        'accepted': group.accepted and group.accepted.fields,
+        'accept': group.as_known.fields,
+    }
+    if group.difference is not None:
+        fields.update(good=group.difference.good, differences=group.difference.lines)
+    return fields

@@ -1,0 +1,119 @@
+"""The first line of a report: what was checked, and the verdict."""
+
+from __future__ import annotations
+
+from typing import List
+
+from crashfs_tools.checker.running.results import Head
+from crashfs_tools.checker.running.runner import NO_ANSWER
+from crashfs_tools.common.printable import printable
+
+from .counts import AcceptedStates, StateCounts
+
+# So many words of causes are counted.
+SHOWN_WORDS = 5
+
+
+class Summary:
+    """The line for what was counted of a check; accepted are the states of known failures."""
+
+    def __init__(self, head: Head, counts: StateCounts, accepted: AcceptedStates) -> None:
+        self.head = head
+        self.counts = counts
+        self.accepted = accepted
+        self.failing = counts.failing - accepted.total
+        self.is_whole = counts.is_whole(head)
+
+    @property
+    def line(self) -> str:
+        counts, trace = self.counts, printable(self.head.trace)
+        if not counts.windows:
+            return f'{trace}: nothing was tried{self.stop_text}'
+        windows = f' in {counts.windows:,} windows' if counts.windows > 1 else ''
+        return (
+            f'{trace}: {counts.operations:,} micro-operations{windows}, {self.states_text}: '
+            f'{self.verdict}'
+        )
+
+    @property
+    def stop_text(self) -> str:
+        return f' (stopped by {self.head.stopped})' if self.head.stopped else ''
+
+    @property
+    def states_text(self) -> str:
+        """How many states there are."""
+        counts = self.counts
+        under = f' under {counts.profile}' if counts.profile else ''
+        if counts.is_part:
+            tried = f'{counts.tried:,} of {counts.total} crash states'
+            return f'{tried}{under} tried{self.stop_text}'
+        if not counts.has_every:
+            return f'{counts.states:,} states{under}, {counts.different:,} different'
+        all_of = 'all ' if self.is_whole and not self.head.cut_off else ''
+        sets = f' ({counts.sets:,} set{"" if counts.sets == 1 else "s"})' if counts.sets else ''
+        states = 'crash states' if counts.different > 1 else 'crash state'
+        states += ' of the windows' if self.head.cut_off else ''
+        return f'{all_of}{counts.different:,} {states}{under or sets}'
+
+    @property
+    def verdict(self) -> str:
+        """How many fail; `none fails` is only said of a whole check."""
+        counts = self.counts
+        if not counts.tried:
+            return f'nothing was tried{self.stop_text}'
+        parts = [*self.failing_text, *self.accepted_text]
+        if counts.results[NO_ANSWER]:
+            parts.append(f'{counts.results[NO_ANSWER]:,} gave no answer')
+        if not counts.is_part and (counts.left or self.head.has_rest):
+            parts.append(f'{self.left_text} not tried{self.stop_text}')
+        return '; '.join(parts)
+
+    @property
+    def accepted_text(self) -> List[str]:
+        """How many states are of known failures; nothing if none is."""
+        count = self.accepted.total
+        if not count:
+            return []
+        if self.failing:
+            return [f'{count:,} more {fails(count)}, accepted']
+        of_tried = '' if self.is_whole or self.counts.is_part else self.of_tried
+        return [f'{count:,}{of_tried} {fails(count)}, accepted']
+
+    @property
+    def failing_text(self) -> List[str]:
+        """How many fail, apart from known failures; nothing if there are only these."""
+        counts = self.counts
+        if not self.failing:
+            return [] if self.accepted.total else [self.none_text]
+        words = (counts.words - self.accepted.words).most_common(SHOWN_WORDS)
+        causes = ', '.join(f'{count:,} {printable(word)}' for word, count in words)
+        fail = fails(self.failing)
+        if not self.is_whole and not counts.is_part:
+            return [f'{self.failing:,}{self.of_tried} {fail}: {causes}']
+        of_all = f' ({counts.all_failing:,} of all {counts.states:,} states)'
+        is_every = counts.is_part or counts.has_every
+        return [f'{self.failing:,} {fail}{"" if is_every else of_all}: {causes}']
+
+    @property
+    def none_text(self) -> str:
+        if self.counts.is_part:
+            return 'none of these fails'
+        return 'none fails' if self.is_whole else f'none{self.of_tried} fails'
+
+    @property
+    def of_tried(self) -> str:
+        shard = self.head.shard
+        by_shard = f' by shard {shard.part}/{shard.parts}' if shard.parts > 1 else ''
+        return f' of the {self.counts.tried:,} tried{by_shard}'
+
+    @property
+    def left_text(self) -> str:
+        """What was not tried."""
+        counts, rest = self.counts, ''
+        if self.head.has_rest:
+            rest = f'all states after micro-operation {counts.operations - 1:,}'
+        return ' and '.join(filter(None, [f'{counts.left:,}' if counts.left else '', rest]))
+
+
+def fails(count: int) -> str:
+    return 'fails' if count == 1 else 'fail'

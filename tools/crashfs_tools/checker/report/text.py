@@ -1,0 +1,264 @@
+"""A report as text, in lines."""
+
+from __future__ import annotations
+
+from typing import TYPE_CHECKING, Iterable, List, Optional
+
+from crashfs_tools.checker.findings.groups import Group
+from crashfs_tools.checker.findings.accepted_failures import AcceptedFailure
+from crashfs_tools.common.printable import printable
+from crashfs_tools.common.program import can_be_built
+from crashfs_tools.common.trace_lines import TraceLine
+
+from .profiles import profiles_text
+from .report import CheckReport
+from .rest import rest_lines
+from .summary import Summary
+
+if TYPE_CHECKING:
+    from crashfs_tools.checker.findings.second_crashes import SecondCrash
+
+SHOWN_GROUPS = 20
+# So many lines are shown of what an entry's example lacks, and of the syncs that aren't enough.
+SHOWN_LINES = 3
+WIDTH = 100
+CAUSE_WIDTH = 52
+UNPROVED = 'unproved: a Python program computed these states, not crashfs'
+VERSION_UNPROVED = (
+    'unproved: a Python program computed these states, as crashfs takes no traces of version {} yet'
+)
+SETS_UNPROVED = 'unproved: a Python program found which states there are, not crashfs'
+HOW_TO_BUILD = ' (tools/build builds crashfs)'
+
+
+class ReportText:
+    """The lines of a report."""
+
+    def __init__(self, report: CheckReport) -> None:
+        self.report = report
+        self.head = report.head
+        self.counts = report.counts
+
+    def lines(self) -> List[str]:
+        """None but the first is longer than WIDTH: the JSON has all of it."""
+        groups = self.report.groups()
+        accepted = [group for group in groups if group.accepted is not None]
+        # What the syncs of accepted entries remove has no others above it.
+        covered = [group for group in groups if group.is_covered and not accepted]
+        shown = [group for group in groups if group not in accepted and group not in covered]
+        return self.first_lines() + [
+            cut(printable(line))
+            for line in [
+                *self.entry_lines(shown),
+                *self.union_lines(shown, covered),
+                *self.accepted_lines(accepted),
+                *self.missing_lines(),
+                *self.cut_off_lines(),
+                *self.recovery_lines(),
+                *self.disk_lines(),
+                *folded(rest_lines(self.counts), '  '),
+            ]
+        ]
+
+    def entry_lines(self, shown: List[Group]) -> List[str]:
+        """The largest entries, and how many more there are."""
+        lines = [line for group in shown[:SHOWN_GROUPS] for line in self.group_lines(group)]
+        others = shown[SHOWN_GROUPS:]
+        if others:
+            states = number_of(sum(group.count for group in others), 'more state')
+            entries = f'{len(others):,} other {"entry" if len(others) == 1 else "entries"}'
+            lines.append(f'  and {states} in {entries} (all are in the file of --json)')
+        return lines
+
+    def accepted_lines(self, accepted: List[Group]) -> List[str]:
+        """The known failures that were found, with their reasons."""
+        lines: List[str] = []
+        for group in accepted[:SHOWN_GROUPS]:
+            assert group.accepted is not None
+            cause = cut(printable(f'accepted: {group.cause}'), CAUSE_WIDTH)
+            lines.append(f'  {cause:<{CAUSE_WIDTH}} {self.states_text(group)}')
+            lines += folded([accepted_text(group.accepted)], '    ')
+        more = len(accepted) - SHOWN_GROUPS
+        return lines + ([f'  and {more:,} more that are accepted'] if more > 0 else [])
+
+    def missing_lines(self) -> List[str]:
+        """The known failures that were not found. They are gone if all crash states were tried."""
+        counts = self.counts
+        is_all = counts.has_every and not counts.is_part and counts.is_whole(self.head)
+        how = 'gone' if is_all else 'not seen'
+        missing = self.report.missing_failures()
+        return folded((f'accepted, and {how}: {entry.name}' for entry in missing), '  ')
+
+    def summary(self) -> str:
+        """The first line: what was checked, and the verdict."""
+        return Summary(self.head, self.counts, self.report.accepted()).line
+
+    def union_lines(self, shown: List[Group], covered: List[Group]) -> List[str]:
+        """The result of all advised syncs at once, and the entries that need no other syncs."""
+        union, lines = self.report.union(), []
+        advised = [group for group in shown if group.advice.syncs]
+        if union is not None and len(advised) > 1:
+            count = len(union.points)
+            all_syncs = 'both' if count == 2 else f'all {count:,}'
+            lines.append(f'  with {all_syncs} syncs {union.totals.text}')
+        if covered:
+            lines.append('  with these syncs these entries are gone too:')
+        words = {group.outcome.word for group in shown}
+        for group in covered[:SHOWN_GROUPS]:
+            states = self.states_text(group)
+            cause = cut(printable(group.cause), CAUSE_WIDTH - 2)
+            lines.append(f'    {cause:<{CAUSE_WIDTH - 2}} {states}')
+            if group.outcome.word not in words:
+                lines += folded(self.sentences(group), '      ')
+                words.add(group.outcome.word)
+        if len(covered) > SHOWN_GROUPS:
+            lines.append(f'    and {len(covered) - SHOWN_GROUPS:,} more')
+        return lines
+
+    def first_lines(self) -> List[str]:
+        how = HOW_TO_BUILD if can_be_built() else ''
+        if self.head.refused_version:
+            return [VERSION_UNPROVED.format(self.head.refused_version), self.summary()]
+        if self.head.unproved:
+            return [UNPROVED + how, self.summary()]
+        return [SETS_UNPROVED, self.summary()] if self.counts.are_read else [self.summary()]
+
+    def cut_off_lines(self) -> List[str]:
+        """Lines that were still pending where their last window ended."""
+        if not self.head.cut_off:
+            return []
+        number, tried = self.head.cut_off[0]
+        more = len({line for line, _ in self.head.cut_off}) - 1
+        also = f', and so with {number_of(more, "more line")}' if more else ''
+        return [
+            f'  the loss of {self.shown_line(number)} was tried for {tried:,} later '
+            f'micro-operations only{also}'
+        ]
+
+    def recovery_lines(self) -> List[str]:
+        """The findings of second crashes, during the recovery from the first."""
+        if not self.report.recoveries:
+            return []
+        tried = [one for one in self.report.recoveries if not one.fault]
+        failing = sum(one.failing for one in tried)
+        fails = f'{failing:,} fail{"s" if failing == 1 else ""}' if failing else 'none fails'
+        states = number_of(sum(one.states for one in tried), 'different state')
+        lines = [
+            f'  {number_of(len(tried), "recovery")}: {states} of a second crash, {fails}'.replace(
+                'recoverys', 'recoveries'
+            )
+        ]
+        unproved = sum(one.unproved for one in tried)
+        if unproved and not self.head.unproved:
+            lines.append(f'  unproved: a Python program computed the states of {unproved} of these')
+        for group, where in self.report.recovery_groups():
+            lines += self.group_lines(group, where)
+        lines += [
+            f'  the recovery of state {one.state} was not tried: {one.fault}'
+            for one in self.report.recoveries
+            if one.fault
+        ]
+        return lines
+
+    def disk_lines(self) -> List[str]:
+        """What was seen on real disks, and the failures there that no tried state has."""
+        if self.report.sightings is None:
+            return []
+        lines = [f'  {line}' for line in self.report.sightings.lines()]
+        for one in self.report.disk_failures():
+            lines.append(
+                f'  {cut(one.outcome.cause, CAUSE_WIDTH):<{CAUSE_WIDTH}} {one.explanation.where}'
+            )
+            lines += [f'    {line}' for line in one.lines()]
+        return lines
+
+    def group_lines(self, group: Group, second: Optional[SecondCrash] = None) -> List[str]:
+        """The lines of an entry. second says where the second crash was, if there was one."""
+        states = self.states_text(group, f'{second.state}/' if second else '')
+        cause = cut(printable(group.cause), max(CAUSE_WIDTH, WIDTH - len(states) - 3))
+        lines = [f'  {cause:<{CAUSE_WIDTH}} {states}']
+        details = self.details(group)
+        if second is not None:
+            details = [f'state {second.state}, then a crash {second.place}', *group.advice.lines()]
+        return lines + folded(details, '    ')
+
+    def sentences(self, group: Group) -> List[str]:
+        """Which lines of the trace an entry is about, without what to do."""
+        return [line.rstrip(':') for line in [*group.advice.text, *self.needed(group)]]
+
+    def needed(self, group: Group) -> List[str]:
+        """What must be lost too."""
+        lines = ', '.join(map(self.shown_line, group.needed_lines))
+        return [f'it fails only if this is lost too: {lines}'] if lines else []
+
+    @staticmethod
+    def states_text(group: Group, first: str = '') -> str:
+        example = f'--state {first}{group.example.number}'
+        if group.count == 1:
+            return f'1 state: {example}'
+        return f'{group.count:,} states, e.g. {example}'
+
+    def details(self, group: Group) -> List[str]:
+        """The sentence, what was tried, and what else the example lacks."""
+        notes = {line.number: line.note for line in (group.lost, group.kept) if line and line.note}
+        lines = [f'line {number}: {note}' for number, note in sorted(notes.items())]
+        if group.expired is not None:
+            lines.append(f'accepted {accepted_text(group.expired)} (this day has passed)')
+        if group.accepted is not None:
+            lines.append(f'accepted {accepted_text(group.accepted)}')
+        lines += group.advice.lines()
+        for sync in group.other_syncs[:SHOWN_LINES] if group.advice.syncs else []:
+            lines.append(f'line {sync.number} is {sync.text}, which is not enough')
+        lines += self.needed(group)
+        if 0 < len(group.explained) < group.count:
+            lines.append(
+                f'{len(group.explained):,} of these states lack the first of the two lines and '
+                'have the second'
+            )
+        named = {group.lost.number if group.lost else 0, *group.needed_lines}
+        lost = [number for number in group.lost_lines if number not in named]
+        if lost and not group.is_span:
+            shown = ', '.join(map(self.shown_line, lost[:SHOWN_LINES]))
+            more = len(lost) - SHOWN_LINES
+            also = f' and {number_of(more, "more line")}' if more > 0 else ''
+            lines.append(f'state {group.example.number} also lacks {shown}{also}')
+        if group.under:
+            lines.append(profiles_text(group, self.counts.has_every))
+        if self.report.sightings is not None:
+            lines.append(self.report.sightings.sentence([state.number for state in group.states]))
+        return lines
+
+    def shown_line(self, number: int) -> str:
+        line = self.head.lines.get(number, TraceLine(number, ''))
+        return f'line {number} ({line.text})'
+
+
+def folded(lines: Iterable[str], indent: str) -> List[str]:
+    """Lines, folded where they are too long."""
+    from textwrap import wrap
+
+    return [
+        part
+        for line in lines
+        for part in wrap(
+            printable(line),
+            WIDTH,
+            initial_indent=indent,
+            subsequent_indent=f'{indent}  ',
+            break_long_words=False,
+            break_on_hyphens=False,
+        )
+    ]
+
+
+def accepted_text(entry: AcceptedFailure) -> str:
+    """Until when a known failure is accepted, and why."""
+    return f'until {entry.until}: {entry.why}' if entry.until else entry.why
+
+
+def number_of(count: int, noun: str) -> str:
+    return f'{count:,} {noun}' if count == 1 else f'{count:,} {noun}s'
+
+
+def cut(text: str, width: int = WIDTH) -> str:
+    return text if len(text) <= width else text[: width - 2] + '..'

@@ -1,0 +1,135 @@
+"""What is run in a crash state: a command, or a function of the calling program."""
+
+from __future__ import annotations
+
+import errno
+import os
+import signal
+import sys
+import traceback
+from typing import Dict, List, NamedTuple, NoReturn, Protocol
+
+from crashfs_tools.checker.options import RecoveryFunction
+from crashfs_tools.common.command import TEXT, Refused
+from crashfs_tools.common.descendants import die_with_parent
+
+# The signals that Python ignores, and that a command has as usual.
+IGNORED = (signal.SIGPIPE, signal.SIGXFSZ)
+STOPS = (signal.SIGINT, signal.SIGTERM, signal.SIGHUP)
+FAILED = 1
+
+
+class StandardStreams(NamedTuple):
+    """What a recovery reads, a file of the acknowledged lines, and the descriptor that it prints
+    to."""
+
+    lines: str
+    output: int
+
+
+class StateRecovery(Protocol):
+    """Starts in this process's directory, in a session of its own."""
+
+    @property
+    def words(self) -> List[str]:
+        """What reports call it."""
+
+    def start(self, environment: Dict[bytes, bytes], streams: StandardStreams) -> int:
+        """The number of the process that was started."""
+
+
+class CommandRecovery:
+    """A program with its arguments."""
+
+    def __init__(self, words: List[str]) -> None:
+        self.words = words
+
+    def start(self, environment: Dict[bytes, bytes], streams: StandardStreams) -> int:
+        try:
+            return os.posix_spawn(
+                self.words[0],
+                self.words,
+                environment,
+                setsid=True,
+                setsigdef=IGNORED,
+                file_actions=[
+                    (os.POSIX_SPAWN_OPEN, 0, streams.lines, os.O_RDONLY, 0),
+                    (os.POSIX_SPAWN_DUP2, streams.output, 1),
+                    (os.POSIX_SPAWN_DUP2, streams.output, 2),
+                ],
+            )
+        except OSError as error:
+            if error.errno in (errno.EAGAIN, errno.ENOMEM):
+                raise
+            raise Refused(f'{self.words[0]}: {error.strerror}') from error
+
+
+class FunctionRecovery:
+    """A function. Each call is in a fork of this process: nothing that it does to this one's memory
+    is seen later, and it can be killed if it is slow."""
+
+    def __init__(self, function: RecoveryFunction) -> None:
+        self.function = function
+
+    @property
+    def words(self) -> List[str]:
+        return [f'{self.function.__module__}.{self.function.__qualname__}']
+
+    def start(self, environment: Dict[bytes, bytes], streams: StandardStreams) -> int:
+        process = os.fork()
+        if process == 0:
+            try:
+                self.become_child(environment, streams)
+                status = self.call()
+            except BaseException:
+                traceback.print_exc()
+                status = FAILED
+            end_process(status)
+        return process
+
+    def become_child(self, environment: Dict[bytes, bytes], streams: StandardStreams) -> None:
+        """Gives a new process what a command has; it is killed if its parent ends."""
+        die_with_parent()
+        os.setsid()
+        for stop in STOPS:
+            signal.signal(stop, signal.SIG_DFL)
+        os.dup2(os.open(streams.lines, os.O_RDONLY), 0)
+        os.dup2(streams.output, 1)
+        os.dup2(streams.output, 2)
+        # The caller may have replaced them, as pytest does.
+        sys.stdin, sys.stdout = open(0, **TEXT), open(1, 'w', **TEXT)
+        sys.stderr = sys.stdout
+        for name in (b'CRASHFS_STATE', b'CRASHFS_SAYS'):
+            os.environb[name] = environment[name]
+
+    def call(self) -> int:
+        """Calls the function, and returns the status; the last line printed is the cause."""
+        lines = [line.rstrip('\n') for line in sys.stdin]
+        try:
+            self.function(os.getcwd(), lines)
+        except SystemExit as end:
+            if end.code is None or isinstance(end.code, int):
+                return end.code or 0
+            print(end.code)
+            return FAILED
+        except BaseException as fault:
+            traceback.print_exc()
+            print(f'\n{cause_of(fault)}')
+            return FAILED
+        return 0
+
+
+def cause_of(fault: BaseException) -> str:
+    """The text of an assertion; of another exception also its type."""
+    text = str(fault).strip()
+    if not (isinstance(fault, AssertionError) and text):
+        text = traceback.format_exception_only(type(fault), fault)[-1].strip()
+    return text.split('\n')[0]
+
+
+def end_process(status: int) -> NoReturn:
+    """Ends a fork, without what the caller's program does at its own end."""
+    try:
+        sys.stdout.flush()
+    finally:
+        os._exit(status)

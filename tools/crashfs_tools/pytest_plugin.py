@@ -1,0 +1,122 @@
+"""The plugin for pytest: the fixture `crash_states`, and the option `--crash-states`.
+
+    def test_crash_states(crash_states):
+        crash_states(session, recovery)
+
+Each entry of the report is one failure. docs/how-to/testing.md explains it."""
+
+from __future__ import annotations
+
+from pathlib import Path
+from typing import Any, Callable, Iterator, List, Optional, Sequence, Union
+
+import pytest
+
+from crashfs_tools.api.checks import RecoveryOf, check
+from crashfs_tools.api.recordings import SessionOf, record
+from crashfs_tools.api.reports import Entry, PathLike, Report
+from crashfs_tools.common.command import Refused
+
+# The failures after the first one, which is that of the test itself.
+OTHERS = pytest.StashKey[List[str]]()
+
+
+def pytest_addoption(parser: pytest.Parser) -> None:
+    group = parser.getgroup('crash states (crashfs)')
+    group.addoption(
+        '--crash-states',
+        action='store_true',
+        help='run the tests that have the fixture crash_states; else they are skipped',
+    )
+    group.addoption(
+        '--crash-accept',
+        metavar='FILE',
+        help='a JSON list of known failures of these tests, as crashfs-check --accept takes it',
+    )
+
+
+class CrashStates:
+    """Records a session, and runs a recovery in its crash states; for one test."""
+
+    def __init__(self, item: pytest.Item, folder: Path) -> None:
+        self.item = item
+        self.folder = folder
+
+    def __call__(
+        self,
+        session: Union[SessionOf, Sequence[str]],
+        recovery: Union[RecoveryOf, Sequence[str]],
+        *,
+        start: Optional[Callable[[Path], object]] = None,
+        ignore: Sequence[str] = (),
+        mapped: bool = False,
+        block: Optional[int] = None,
+        accept: Optional[PathLike] = None,
+        **options: Any,
+    ) -> Report:
+        """Fails the test if a state fails, with each entry of the report; returns the report.
+
+        start fills the directory before the session begins. The options are those of
+        crashfs_tools.record and, the others, of crashfs_tools.check."""
+        store = self.folder / 'store'
+        store.mkdir()
+        if start is not None:
+            start(store)
+        trace = self.folder / 'session.trace'
+        try:
+            recording = record(store, session, trace, ignore=ignore, mapped=mapped, block=block)
+            if not recording.is_complete:
+                fail('the trace is not complete:', *recording.messages)
+            accept = accept or self.item.config.getoption('--crash-accept')
+            report = check(trace, recovery, accept=accept, **options)
+        except Refused as refused:
+            fail(str(refused))
+        self.judge(report, trace)
+        return report
+
+    def judge(self, report: Report, trace: Path) -> None:
+        """Fails the test with the first entry, and keeps the others; or with the whole report if
+        not all states have an answer."""
+        texts = [failure_text(entry, trace) for entry in report.failures]
+        if texts:
+            self.item.stash[OTHERS] = texts[1:]
+            fail(texts[0])
+        if report.status != 0:
+            fail(str(report))
+
+
+def failure_text(entry: Entry, trace: Path) -> str:
+    return f'{entry}\n  state {entry.example} of {trace}'
+
+
+def fail(*lines: str) -> None:
+    pytest.fail('\n'.join(lines), pytrace=False)
+
+
+@pytest.fixture
+def crash_states(request: pytest.FixtureRequest, tmp_path: Path) -> CrashStates:
+    """Call it with a session and a recovery: functions of the test's module, or commands."""
+    if not request.config.getoption('--crash-states'):
+        pytest.skip('needs --crash-states')
+    return CrashStates(request.node, tmp_path)
+
+
+@pytest.hookimpl(hookwrapper=True)
+def pytest_runtest_protocol(item: pytest.Item) -> Iterator[None]:
+    """Reports the further failures of a test after its own."""
+    yield
+    others = item.stash[OTHERS] if OTHERS in item.stash else []
+    for number, text in enumerate(others, 2):
+        item.ihook.pytest_runtest_logreport(report=failure_report(item, number, text))
+
+
+def failure_report(item: pytest.Item, number: int, text: str) -> pytest.TestReport:
+    """A further failure of a test, with a name of its own."""
+    try:
+        fail(text)
+    except pytest.fail.Exception:
+        shown = item.repr_failure(pytest.ExceptionInfo.from_current())
+    path, line, name = item.location
+    keywords = {item.name: 1}
+    location = path, line, f'{name} ({number})'
+    return pytest.TestReport(item.nodeid, location, keywords, 'failed', shown, 'call')

@@ -1,0 +1,247 @@
+"""The Python interface: sessions, checks and states, as functions and as objects."""
+
+from __future__ import annotations
+
+import json
+import os
+import time
+import unittest
+from pathlib import Path
+from typing import List
+
+import crashfs_tools
+from crashfs_tools import Refused, check, record, states
+
+from . import data_store
+from .data_store import recovery, session, synced_session
+from .support import EXAMPLES, TOOLS, InFolder, needs_strace
+
+STORE = EXAMPLES / 'store.trace'
+CONFIG = EXAMPLES / 'config' / 'config.trace'
+SENTENCE = (
+    'line 6 (rename /config.new to /config) was not durable when line 7 acknowledged "version 1 is '
+    'saved":'
+)
+
+RIGHTS = '"owner":"u","group":"u","mode":"755"'
+TWO_FILES = (
+    f'{{"trace":3,"profile":"blocks","block":4096,{RIGHTS}}}\n'
+    f'{{"op":"creat","path":"/a",{RIGHTS}}}\n{{"op":"creat","path":"/b",{RIGHTS}}}\n'
+)
+
+
+class InterfaceCase(InFolder):
+    def setUp(self) -> None:
+        super().setUp()
+        self.before = sorted(os.listdir(self.temporary))
+        os.environ['TMPDIR'], earlier = self.temporary, os.environ.get('TMPDIR')
+        import tempfile
+
+        tempfile.tempdir = None
+        self.addCleanup(setattr, tempfile, 'tempdir', None)
+        self.addCleanup(
+            lambda: os.environ.pop('TMPDIR')
+            if earlier is None
+            else os.environ.__setitem__('TMPDIR', earlier)
+        )
+
+
+class Names(unittest.TestCase):
+    def test_all_public_names_are_there_and_no_other(self) -> None:
+        for name in crashfs_tools.__all__:
+            self.assertTrue(callable(getattr(crashfs_tools, name)), name)
+        with self.assertRaises(AttributeError):
+            crashfs_tools.no_such_name  # type: ignore[attr-defined]  # it isn't there
+
+    def test_the_types_are_for_others_too(self) -> None:
+        self.assertTrue((TOOLS / 'crashfs_tools' / 'py.typed').exists())
+
+
+def lost_version(directory: Path, acknowledged: List[str]) -> None:
+    """What examples/config/check.sh looks for."""
+    path = directory / 'config'
+    found = path.read_text() if path.exists() else 'none'
+    assert found.startswith('version='), f'corrupt: {found}'
+    version = int(found.split('=')[1].split()[0])
+    assert version >= len(acknowledged), 'lost: a version that was saved is not there'
+
+
+class Checks(InterfaceCase):
+    def test_a_function_and_a_command_have_the_same_report(self) -> None:
+        by_function = check(CONFIG, lost_version)
+        by_command = check(str(CONFIG), [str(EXAMPLES / 'config' / 'check.sh')], jobs=2)
+        self.assertEqual(by_function.lines, by_command.lines)
+        ran = self.run_tool(
+            'crashfs-check', str(CONFIG), '--', str(EXAMPLES / 'config' / 'check.sh')
+        )
+        self.assertEqual(ran.stdout, f'{by_command}\n')
+        self.assertEqual((by_command.status, ran.returncode), (1, 1))
+        self.assert_nothing_left()
+
+    def test_a_report_has_its_entries_states_and_lines(self) -> None:
+        report = check(CONFIG, lost_version)
+        (entry,) = report.entries
+        self.assertEqual(entry.cause, 'lost: a version that was saved is not there')
+        self.assertEqual(entry.text[0], SENTENCE)
+        self.assertEqual(
+            (entry.lost and entry.lost.number, entry.kept and entry.kept.number), (6, 7)
+        )
+        self.assertEqual(entry.syncs[6], '/')
+        self.assertEqual(entry.profiles, {'blocks': entry.count, 'ordered': entry.count})
+        self.assertEqual(report.profiles, ['blocks', 'ordered'])
+        failing = {one.number for one in report.states if one.result == 'bad'}
+        self.assertEqual(failing, set(entry.states))
+        self.assertEqual(
+            {one.cause for one in report.states if one.number in failing}, {entry.cause}
+        )
+        self.assertEqual(report.operations[6].text, 'rename /config.new to /config')
+        self.assertEqual(report.failures, report.entries)
+
+    def test_a_cause_is_the_text_of_an_assertion_or_an_exception_with_its_type(self) -> None:
+        def raises(directory: Path, acknowledged: List[str]) -> None:
+            try:
+                lost_version(directory, acknowledged)
+            except AssertionError as fault:
+                raise LookupError(f'{fault}\nand more') from fault
+
+        with self.assertRaisesRegex(Refused, 'the recovery fails in .*: ZeroDivisionError: div'):
+            check(CONFIG, lambda directory, acknowledged: 1 / 0)
+        report = check(CONFIG, raises)
+        cause = 'LookupError: lost: a version that was saved is not there'
+        self.assertEqual(report.entries[0].cause, cause)
+        bad = next(one for one in report.states if one.result == 'bad')
+        self.assertIn('Traceback', bad.output)
+
+    def test_what_a_function_does_is_seen_by_no_later_call(self) -> None:
+        seen: List[str] = []
+
+        def counts(directory: Path, acknowledged: List[str]) -> None:
+            seen.append(os.getcwd())
+            (directory / 'more').write_text('x')
+            assert len(seen) == 1, 'called before'
+            assert os.getcwd() == str(directory) and os.environ['CRASHFS_SAYS'].isdigit()
+
+        self.assertEqual(check(STORE, counts).status, 0)
+        self.assertEqual(seen, [])
+        self.assert_nothing_left()
+
+    def test_a_function_that_hangs_gives_no_answer(self) -> None:
+        def hangs(directory: Path, acknowledged: List[str]) -> None:
+            if os.environ['CRASHFS_STATE'] == '3':
+                time.sleep(600)
+
+        report = check(STORE, hangs, timeout=5, prefixes=True)
+        self.assertEqual(report.status, 3)
+        self.assertEqual(report.entries[0].cause, 'it had not ended after 5 seconds')
+
+    def test_children_of_the_caller_are_left_alone(self) -> None:
+        child = os.spawnlp(os.P_NOWAIT, 'sleep', 'sleep', '600')
+        try:
+            check(STORE, ['true'])
+            os.kill(child, 0)
+            self.assertEqual(os.waitpid(child, os.WNOHANG), (0, 0))
+        finally:
+            os.kill(child, 9)
+            os.waitpid(child, 0)
+
+    def test_files_of_a_report_are_those_of_the_command(self) -> None:
+        report = check(CONFIG, lost_version)
+        report.write_json(self.path('r.json'))
+        report.write_junit(self.path('r.xml'))
+        report.write_html(self.path('r.html'))
+        fields = json.loads(self.read('r.json'))
+        self.assertEqual(fields['groups'][0]['text'][0], SENTENCE)
+        self.assertIn('<failure', self.read('r.xml'))
+        self.assertIn(
+            '<canvas' if '<canvas' in self.read('r.html') else '<h2>', self.read('r.html')
+        )
+
+    def test_bad_input_is_refused(self) -> None:
+        for words in (['/nowhere/command'], ['true']):
+            with self.assertRaises(Refused):
+                check(self.path('no.trace'), words)
+        with self.assertRaisesRegex(Refused, 'a command'):
+            check(STORE, lost_version, nested=1)
+
+
+class States(InterfaceCase):
+    def test_a_loop_over_states_finds_what_a_check_finds(self) -> None:
+        failing, count = set(), 0
+        for state in states(CONFIG):
+            with state.laid_out() as directory:
+                self.assertTrue(directory.is_dir())
+                found = sorted(path.name for path in directory.iterdir())
+                self.assertEqual(found, sorted(state.files()))
+                for name, data in state.files().items():
+                    self.assertEqual((directory / name).read_bytes(), data)
+                try:
+                    lost_version(directory, state.acknowledged)
+                except AssertionError:
+                    failing.add(state.number)
+            self.assertFalse(directory.exists())
+            count += 1
+        report = check(CONFIG, [str(EXAMPLES / 'config' / 'check.sh')])
+        self.assertEqual(count, 28)
+        self.assertLessEqual(failing, set(report.entries[0].states))
+        self.assertEqual(len(failing), report.entries[0].count)
+        self.assert_nothing_left()
+
+    def test_a_loop_may_be_left_and_states_kept(self) -> None:
+        kept = [state for _, state in zip(range(3), states(STORE))]
+        with kept[1].laid_out() as directory:
+            self.assertTrue(directory.is_dir())
+        self.assert_nothing_left()
+
+    def test_the_options_say_which_states(self) -> None:
+        self.assertEqual(len(list(states(STORE, prefixes=True))), 10 + 2)
+        trace = self.write('two.trace', TWO_FILES)
+        self.assertEqual(
+            [len(list(states(trace, profile=one))) for one in (None, 'ordered')], [4, 3]
+        )
+
+
+@needs_strace
+class Records(InterfaceCase):
+    def test_a_session_that_is_a_function_is_recorded_and_checked(self) -> None:
+        os.mkdir(self.path('store'))
+        recording = record(self.path('store'), session, self.path('s.trace'))
+        self.assertTrue(recording.is_complete, recording.messages)
+        self.assertIn('2 acknowledged lines (descriptor 3)', recording.messages[-1])
+        report = check(recording, recovery)
+        (entry,) = report.failures
+        self.assertIn('the directory / is never synced', ' '.join(entry.text))
+        self.assertEqual(Path(self.path('store', 'config')).read_text(), 'version 2')
+
+    def test_with_the_sync_none_fails(self) -> None:
+        os.mkdir(self.path('store'))
+        recording = record(self.path('store'), synced_session, self.path('s.trace'))
+        self.assertEqual(check(recording, recovery).status, 0)
+
+    def test_a_command_and_its_options(self) -> None:
+        os.mkdir(self.path('store'))
+        words = ['sh', '-c', 'echo a > a; echo b > b; echo said >&2']
+        recording = record(
+            self.path('store'), words, self.path('s.trace'), ignore=['b'], acknowledged=['2']
+        )
+        text = self.read('s.trace')
+        self.assertTrue('"/a"' in text and '"/b"' not in text and '"said"' in text, text)
+        self.assertTrue(recording.is_complete)
+
+    def test_what_is_missing_is_reported(self) -> None:
+        os.mkdir(self.path('store'))
+        recording = record(self.path('store'), ['sh', '-c', 'echo a > a'], self.path('s.trace'))
+        self.assertFalse(recording.is_complete)
+        with self.assertRaisesRegex(Refused, 'nowhere'):
+            record(self.path('nowhere'), ['true'], self.path('t.trace'))
+        with self.assertRaisesRegex(Refused, 'no function of a module'):
+            record(self.path('store'), lambda directory, acknowledge: None, self.path('t.trace'))
+
+    def test_a_session_that_raises_is_reported(self) -> None:
+        os.mkdir(self.path('store'))
+        recording = record(self.path('store'), data_store.failing_session, self.path('s.trace'))
+        self.assertFalse(recording.is_complete)
+        self.assertIn('status 1', ' '.join(recording.messages))
+
+
+if __name__ == '__main__':
+    unittest.main()
