@@ -58,6 +58,9 @@ NOT_RUN = {
         'tools/crashfs-check full.trace': 'test_examples.py runs it',
         'tools/crashfs-check extra.trace': 'test_examples.py runs an eighth of it',
     },
+    'docs/how-to/testing.md': {
+        'pip install': 'it needs a network; test_pytest_plugin.py uses the plugin of the clone',
+    },
     'docs/internals/BENCHMARKS.md': {
         'tools/measure': 'it needs programs that the toolchain builds; test_measure.py',
         '/usr/bin/time': 'the same',
