@@ -3,12 +3,37 @@
 
 import os
 import signal
+import subprocess
+import sys
 import time
 import unittest
 from pathlib import Path
 
-from .support import FAKE, PATIENCE
+from .support import FAKE, PATIENCE, TOOLS
 from .test_check_command import InStore
+
+
+# A signal comes right after one of two calls of a guard that begins.
+EARLY = """\
+import os, signal, sys, tempfile
+from unittest import mock
+from crashfs_tools.common.guard import Guard, Stopped, stop_by_exception
+
+stop_by_exception()
+call = os.fork if sys.argv[1] == 'os.fork' else tempfile.mkdtemp
+
+def call_and_stop(**words):
+    made = call(**words)
+    if made != 0:
+        os.kill(os.getpid(), signal.SIGTERM)
+    return made
+
+try:
+    with mock.patch(sys.argv[1], call_and_stop), Guard('crashfs-check-'):
+        print('begun')
+except Stopped as stopped:
+    print(stopped, os.listdir(tempfile.gettempdir()))
+"""
 
 
 class Stops(InStore):
@@ -41,6 +66,19 @@ class Stops(InStore):
             self.assert_ended()
             self.assert_nothing_left()
             os.unlink(self.path('begun'))
+
+    def test_a_stop_before_the_first_state_leaves_nothing(self):
+        for call in ('tempfile.mkdtemp', 'os.fork'):
+            ran = subprocess.run(
+                [sys.executable, '-c', EARLY, call],
+                cwd=TOOLS,
+                env={**os.environ, 'TMPDIR': self.path('tmp')},
+                stdout=subprocess.PIPE,
+                text=True,
+                check=True,
+                timeout=PATIENCE,
+            )
+            self.assertEqual(ran.stdout, 'SIGTERM []\n', call)
 
     def test_a_hangup_that_is_ignored_stops_nothing(self):
         child = self.begin(ignored='HUP')

@@ -41,6 +41,27 @@ class Guard:
         self.left: Dict[int, str] = {}
 
     def __enter__(self) -> Guard:
+        self.is_reaper = self.may_reap and is_reaper_now()
+        # A signal waits meanwhile: it must not come between the directory and the process that
+        # removes it, nor reach that one before it ignores signals.
+        before = signal.pthread_sigmask(signal.SIG_BLOCK, STOPS)
+        try:
+            self.make_directory()
+        except OSError:
+            signal.pthread_sigmask(signal.SIG_SETMASK, before)
+            raise
+        self.start_watcher()
+        self.report_other_place()
+        try:
+            # A signal that has waited comes here.
+            signal.pthread_sigmask(signal.SIG_SETMASK, before)
+        except BaseException:
+            self.close()
+            raise
+        return self
+
+    def make_directory(self) -> None:
+        """Makes the directory; an OSError names the place."""
         try:
             made = tempfile.mkdtemp(prefix=self.prefix, dir=self.folder)
             self.directory = os.path.realpath(made)
@@ -48,18 +69,15 @@ class Guard:
             # Where no place for temporary files can be written, the error has no name.
             name = error.filename or 'temporary files'
             raise OSError(error.errno, error.strerror, name) from error
-        self.report_other_place()
-        self.is_reaper = self.may_reap and is_reaper_now()
+
+    def start_watcher(self) -> None:
+        """Starts the second process, which waits for the end of this one."""
         waiting, self.alive = os.pipe()
-        # A signal waits meanwhile: it must not reach the second process before that ignores it.
-        before = signal.pthread_sigmask(signal.SIG_BLOCK, STOPS)
         self.watcher = os.fork()
         if self.watcher == 0:
             os.close(self.alive)
             self.run_watcher(waiting)
-        signal.pthread_sigmask(signal.SIG_SETMASK, before)
         os.close(waiting)
-        return self
 
     def report_other_place(self) -> None:
         """Says so if the place that TMPDIR names is not the one that is used."""
@@ -101,6 +119,10 @@ class Guard:
         error: Optional[BaseException],
         trace: Optional[TracebackType],
     ) -> None:
+        self.close()
+
+    def close(self) -> None:
+        """Lets the second process clean up, waits for it, and names what it could not remove."""
         os.close(self.alive)
         os.waitpid(self.watcher, 0)
         for path in (self.directory, self.directory + LEFT):
