@@ -10,7 +10,7 @@ from typing import Dict, Iterator, List, Set, Tuple
 from crashfs_tools.checker.findings.read_trees import entries_of
 from crashfs_tools.common.trace import Trace
 from crashfs_tools.disks.crashing import CrashMaker
-from crashfs_tools.disks.disk import Disk, digest_of, joined
+from crashfs_tools.disks.disk import Disk, digest_of, different_disks
 from crashfs_tools.disks.filesystems import FileSystem
 from crashfs_tools.disks.levers import Lever
 from crashfs_tools.reading import Reading, read
@@ -57,7 +57,7 @@ def trees_of(reading: Reading, profile: str) -> Set[TreeAndCount]:
     return found
 
 
-def judged(name: str, seed: int, trace: Trace, disks: List[Disk]) -> SessionResult:
+def session_result(name: str, seed: int, trace: Trace, disks: List[Disk]) -> SessionResult:
     """Compares the different disks of a session with all allowed sets."""
     reading = read(text_of(trace).encode())
     allowed = {profile: trees_of(reading, profile) for profile in profiles_of(reading)}
@@ -74,12 +74,12 @@ def judged(name: str, seed: int, trace: Trace, disks: List[Disk]) -> SessionResu
 def crash_text(disk: Disk) -> str:
     """When a disk was left, and what is on it."""
     crash = disk.crashes[0]
-    paths = ', '.join(f'{path} {shown(disk, path)}' for path in disk.tree if path != '/')
+    paths = ', '.join(f'{path} {entry_text(disk, path)}' for path in disk.tree if path != '/')
     line = f'line {crash.moment.line}' if crash.moment.done else 'the start'
     return f'{line}, {crash.lever.value}: {paths}'
 
 
-def shown(disk: Disk, path: str) -> str:
+def entry_text(disk: Disk, path: str) -> str:
     entry = disk.tree[path]
     if entry.link is not None:
         return f'-> {entry.link}'
@@ -99,13 +99,13 @@ class SessionMaker:
     def result(self, seed: int, trace: Trace) -> SessionResult:
         maker = CrashMaker(self.filesystem, trace, self.folder)
         try:
-            disks = joined(
+            disks = different_disks(
                 crash for moment in maker.moments() for crash in maker.crashes(moment, tuple(Lever))
             )
         finally:
             for name in ('template', 'disk', 'copy'):
                 remove(maker.file(name))
-        return judged(self.filesystem.name, seed, trace, disks)
+        return session_result(self.filesystem.name, seed, trace, disks)
 
 
 def remove(path: str) -> None:

@@ -20,7 +20,7 @@ from typing import Iterator, List, Optional, Set, Tuple
 
 from crashfs_tools.common.command import Refused
 from crashfs_tools.common.guard import Guard
-from crashfs_tools.disks.filesystems import lacking, named
+from crashfs_tools.disks.filesystems import missing_requirement, filesystems_of
 from crashfs_tools.disks.pool import become_worker
 from crashfs_tools.disks.workers import DiskWorkers
 
@@ -75,7 +75,7 @@ class Run:
     def make(self, folder: str) -> None:
         """Makes the sessions that aren't there yet."""
         tasks = self.missing()
-        makers = {one.name: SessionMaker(one, folder) for one in named(self.names)}
+        makers = {one.name: SessionMaker(one, folder) for one in filesystems_of(self.names)}
 
         def result_of(task: Task) -> SessionResult:
             name, seed = task
@@ -103,7 +103,7 @@ def refuse(names: List[str]) -> Optional[str]:
     unknown = [name for name in names if name not in PROFILE_OF]
     if unknown:
         return f'{unknown[0]} is none of {", ".join(PROFILE_OF)}'
-    return lacking(named(names))
+    return missing_requirement(filesystems_of(names))
 
 
 def main(given: List[str]) -> int:

@@ -31,7 +31,7 @@ from crashfs_tools.reading.order import Order
 from .support import EXAMPLES, TOOLS, InFolder
 
 CONFIG = EXAMPLES / 'config' / 'config.trace'
-LACKING = filesystems.lacking([filesystems.KNOWN['ext4']])
+LACKING = filesystems.missing_requirement([filesystems.KNOWN['ext4']])
 needs_disks = unittest.skipIf(LACKING is not None, f'no disks can be made here: {LACKING}')
 
 ALL_KINDS = """\
@@ -178,10 +178,10 @@ class Digests(unittest.TestCase):
 class Names(unittest.TestCase):
     def test_file_systems_are_named(self) -> None:
         self.assertEqual(
-            [it.name for it in filesystems.named(['xfs', 'ext4', 'xfs'])], ['xfs', 'ext4']
+            [it.name for it in filesystems.filesystems_of(['xfs', 'ext4', 'xfs'])], ['xfs', 'ext4']
         )
         with self.assertRaisesRegex(Refused, '--disks zfs: no such file system'):
-            filesystems.named(['ext4', 'zfs'])
+            filesystems.filesystems_of(['ext4', 'zfs'])
 
     def test_images_have_room_for_what_is_written(self) -> None:
         self.assertEqual(filesystems.bytes_written(read_trace(ALL_KINDS)), 3 * 8192 + 11)
@@ -193,7 +193,8 @@ class Names(unittest.TestCase):
         none = filesystems.FileSystem('none', 'mkfs.nothing', (), 0)
         if LACKING is None:
             self.assertEqual(
-                filesystems.lacking([none]), 'none needs mkfs.nothing, which is not installed'
+                filesystems.missing_requirement([none]),
+                'none needs mkfs.nothing, which is not installed',
             )
 
 

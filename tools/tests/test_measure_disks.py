@@ -14,7 +14,7 @@ from crashfs_tools.checker.findings.read_trees import entries_of
 from crashfs_tools.common.entry import Entries
 from crashfs_tools.common.trace import KINDS, Chmod, Chown, Trace
 from crashfs_tools.disks.disk import Crash, Disk, digest_of
-from crashfs_tools.disks.filesystems import lacking, named
+from crashfs_tools.disks.filesystems import missing_requirement, filesystems_of
 from crashfs_tools.disks.levers import Lever
 from crashfs_tools.disks.moments import Moment
 from crashfs_tools.reading import read
@@ -23,7 +23,7 @@ from crashfs_tools.reading.order import Order
 from crashfs_tools.reading.profiles import Profiles
 from crashfs_tools.reading.states import States
 from measuring.command import main
-from measuring.disk_sessions import SessionResult, judged, table, text_of
+from measuring.disk_sessions import SessionResult, session_result, table, text_of
 from measuring.random_sessions import session
 
 from .support import PATIENCE, TOOLS, InFolder, needed
@@ -64,7 +64,7 @@ class Judgements(unittest.TestCase):
             trace = session(seed, OPERATIONS)
             for name, profile in (('ext4', 'journal'), ('btrfs', 'blocks')):
                 disks = disks_of(trace, profile)
-                result = judged(name, seed, trace, disks)
+                result = session_result(name, seed, trace, disks)
                 self.assertEqual((result.outside, result.different), ([], len(disks)))
                 self.assertEqual(result.allowed[profile], len(disks))
 
@@ -73,7 +73,7 @@ class Judgements(unittest.TestCase):
         for disk in disks_of(trace, 'blocks')[:10]:
             odd = {**disk.tree, '/odd': disk.tree['/']}
             late = disk_of(disk.tree, 9)
-            result = judged('btrfs', 3, trace, [disk_of(odd, disk.says[0]), late])
+            result = session_result('btrfs', 3, trace, [disk_of(odd, disk.says[0]), late])
             self.assertEqual((len(result.outside), result.allowed['blocks']), (2, 0))
             self.assertIn('/odd directory', result.outside[0])
             self.assertTrue(result.outside[0].startswith('line 5, nothing more written: '))
@@ -83,7 +83,7 @@ class Judgements(unittest.TestCase):
         for seed in range(20):
             trace = session(seed, OPERATIONS)
             disks = disks_of(trace, 'blocks')
-            result = judged('ext4', seed, trace, disks)
+            result = session_result('ext4', seed, trace, disks)
             self.assertEqual(result.allowed['blocks'], len(disks))
             self.assertEqual(len(result.outside), len(disks) - result.allowed['journal'])
             outside += len(result.outside)
@@ -110,7 +110,9 @@ class OnImages(InFolder):
         self.assertEqual(ran.returncode, 0)
         return ran.stdout
 
-    @needed(lacking(named(['ext4'])) is None, 'no root, loop devices or mkfs.ext4')
+    @needed(
+        missing_requirement(filesystems_of(['ext4'])) is None, 'no root, loop devices or mkfs.ext4'
+    )
     def test_a_session_is_made_once(self) -> None:
         words = ['--on', 'ext4', '--sessions', '1', '--operations', '3', '--jobs', '1']
         printed = self.run_measure(*words)

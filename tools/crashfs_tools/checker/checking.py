@@ -223,9 +223,9 @@ def open_trace(options: Options, guard: Guard, progress: Progress) -> Iterator[C
     read or run; within this, what the program refuses is Refused too."""
     refuse_unreadable(options.trace or '')
     if options.disks is not None:
-        from crashfs_tools.disks.filesystems import need
+        from crashfs_tools.disks.filesystems import require_filesystems
 
-        need(options.disks)
+        require_filesystems(options.disks)
     program = Crashfs.find_or_read(options.crashfs, options.unproved)
     if options.function is None:
         options.command = with_program_path(options.command)

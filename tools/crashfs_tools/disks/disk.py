@@ -96,7 +96,7 @@ def pieces_of(path: str, entry: Entry) -> Iterator[bytes]:
             yield number.to_bytes(8, 'little') + page
 
 
-def joined(found: Iterator[Tuple[Entries, Crash]]) -> List[Disk]:
+def different_disks(found: Iterator[Tuple[Entries, Crash]]) -> List[Disk]:
     """The different trees, each with all crashes that left it, in the order of the first one."""
     disks: Dict[str, Disk] = {}
     for tree, crash in found:

@@ -88,7 +88,7 @@ def runs_of(line: StartLine) -> List[bytes]:
     return [line.data]
 
 
-def named(names: Sequence[str]) -> List[FileSystem]:
+def filesystems_of(names: Sequence[str]) -> List[FileSystem]:
     """The file systems of some names, each once; Refused if one isn't known."""
     unknown = [name for name in names if name not in KNOWN]
     if unknown:
@@ -96,14 +96,14 @@ def named(names: Sequence[str]) -> List[FileSystem]:
     return [KNOWN[name] for name in dict.fromkeys(names)]
 
 
-def need(names: Sequence[str]) -> None:
+def require_filesystems(names: Sequence[str]) -> None:
     """Refused if a file system isn't known, or this machine or user can't make and mount it."""
-    missing = lacking(named(names))
+    missing = missing_requirement(filesystems_of(names))
     if missing is not None:
         raise Refused(f'--disks: {missing}')
 
 
-def lacking(filesystems: Sequence[FileSystem]) -> Optional[str]:
+def missing_requirement(filesystems: Sequence[FileSystem]) -> Optional[str]:
     """What --disks needs and this machine or user doesn't have; None if nothing is missing."""
     if os.geteuid() != 0:
         return 'it needs root, to make and mount disk images'

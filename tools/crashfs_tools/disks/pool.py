@@ -14,7 +14,7 @@ from crashfs_tools.common.trace import Trace
 
 from . import images
 from .crashing import CrashMaker
-from .disk import Crash, Disk, joined
+from .disk import Crash, Disk, different_disks
 from .filesystems import FileSystem
 from .levers import Lever
 from .moments import Moment
@@ -58,7 +58,7 @@ class DiskPool:
             for count, (name, crashes) in enumerate(workers.results(tasks), 1):
                 found[name] += crashes
                 on_step(count, len(tasks))
-        return {name: joined(in_order(crashes)) for name, crashes in found.items()}
+        return {name: different_disks(crashes_in_order(crashes)) for name, crashes in found.items()}
 
     def crash(self, task: Task) -> Tuple[str, Found]:
         return task.name, list(self.makers[task.name].crashes(task.moment, self.levers))
@@ -79,6 +79,6 @@ def become_worker(parent: int) -> None:
     images.leave_mounts()
 
 
-def in_order(found: Found) -> Iterator[Tuple[Entries, Crash]]:
+def crashes_in_order(found: Found) -> Iterator[Tuple[Entries, Crash]]:
     """The crashes by moment, and of one moment in the order of the levers."""
     return iter(sorted(found, key=lambda one: (one[1].moment, one[1].lever.rank)))

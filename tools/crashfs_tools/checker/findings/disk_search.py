@@ -17,7 +17,7 @@ from crashfs_tools.common.guard import Guard
 from crashfs_tools.common.removal import remove_tree
 from crashfs_tools.common.trace_read import read_trace
 from crashfs_tools.disks.disk import Crash, Disk, digest_of
-from crashfs_tools.disks.filesystems import IMAGES, bytes_written, named, with_room
+from crashfs_tools.disks.filesystems import IMAGES, bytes_written, filesystems_of, with_room
 from crashfs_tools.disks.pool import DiskPool
 from crashfs_tools.reading import read
 from crashfs_tools.reading.classes import Classes
@@ -55,7 +55,7 @@ def sightings_of(trials: Trials, by_state: Dict[int, Outcome]) -> Sightings:
         text = file.read()
     trace = read_trace(text.decode('utf-8', 'surrogateescape'))
     size = bytes_written(trace)
-    filesystems = [with_room(one, size) for one in named(trials.options.disks or [])]
+    filesystems = [with_room(one, size) for one in filesystems_of(trials.options.disks or [])]
     room = IMAGES * processes(trials) * sum(one.size for one in filesystems)
     with Guard('crashfs-disks-', MEMORY if has_room(MEMORY, room) else None) as guard:
         search = Search(trials, by_state, text)
