@@ -22,7 +22,7 @@ from crashfs_tools.checker.findings.sightings import (
 )
 from crashfs_tools.checker.report.junit import junit_lines
 from crashfs_tools.checker.report.page import page
-from crashfs_tools.checker.report.report import Report
+from crashfs_tools.checker.report.report import CheckReport
 from crashfs_tools.checker.running.results import Head
 from crashfs_tools.checker.running.runner import BAD, Outcome
 from crashfs_tools.common.entry import Entry
@@ -100,7 +100,7 @@ class Reports(unittest.TestCase):
     """The file of --junit and the page of --html have what was seen on disks."""
 
     def setUp(self) -> None:
-        self.report = Report(Head('t.trace', '', ['true']))
+        self.report = CheckReport(Head('t.trace', '', ['true']))
         tree = {'/f': Entry('u', 'g', 0o644, bytearray(3))}
         why = Explanation(OUTSIDE)
         one = DiskFailure(Outcome(BAD, 'zeros: <1>', 'out'), [1], {'ext4': FIRST}, tree, why)
