@@ -74,7 +74,7 @@ def crate_page_faults(page: str, uses: Dict[str, List[str]]) -> Iterator[str]:
 
 
 def architecture_faults() -> List[str]:
-    """Where ARCHITECTURE doesn't have the crates that crates.txt has."""
+    """A sentence for each difference between the crates of ARCHITECTURE and those of crates.txt."""
     page = (TOP / 'docs' / 'internals' / 'ARCHITECTURE.md').read_text('utf-8')
     uses = dependencies((TOP / 'crates.txt').read_text('utf-8'))
     return [f'docs/internals/ARCHITECTURE.md: {fault}' for fault in crate_page_faults(page, uses)]

@@ -55,7 +55,7 @@ def black() -> Optional[List[str]]:
 
 
 def mypy() -> Optional[List[str]]:
-    """The faults in types of all but the tests, whose helpers take anything."""
+    """What mypy finds in all Python but the tests, whose helpers aren't typed."""
     return run(['mypy'], programs())
 
 

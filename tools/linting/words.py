@@ -83,7 +83,7 @@ def texts_in_rattle(source: str) -> List[Tuple[int, str]]:
 
 
 def prints(path: Path) -> bool:
-    """Whether a file of a crate is of a program or a library, and not of tests."""
+    """Whether a file of a crate may print something: it is no test."""
     names = path.relative_to(CRATES).parts
     is_of_tests = names[0].endswith('_tests') or names[0].startswith('cs_test_')
     return not is_of_tests and 'tests' not in names and path.stem != 'tests'

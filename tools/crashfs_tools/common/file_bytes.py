@@ -36,7 +36,7 @@ def pieces(file: int, begin: int, end: int) -> Iterator[bytes]:
 
 
 def data_ranges(file: int, size: int) -> Iterator[Tuple[int, int]]:
-    """Where a file has no hole, as far as its file system says so."""
+    """The ranges of a file that are no holes, if its file system knows them; else all of it."""
     end = 0
     while end < size:
         try:

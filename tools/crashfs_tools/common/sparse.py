@@ -136,7 +136,7 @@ class SparseBytes:
         return [part for begin, run in self.runs() for part in parts_of(begin, run)]
 
     def runs(self) -> Iterator[Part]:
-        """The pages that aren't zeros, joined as far as they touch."""
+        """The pages that aren't zeros; neighbours are joined."""
         begin = 0
         pages: List[bytes] = []
         for number, page in sorted(self.data_pages()):
@@ -174,8 +174,8 @@ def without_edge_zeros(at: int, data: bytes) -> Iterator[Part]:
 
 
 def first_difference(one: Content, other: Content) -> int:
-    """Where bytes begin to differ: at the end of the shorter ones if these are the beginning of the
-    others."""
+    """The offset at which bytes begin to differ: the length of the shorter ones if the others begin
+    with these."""
     length = min(len(one), len(other))
     for begin in pages_to_compare(one, other, length):
         pieces = [bytes(data[begin : min(begin + PAGE_BYTES, length)]) for data in (one, other)]
@@ -186,7 +186,7 @@ def first_difference(one: Content, other: Content) -> int:
 
 
 def pages_to_compare(one: Content, other: Content, length: int) -> Iterable[int]:
-    """Where pages begin, up to a length, of which one may have other bytes than zeros."""
+    """The offsets of the pages, up to a length, that aren't zeros in one of two files."""
     if isinstance(one, SparseBytes) and isinstance(other, SparseBytes):
         begins = (page * PAGE_BYTES for page in sorted(one.pages.keys() | other.pages.keys()))
         return (begin for begin in begins if begin < length)

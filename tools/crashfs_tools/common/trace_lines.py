@@ -91,7 +91,7 @@ def line_in_words(number: int, fields: Dict[str, Any]) -> TraceLine:
 
 
 def details_of(fields: Dict[str, Any]) -> str:
-    """What a line says besides its paths, but for the bytes."""
+    """What a line says in addition to its paths, but no bytes."""
     if fields['op'] == 'say':
         text: str = fields['text']
         return text if len(text) <= LARGEST_SAY else f'{text[:LARGEST_SAY]}..'

@@ -76,7 +76,7 @@ class Line:
 
     @property
     def parts(self) -> List[Tuple[int, bytes]]:
-        """Where the bytes of a start file are, and what they are."""
+        """The parts of a start file: the offset of each, and its bytes."""
         if 'parts' not in self.fields:
             return [(0, self.data)]
         return [(part['at'], bytes_of(part)) for part in self.fields['parts']]
@@ -118,7 +118,7 @@ class LineJudge:
         return line
 
     def judge_header(self, line: Line) -> None:
-        """Takes the version of a header, if it is known."""
+        """Sets the version to that of a header; refuses one that isn't known."""
         version = line.fields['trace']
         if not is_number(version) or version not in HEADERS:
             raise syntax(f'version {version} is not known (1, 2, 3, 4)')

@@ -25,7 +25,7 @@ def listing(plan: StateList, lines: bool = False, same: bool = False) -> Iterato
 
 
 def origin(operation: Micro) -> str:
-    """The line of the trace that a micro-operation is of, and its path."""
+    """The number of the trace's line that a micro-operation comes from, and its path."""
     path = '' if operation.file is None else operation.path
     return f' line {operation.line} {path}'.rstrip()
 

@@ -172,7 +172,7 @@ class WriteBlock(Micro):
 
 
 class SetRights(Micro):
-    """Of a file, or of a directory by its number and path."""
+    """A file, or a directory by its number and path, gets owner and mode."""
 
     def __init__(
         self, rights: Rights, file: Optional[int], directory: Optional[int] = None, path: str = ''

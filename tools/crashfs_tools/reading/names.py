@@ -240,7 +240,7 @@ class Names:
 
 
 def end_of(line: Line) -> int:
-    """Where what a line writes ends, and 0 if it writes nothing."""
+    """The offset at which a line's bytes end; 0 if it writes none."""
     if line.word == 'truncate':
         return int(line.fields['length'])
     if line.word == 'file':

@@ -22,7 +22,7 @@ class Table:
         change_rights(self.rights, operation)
 
     def paths(self) -> Iterator[Tuple[str, Inode]]:
-        """What is reached from the root, which is first, in no order."""
+        """The paths, each with what is there: the root first, the others in no order."""
         return reached(self.entries.items())
 
 

@@ -169,7 +169,8 @@ class Reading:
     # Operations on what files and directories are
 
     def op_write(self, line: Line) -> None:
-        """In version 4 a file that has a part of a page grows to the end of this page first."""
+        """A write: a new size if the file grows, and its blocks. In version 4 a file that ends
+        inside a page grows to the end of this page first."""
         number, at, data = self.names.file(line.fields['path']), line.fields['offset'], line.data
         end, size = at + len(data), self.names.sizes[number]
         if data and end > size:
@@ -185,7 +186,8 @@ class Reading:
             self.add_change(WriteBlock(number, block, size, begin, piece))
 
     def op_truncate(self, line: Line) -> None:
-        """In version 4 the rest of the page in which a file is cut becomes zero first."""
+        """A truncate: a new size. In version 4 the rest of the page in which a file is cut becomes
+        zeros first."""
         number, length = self.names.file(line.fields['path']), line.fields['length']
         size = self.names.sizes[number]
         if size == length:

@@ -73,7 +73,7 @@ class Scanner:
         self.seen: Dict[Tuple[int, int], int] = {}
 
     def scan(self) -> Scan:
-        """The whole directory; a link that it has no other name of is noted."""
+        """Scans the whole directory; notes files that also have a name outside it."""
         self.scan_below('')
         for inode, path in self.firsts.items():
             if self.seen[inode] > 0:

@@ -41,7 +41,7 @@ STANDARD_NAMES = {'/dev/stdin': 0, '/dev/stdout': 1, '/dev/stderr': 2}
 
 
 def no_link(_: str) -> None:
-    """Of a log from elsewhere the links outside the directory aren't known."""
+    """None: the links outside the directory aren't known for a log from elsewhere."""
 
 
 @dataclass(frozen=True)
@@ -77,7 +77,7 @@ class LiveFiles:
         self.add_scan(scan)
 
     def add_scan(self, scan: Scan) -> None:
-        """Takes what the directory has at the start, as the trace's start tree."""
+        """Makes what the directory has at the start the trace's start tree."""
         for entry in scan.entries[: limits.RECORDS - 1]:
             source = scan.links.get(entry.path)
             if source is None:
@@ -90,7 +90,7 @@ class LiveFiles:
         self.add_left_out(scan)
 
     def add_scanned(self, entry: ScannedEntry, node: Node, line: StartLine) -> None:
-        """Takes a file, directory or symbolic link of the start, with its line in the trace."""
+        """Adds a file, directory or symbolic link of the start, with its line in the trace."""
         self.tree.add(entry.path, node)
         if self.recording.add_start(line):
             node.traced_paths.add(entry.path)

@@ -117,7 +117,7 @@ class MappedFiles:
         self.copies.numbers[number] = self.inodes[inode]
 
     def copy(self, line: int, process: int, is_alone: bool, others: Iterable[int] = ()) -> None:
-        """Takes a copy of what changed since the last one."""
+        """Copies the files that changed since the last copy."""
         changed: Dict[int, Bytes] = {}
         for number, descriptor in enumerate(self.descriptors):
             data = file_bytes(descriptor)
@@ -134,7 +134,7 @@ class MappedFiles:
         return {number for (_, inode), number in self.inodes.items() if str(inode) in mapped}
 
     def finish(self, line: int) -> None:
-        """Takes the last copy, of what the program left, and closes the files."""
+        """Makes the last copy, of what the program left, and closes the files."""
         self.copy(line, 0, True)
         for descriptor in self.descriptors:
             os.close(descriptor)

@@ -62,7 +62,7 @@ def add_stores(files: LiveFiles, node: Node, data: Bytes, is_sure: bool) -> None
 
 
 def page_places(old: SparseBytes, new: SparseBytes) -> List[int]:
-    """Where pages begin that may differ."""
+    """The offsets of the pages that may differ."""
     return [page * PAGE_BYTES for page in sorted(old.pages.keys() | new.pages.keys())]
 
 

@@ -46,7 +46,7 @@ class PipeLines:
         self.add_bytes(piece)
 
     def add_bytes(self, piece: bytes) -> None:
-        """Takes bytes of the pipe; none are its end."""
+        """Adds bytes of the pipe to the lines; none at all are its end."""
         self.rest.append(piece)
         if b'\n' in piece:
             *lines, rest = b''.join(self.rest).split(b'\n')

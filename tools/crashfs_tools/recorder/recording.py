@@ -67,7 +67,7 @@ def is_private(trace: Trace) -> bool:
 
 
 def end_of_change(operation: Operation) -> int:
-    """Where the bytes end that an operation gives a file, or its length."""
+    """The offset at which an operation's bytes end, or the length that it gives a file."""
     if isinstance(operation, Write):
         return operation.offset + len(operation.data)
     return operation.length if isinstance(operation, Truncate) else 0

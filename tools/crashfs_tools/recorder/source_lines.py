@@ -60,7 +60,7 @@ def read_segments(file: BinaryIO) -> List[Segment]:
 
 
 def address_of(offset: int, segments: Iterable[Segment]) -> int:
-    """Where the byte at an offset of a program's file is, in the program's own addresses."""
+    """The address, in a program's own address space, of the byte at an offset of its file."""
     for segment in segments:
         if segment.offset <= offset < segment.offset + segment.size:
             return offset - segment.offset + segment.address

@@ -118,7 +118,7 @@ def rename_path(files: LiveFiles, source: Optional[str], target: Optional[str], 
 
 
 def add_from_outside(files: LiveFiles, target: Optional[str]) -> None:
-    """Takes a file from outside, or from an ignored name: its bytes aren't known."""
+    """Adds a file from outside, or from an ignored name: its bytes aren't known."""
     if target is None:
         return
     files.report('renamed to from outside the directory, or from an ignored name', target)
@@ -177,7 +177,7 @@ def rename_file(files: LiveFiles, source: str, target: str, node: Node) -> None:
 
 
 def replace_name(files: LiveFiles, node: Node, path: str) -> None:
-    """Takes a path from a file: another file is renamed to it."""
+    """Removes a path from a file, since another file is renamed to it."""
     if path in node.traced_paths:
         node.traced_paths.discard(path)
         if node.names and not node.traced_paths:
