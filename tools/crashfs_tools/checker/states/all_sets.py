@@ -12,6 +12,7 @@ from crashfs_tools.common.program import Crashfs, ProgramFault
 from .plan import set_of
 
 if TYPE_CHECKING:
+    from crashfs_tools.reading import Reading
     from crashfs_tools.reading.order import Order
 
 # What the program says if there are too many sets.
@@ -20,6 +21,8 @@ TOO_MANY = ('more than ', 'too many sets')
 NEEDED = {'--every', '--different', '--most', '--count'}
 # Since this version a set that lacks an acknowledged line has nothing that follows it.
 ACKNOWLEDGED_FIRST = 3
+# The program makes the tree of each state whole. If the start has more bytes, that is slow.
+START_BYTES = 1 << 20
 
 
 class AllSets(Protocol):
@@ -41,9 +44,15 @@ class AllSets(Protocol):
 
 def all_sets(program: Crashfs, environment: Dict[str, str], read: ReadSets) -> AllSets:
     """By the program if it can list them; read has the same by the second reading."""
-    if NEEDED <= program.picks_options and read.reading.version >= ACKNOWLEDGED_FIRST:
+    if NEEDED <= program.picks_options and is_for_program(read.reading):
         return ProgramSets(program, environment, read)
     return read
+
+
+def is_for_program(reading: Reading) -> bool:
+    """Whether the program finds the sets that this check wants, in time."""
+    is_small = sum(data.length for data in reading.made_data.values()) <= START_BYTES
+    return is_small and reading.version >= ACKNOWLEDGED_FIRST
 
 
 class ProgramSets:
