@@ -25,6 +25,19 @@ checking.SAVE_SECONDS = 0
 sys.exit(main.main(sys.argv[1:]))
 """
 
+# Runs a command whose modules find no memory.
+NO_MEMORY = """\
+import runpy, sys
+
+class Full:
+    def find_spec(self, name, *_):
+        if name.startswith('crashfs_tools'):
+            raise MemoryError
+
+sys.meta_path.insert(0, Full())
+runpy.run_path({path!r}, run_name='__main__')
+"""
+
 
 class InTheMiddle(InStore):
     def try_with_fault(self, fault, *words):
@@ -172,6 +185,23 @@ class OfItsOwn(InStore):
         self.assertEqual(os.listdir(self.path('here')), [])
         ran = self.run_in_shell('{check} --prefixes {good} -- true', TMPDIR='/none')
         self.assert_line(ran, 0, 'TMPDIR=/none can not be written: /.* is used')
+
+    def test_modules_that_find_no_memory_are_a_line_and_no_verdict(self):
+        for command, status in (
+            ('crashfs-check', 3),
+            ('crashfs-campaign', 3),
+            ('crashfs-record', 1),
+        ):
+            script = NO_MEMORY.format(path=str(TOOLS / command))
+            ran = subprocess.run(
+                [sys.executable, '-c', script],
+                stderr=subprocess.PIPE,
+                text=True,
+                timeout=PATIENCE,
+                check=False,
+            )
+            wanted = (status, f'{command}: out of memory\n')
+            self.assertEqual((ran.returncode, ran.stderr), wanted)
 
     def test_programs_that_lie_are_named(self):
         for lie, line in [
