@@ -91,7 +91,7 @@ class Order(unittest.TestCase):
             os.utime(text, (300, 300))
             self.assertFalse(has_library(Path(room), 'a'))
 
-    def test_the_libraries_are_all_that_the_program_stands_on(self) -> None:
+    def test_the_libraries_are_all_that_the_program_uses(self) -> None:
         below = libraries()
         self.assertIn('cs_names', below)
         self.assertNotIn('cs_bench', below)

@@ -80,7 +80,7 @@ class Checks(InStore):
         )
         self.assert_nothing_left()
 
-    def test_a_missing_sync_is_told_by_its_pair(self):
+    def test_a_missing_sync_is_reported_by_its_pair(self):
         ran = self.check(self.bad)
         self.assertEqual(ran.returncode, 1, ran.stderr)
         self.assertEqual(
@@ -324,7 +324,7 @@ class Checks(InStore):
 
 
 class Room(InStore):
-    def test_what_has_no_room_is_told_and_not_there(self):
+    def test_what_has_no_room_is_reported_and_not_there(self):
         for words, told in [
             (('--json', 'r.json'), 'r.json: File too large'),
             ((), f'{self.temporary}: File too large'),
@@ -345,7 +345,7 @@ class Room(InStore):
             self.assertFalse(os.path.exists(self.path('r.json')))
             self.assert_nothing_left()
 
-    def test_a_standard_output_that_takes_nothing_is_told(self):
+    def test_a_standard_output_that_takes_nothing_is_reported(self):
         for tool, status, *words in [
             ('crashfs-check', 3, '--crashfs', FAKE, self.good, '--', 'true'),
             ('crashfs-check', 3, '--crashfs', FAKE, '--state', '3', self.good, '--', 'true'),

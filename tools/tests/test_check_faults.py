@@ -71,7 +71,7 @@ class InTheMiddle(InStore):
                 self.assertEqual(resumed.stdout, whole.stdout)
                 self.assert_nothing_left()
 
-    def test_a_fault_before_the_first_state_is_bad_input_as_ever(self):
+    def test_a_fault_before_the_first_state_is_bad_input(self):
         ran = self.check('--json', 'r.json', self.bad, command=['false'])
         self.assertEqual((ran.returncode, ran.stdout), (2, ''))
         self.assertFalse(os.path.exists(self.path('r.json')))

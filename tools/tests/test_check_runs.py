@@ -258,7 +258,7 @@ class Stops(InCounted):
 
 
 class Archives(InStore):
-    def test_an_archive_that_ends_early_is_told_with_what_ended_its_program(self):
+    def test_an_archive_that_ends_early_is_reported_with_what_ended_its_program(self):
         for end, told in [
             ('kill $$', 'was ended by SIGTERM'),
             ('exit 5', 'ended with status 5'),

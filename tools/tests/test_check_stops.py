@@ -116,7 +116,7 @@ class Refuses(InStore):
         self.assert_nothing_left()
         return ran.stderr
 
-    def test_bad_input_is_told_in_one_line(self):
+    def test_bad_input_is_reported_in_one_line(self):
         broken = self.write('broken.trace', 'nothing\n')
         odd = self.write('odd', 'true\n', 0o755)
         killed = self.write('killed', '#!/bin/sh\nkill -9 $$\n', 0o755)
@@ -162,7 +162,7 @@ class Refuses(InStore):
                 self.assertEqual(err.count('\n'), 1, err)
         self.assertIn('crashfs-check: ', self.refusal('--crashfs', FAKE, broken, '--', 'true'))
 
-    def test_a_program_without_the_options_is_told(self):
+    def test_a_program_without_the_options_is_reported(self):
         old = self.write('old', f'#!/bin/sh\nexec {FAKE} "$@" --old\n', 0o755)
         err = self.refusal('--crashfs', old, self.good, '--', 'true')
         self.assertIn('has no `list --json` yet', err)
@@ -185,7 +185,7 @@ class Refuses(InStore):
             'error: put -- before COMMAND (./check.sh)', self.refusal(self.good, './check.sh')
         )
 
-    def test_a_trace_that_the_program_refuses_is_told_with_its_line(self):
+    def test_a_trace_that_the_program_refuses_is_reported_with_its_line(self):
         refusing = self.write(
             'refusing', '#!/bin/sh\necho "crashfs: trace line 3: Exists" >&2\n' 'exit 1\n', 0o755
         )

@@ -70,7 +70,7 @@ class Recorded(InFolder):
         )
 
     @needs_sqlite
-    def test_a_session_of_sqlite_has_its_rows_told_and_its_journals_removed(self):
+    def test_a_session_of_sqlite_has_its_rows_acknowledged_and_its_journals_removed(self):
         os.mkdir(self.path('store'))
         os.system(f'sqlite3 {self.path("store", "test.db")} "CREATE TABLE city (name TEXT)"')
         found = self.record('sqlite3', 'test.db', f'.read {example("sqlite", "session.sql")}')

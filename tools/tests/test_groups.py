@@ -176,7 +176,7 @@ class Groups(unittest.TestCase):
             f'(and at {len(group.places) - 1} more places)',
         )
 
-    def test_the_example_lacks_the_least_and_what_else_it_lacks_is_told(self):
+    def test_the_example_lacks_the_least_and_what_else_it_lacks_is_reported(self):
         text = HEADER + line('creat', '/t') + write('/t', 'x') + rename('/t', '/f')
         text += line('creat', '/g') + line('say', text='one')
         findings = findings_of(
@@ -234,7 +234,7 @@ class Groups(unittest.TestCase):
             ['line 4: b', 'line 4 (w', 'no sync h'],
         )
 
-    def test_a_torn_line_and_a_change_in_two_lines_are_told_as_such(self):
+    def test_a_torn_line_and_a_change_in_two_lines_are_reported_as_such(self):
         text = HEADER + line('creat', '/f') + line('fsync', '/') + write('/f', 'x' * 5000)
         report = report_of(
             text, lambda files, says: 'torn: f' if b'\0' in files.get('/f', b'') else ''
@@ -319,7 +319,7 @@ class Texts(unittest.TestCase):
         ]:
             self.assertNotEqual(without_numbers(one), without_numbers(other))
 
-    def test_what_was_tried_is_told(self):
+    def test_what_was_tried_is_reported(self):
         for tried, syncs, wanted in [
             (
                 Tried(0, 52, 0),
@@ -359,7 +359,7 @@ class Texts(unittest.TestCase):
         ).operations
         self.assertEqual([one.synced_by for one in lines.values()], ['/', '/d', '/d'])
 
-    def test_syncs_stand_after_their_lines(self):
+    def test_syncs_come_after_their_lines(self):
         text = HEADER + line('creat', '/f') + line('creat', '/g') + line('say', text='a')
         self.assertEqual(
             with_syncs(text, [(2, '/'), (3, '/g')]),
@@ -373,7 +373,7 @@ class Texts(unittest.TestCase):
 
 
 class Tries(InStore):
-    def test_a_second_fault_is_told_behind_the_advice_for_the_first(self):
+    def test_a_second_fault_is_reported_after_the_advice_for_the_first(self):
         """Each of two files is lost; the sync of one mends only that."""
         text = HEADER + line('creat', '/a') + line('creat', '/b') + line('fsync', '/')
         text += write('/a', '1') + write('/b', '1') + line('say', text='stored')

@@ -110,7 +110,7 @@ class Measure(InFolder):
         )
         self.assertEqual(told.returncode, 0)
 
-    def test_a_server_that_does_not_listen_is_told(self) -> None:
+    def test_a_server_that_does_not_listen_is_reported(self) -> None:
         self.program('crashfs', ['#!/bin/sh', 'exit 4'])
         told = self.measure('memory')
         self.assertEqual(told.returncode, 1)
@@ -128,7 +128,7 @@ class States(Measure):
         self.assertRegex(told, r'\nthe C program by one: \d+ a second\n')
         self.assertRegex(told, r'\na state beside the C program: [\d.]+ times, (within|past) ')
 
-    def test_a_check_that_fails_is_told(self) -> None:
+    def test_a_check_that_fails_is_reported(self) -> None:
         self.program('crashfs', ['#!/bin/sh', 'exit 4'])
         self.assertIn('states failed: ', self.measure('states').stdout)
 

@@ -141,7 +141,7 @@ class Mounts(InMounts):
         self.assertEqual(ran.stderr.count('\n'), 1)
         self.assert_nothing_left()
 
-    def test_bad_input_is_told_in_one_line(self):
+    def test_bad_input_is_reported_in_one_line(self):
         for told, *words in [
             ('--serve a..b: ', '--serve', 'a..b:5640', self.good),
             ('--uname a,b: no mount can', '--uname', 'a,b', self.good),

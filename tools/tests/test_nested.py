@@ -114,7 +114,7 @@ class Counted(unittest.TestCase):
 
 
 class Chosen(unittest.TestCase):
-    def test_each_cause_and_each_last_operation_is_met_before_others(self):
+    def test_each_cause_and_each_last_operation_is_tried_before_others(self):
         plan = read_plan(LISTED)
         outcomes = {number: Outcome(GOOD) for number in (0, 1, 2, 3, 4, 5, 8, 9, 10)}
         outcomes[2] = Outcome(BAD, 'lost: row 1')

@@ -160,7 +160,7 @@ class Blame(unittest.TestCase):
     def test_a_hole_whose_prefix_fails_alike_is_not_to_blame(self):
         self.assertEqual(self.pair(9, [5, 9]), Pair(4, None))
 
-    def test_a_prefix_is_told_with_what_mends_it(self):
+    def test_a_prefix_is_reported_with_what_mends_it(self):
         self.assertEqual(self.pair(2, [2, 3]), Pair(1, 3))
         self.assertEqual(self.pair(0, [0]), Pair(None, 0))
         self.assertEqual(self.pair(5, [4, 5]), Pair(3, None))
@@ -172,7 +172,7 @@ class Blame(unittest.TestCase):
         # The tree of prefix 3, but a line more was acknowledged.
         self.assertEqual(self.pair(10, [3, 10]), Pair(4, 3))
 
-    def test_a_pick_is_told_with_a_hole_that_fails_too_or_the_first_that_it_lacks(self):
+    def test_a_pick_is_reported_with_a_hole_that_fails_too_or_the_first_that_it_lacks(self):
         self.assertEqual(self.pair(11, [11]), Pair(2, 1, is_guess=True))
         self.assertEqual(self.pair(11, [11, 7]), Pair(2, 1))
         self.assertEqual(self.pair(12, [12]), Pair(None, None))

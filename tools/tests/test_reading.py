@@ -312,7 +312,7 @@ class AsAProgram(InFolder):
         ran = self.run_reading('tar', '--trace', str(EXAMPLES / 'store.trace'), '--state', '99')
         self.assertEqual((ran.returncode, ran.stderr), (1, 'crashfs: no such state\n'))
 
-    def test_a_reader_that_leaves_is_no_fault_to_tell(self):
+    def test_a_reader_that_leaves_is_no_fault_to_report(self):
         reader, writer = os.pipe()
         os.close(reader)
         with os.fdopen(writer, 'w') as closed:

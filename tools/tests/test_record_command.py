@@ -92,12 +92,12 @@ class Records(InRecordings):
         self.assertIn('{"op":"creat","path":"/a\\nstate 9 b",', self.read('out.trace'))
         self.assertIn('{"op":"unlink","path":"/q\\"\\\\ "}', self.operations())
 
-    def test_the_program_tells_the_last_state_where_it_can(self):
+    def test_the_program_computes_the_last_state_where_it_can(self):
         ran = self.record('echo 2 > new; rm old', '--crashfs', FAKE)
         self.assertIn('(by crashfs tar)', ran.stderr)
         self.assertEqual(ran.returncode, 0, ran.stderr)
 
-    def test_where_no_loss_could_be_seen_it_is_told(self):
+    def test_where_no_loss_could_be_seen_it_is_reported(self):
         for script, told in [
             ('echo 2 > new', 'no line was acknowledged: no loss can be seen; --no-say'),
             (
@@ -171,7 +171,7 @@ class Records(InRecordings):
         self.assertTrue(os.path.islink(self.path('out.trace')))
         self.assertEqual(len(self.read('real.trace').splitlines()), 4)
 
-    def test_what_no_trace_says_is_told_and_the_rest_is_written(self):
+    def test_what_no_trace_says_is_reported_and_the_rest_is_written(self):
         ran = self.record('mkfifo pipe; chmod 600 old; echo 2 > new; exit 4')
         self.assertEqual(ran.returncode, 3)
         for told in ['/pipe: a device or a named pipe was made', 'COMMAND ended with status 4']:
@@ -197,7 +197,7 @@ class Records(InRecordings):
         self.assertIn('/pipe: the start tree leaves out a named pipe', ran.stderr)
         self.assertEqual(len(self.operations()), 1)
 
-    def test_ignored_files_stand_nowhere(self):
+    def test_ignored_files_are_nowhere(self):
         ran = self.record(
             'mkdir -p s/log; echo 2 > s/log/a; echo 3 > b',
             '--ignore',
@@ -209,7 +209,7 @@ class Records(InRecordings):
         )
         self.assertEqual((ran.returncode, len(self.operations())), (0, 2), ran.stderr)
 
-    def test_a_difference_at_the_end_is_told(self):
+    def test_a_difference_at_the_end_is_reported(self):
         child = self.start(
             'crashfs-record',
             '--no-say',
@@ -290,7 +290,7 @@ class Records(InRecordings):
         self.assertFalse(os.path.exists(self.path('second.trace')))
 
     @needs_version_3
-    def test_stores_through_a_mapping_are_told_with_mapped(self):
+    def test_stores_through_a_mapping_are_reported_with_mapped(self):
         script = self.write('mapped.py', STORE_MAPPED)
         ran = self.record(f'{sys.executable} {script}', '--mapped')
         self.assertEqual(ran.returncode, 0, ran.stderr)
@@ -331,14 +331,14 @@ class Records(InRecordings):
         )
         self.assertNotIn('a relative path', ran.stderr)
 
-    def test_a_command_that_cannot_be_started_is_told(self):
+    def test_a_command_that_cannot_be_started_is_reported(self):
         odd = self.write('odd', 'true\n', 0o755)
         ran = self.run_tool('crashfs-record', 'd', 'out.trace', '--', odd)
         self.assertEqual(ran.returncode, 1)
         self.assertIn(f'crashfs-record: {odd} could not be started', ran.stderr)
         self.assertFalse(os.path.exists(self.path('out.trace')))
 
-    def test_a_log_of_other_options_is_told(self):
+    def test_a_log_of_other_options_is_reported(self):
         os.system(f'cd {self.path("d")} && strace -f -y -o ../log sh -c "echo 2 > new"')
         ran = self.run_tool('crashfs-record', '--from-log', 'log', 'd', 'out.trace')
         self.assertEqual((ran.returncode, ran.stdout), (1, ''))
@@ -348,7 +348,7 @@ class Records(InRecordings):
             'it(, in line [0-9]+)?\n$',
         )
 
-    def test_a_standard_output_that_takes_nothing_is_told(self):
+    def test_a_standard_output_that_takes_nothing_is_reported(self):
         ran = self.run_tool(
             'crashfs-record', 'd', 'out.trace', '--', 'echo', 'stored', output='/dev/full'
         )

@@ -19,7 +19,7 @@ class Refuses(InFolder):
         self.assertEqual(sorted(os.listdir(self.folder)), ['d', 'tmp'])
         return ran.stderr
 
-    def test_bad_input_is_told_in_one_line(self):
+    def test_bad_input_is_reported_in_one_line(self):
         for told, *words in [
             ('x is no directory', 'x', 'o', '--', 'true'),
             ('no-such-command: command not found', 'd', 'o', '--', 'no-such-command'),
@@ -44,7 +44,7 @@ class Refuses(InFolder):
         self.assertIn('strace: command not found', ran.stderr)
         self.assertEqual(os.listdir(self.path('d')), [])
 
-    def test_a_strace_that_is_old_or_may_not_trace_is_told(self):
+    def test_a_strace_that_is_old_or_may_not_trace_is_reported(self):
         os.mkdir(self.path('tmp', 'bin'))
         for version, told in [
             ('5.10', 'strace is 5.10; 5.18 or later is needed'),

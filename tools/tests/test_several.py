@@ -71,7 +71,7 @@ class Several(InFolder):
             several.SeveralAtOnce(samples(self.folder)).run(result)
         return ''.join(told), result
 
-    def test_what_came_of_each_is_told_in_their_order(self):
+    def test_what_came_of_each_is_reported_in_their_order(self):
         told, result = self.run_all(3)
         self.assertEqual(told, 'abcdef')
         self.assertEqual(

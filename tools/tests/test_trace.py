@@ -241,7 +241,7 @@ class Traces(unittest.TestCase):
         self.assertIsNone(tree.fault(Write('/d/f', limits.FILE_BYTES - 1, b'x')))
         self.assertEqual(tree.new_fault(deep), f'{deep[:-2]} is no directory of the trace')
 
-    def test_differences_are_told_but_for_paths_that_are_told_already(self):
+    def test_differences_are_reported_but_for_paths_that_are_reported_already(self):
         def scan(*entries: Start) -> Scan:
             return Scan(Header('u', 'u', 0o755), list(entries))
 

@@ -17,7 +17,7 @@ class Calls(unittest.TestCase):
                 self.assertEqual([short(one) for one in recording.trace.operations], wanted)
                 self.assertEqual(list(map(str, recording.troubles.all_found())), [])
 
-    def test_lines_of_standard_output_are_told_whole_and_in_their_place(self):
+    def test_lines_of_standard_output_are_reported_whole_and_in_their_place(self):
         log = [
             OPEN_F,
             '1 write(1<pipe:[7]>, "one\n\ntw", 7) = 7',

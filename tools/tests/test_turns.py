@@ -136,7 +136,7 @@ class Rest(Listing):
         self.assertEqual(ran.stderr, '')
         return ran.stdout.splitlines()
 
-    def test_the_report_says_how_much_was_tried_and_what_draws_tell(self) -> None:
+    def test_the_report_says_how_much_was_tried_and_what_draws_show(self) -> None:
         head, drawn, rest = self.check('--every', '100')
         self.assertRegex(
             head,

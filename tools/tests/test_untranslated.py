@@ -186,7 +186,7 @@ NOTES = [
 
 
 class Troubles(unittest.TestCase):
-    def test_what_no_trace_can_say_is_told_with_its_place(self):
+    def test_what_no_trace_can_say_is_reported_with_its_place(self):
         for are_notes, rows in [(False, TROUBLES), (True, NOTES)]:
             for wanted, start, log in rows:
                 with self.subTest(wanted):
@@ -195,7 +195,7 @@ class Troubles(unittest.TestCase):
                     self.assertTrue(str(told[0]).startswith(wanted), str(told[0]))
                     self.assertEqual(told[0].is_note, are_notes)
 
-    def test_what_version_3_can_not_say_is_left_out_and_told(self):
+    def test_what_version_3_can_not_say_is_left_out_and_reported(self):
         for wanted, start, log in OLD_TROUBLES:
             with self.subTest(wanted):
                 recording = recording_of(log, start, version=3)

@@ -158,7 +158,7 @@ class Versions(InRecordings):
 
 
 class Ends(unittest.TestCase):
-    def test_kinds_and_targets_that_differ_at_the_end_are_told(self):
+    def test_kinds_and_targets_that_differ_at_the_end_are_reported(self):
         link, other = (Entry('u', 'u', 0o777, None, target) for target in 'ab')
         folder = Entry('u', 'u', 0o777, None)
         for real, traced, told in (
