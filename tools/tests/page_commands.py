@@ -15,7 +15,7 @@ BLOCK = re.compile(r'(?<=\n\n)(?:    .*\n|\n+(?=    ))+')
 FENCE = re.compile(r'^```.*?^```$', re.M | re.S)
 FIRST_WORD = re.compile(
     r'(?:\$ )?(?:tools/[\w-]+|crashfs[\w-]*|rt|apt-get|array=\S+|cd|\(cd|git|ls|man|mkdir|mount|'
-    r'parallel|PATH=\S+|pip|pipx|python3|rm|sbatch|sleep|sqlite3|strace|sudo|tar|'
+    r'parallel|PATH=\S+|pip|pipx|python3|rm|sbatch|sleep|sqlite3|strace|sudo|tar|truncate|'
     r'/usr/bin/time|#!/bin/sh)'
     r'(?=\s|$)'
 )

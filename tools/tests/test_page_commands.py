@@ -143,6 +143,9 @@ class Run(InFolder):
     def test_those_of_the_program(self) -> None:
         self.run_page('docs/reference/crashfs.md')
 
+    def test_those_of_the_results(self) -> None:
+        self.run_page('docs/RESULTS.md')
+
     def test_those_for_contributors(self) -> None:
         self.run_page('docs/CONTRIBUTING.md')
 
@@ -164,6 +167,7 @@ class Run(InFolder):
 RUN = {
     'README.md',
     'docs/CONTRIBUTING.md',
+    'docs/RESULTS.md',
     'docs/how-to/ci.md',
     'docs/how-to/record.md',
     'docs/reference/crashfs.md',
