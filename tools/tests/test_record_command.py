@@ -36,6 +36,10 @@ class InRecordings(InFolder):
     def record_aloud(self, script, *options):
         return self.run_tool('crashfs-record', *options, 'd', 'out.trace', '--', 'sh', '-c', script)
 
+    def start_recording(self, script):
+        """A recording that runs beside the test."""
+        return self.start('crashfs-record', '--no-say', 'd', 'out.trace', '--', 'sh', '-c', script)
+
     def operations(self):
         lines = self.read('out.trace').splitlines()
         return [line for line in lines if line.startswith('{"op"')]
@@ -210,16 +214,7 @@ class Records(InRecordings):
         self.assertEqual((ran.returncode, len(self.operations())), (0, 2), ran.stderr)
 
     def test_a_difference_at_the_end_is_reported(self):
-        child = self.start(
-            'crashfs-record',
-            '--no-say',
-            'd',
-            'out.trace',
-            '--',
-            'sh',
-            '-c',
-            'echo $$ > ../pid; until test -e other; do sleep 0.05; done',
-        )
+        child = self.start_recording('echo $$ > ../pid; until test -e other; do sleep 0.05; done')
         self.pid_of('pid', child)
         self.make_other()
         _, err = child.communicate(timeout=PATIENCE)
@@ -229,15 +224,8 @@ class Records(InRecordings):
     def test_what_a_scan_sees_and_no_trace_says_is_reported(self):
         self.write('d/one', '1')
         self.write('d/two', '1')
-        child = self.start(
-            'crashfs-record',
-            '--no-say',
-            'd',
-            'out.trace',
-            '--',
-            'sh',
-            '-c',
-            'echo $$ > ../pid; until test -e other; do sleep 0.05; done; rm other',
+        child = self.start_recording(
+            'echo $$ > ../pid; until test -e other; do sleep 0.05; done; rm other'
         )
         self.pid_of('pid', child)
         os.unlink(self.path('d', 'two'))

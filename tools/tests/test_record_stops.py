@@ -58,16 +58,7 @@ class Stops(InRecordings):
 
     @unittest.skipUnless(platform.machine() == 'x86_64', 'tgkill has another number')
     def test_a_stop_that_another_thread_takes_is_passed_on(self):
-        child = self.start(
-            'crashfs-record',
-            '--no-say',
-            'd',
-            'out.trace',
-            '--',
-            'sh',
-            '-c',
-            'echo $$ > ../pid; exec sleep 300',
-        )
+        child = self.start_recording('echo $$ > ../pid; exec sleep 300')
         pid = self.pid_of('pid', child)
         (other,) = [
             int(one) for one in os.listdir(f'/proc/{child.pid}/task') if int(one) != child.pid
