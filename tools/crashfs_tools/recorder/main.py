@@ -70,12 +70,7 @@ def run_command(options: RecordOptions, guard: Guard) -> RecordedRun:
     finally:
         left = guard.end_processes()
     log = stream.finish()
-    if log.first is None:
-        raise Refused('strace recorded nothing (it may not trace here: see its message)')
-    if not log.is_whole:
-        raise Refused("strace's log ends before COMMAND did")
-    if not log.has_begun:
-        raise Refused(f'{options.command[0]} could not be started (strace prints why)')
+    refuse_part_of_log(log, options.command[0])
     return RecordedRun(
         log,
         mapped.copies if mapped else None,
@@ -85,6 +80,16 @@ def run_command(options: RecordOptions, guard: Guard) -> RecordedRun:
         descendants.processes_text(left),
         stream.fault.strerror if stream.fault else '',
     )
+
+
+def refuse_part_of_log(log: Log, program: str) -> None:
+    """Refuses a log that isn't of a whole run of a program."""
+    if log.first is None:
+        raise Refused('strace recorded nothing (it may not trace here: see its message)')
+    if not log.is_whole:
+        raise Refused("strace's log ends before COMMAND did")
+    if not log.has_begun:
+        raise Refused(f'{program} could not be started (strace prints why)')
 
 
 def log_filter(options: RecordOptions, top: str) -> LogFilter:
@@ -133,22 +138,9 @@ def record(options: RecordOptions) -> int:
     refuse_bad_options(options)
     Crashfs.find(options.crashfs)
     before = scan(options.directory, options.ignored, options.version or NEWEST)
-    settings = TraceSettings(
-        options.acknowledged,
-        SayEach(options.each) if options.each else None,
-        options.profile,
-        options.block,
-        options.version,
-    )
-    recording = Recording(before.header, settings)
+    recording = Recording(before.header, trace_settings(options))
     files = LiveFiles(recording, start_conditions(options), before, options.ignored)
-    if options.from_log is not None:
-        run = RecordedRun(load_log(options.from_log, log_filter(options, files.conditions.top)))
-        if not run.log.is_whole:
-            recording.report('the log ends before the program did', '/')
-    else:
-        with Guard('crashfs-record-') as guard:
-            run = run_command(options, guard)
+    run = run_or_load(options, files)
     translate(options, files, run)
     write_trace(options, recording)
     try:
@@ -158,6 +150,28 @@ def record(options: RecordOptions) -> int:
     except Exception as error:
         print_own_fault(NAME, error, WRITTEN)
     return summary.NOT_WHOLE
+
+
+def trace_settings(options: RecordOptions) -> TraceSettings:
+    """How the options want the trace to be made."""
+    return TraceSettings(
+        options.acknowledged,
+        SayEach(options.each) if options.each else None,
+        options.profile,
+        options.block,
+        options.version,
+    )
+
+
+def run_or_load(options: RecordOptions, files: LiveFiles) -> RecordedRun:
+    """The run of COMMAND, or that of a log which was kept."""
+    if options.from_log is None:
+        with Guard('crashfs-record-') as guard:
+            return run_command(options, guard)
+    run = RecordedRun(load_log(options.from_log, log_filter(options, files.conditions.top)))
+    if not run.log.is_whole:
+        files.report('the log ends before the program did', '/')
+    return run
 
 
 def write_trace(options: RecordOptions, recording: Recording) -> None:
