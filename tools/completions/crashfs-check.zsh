@@ -18,6 +18,7 @@ _arguments -S \
     '--time-limit[stop after S seconds, and report what was tried]:S:_files' \
     '--resume[continue a check that was stopped, from its --json file]:FILE:_files' \
     '--accept[a JSON list of known failures]:FILE:_files' \
+    '--cache[keep outcomes in this directory]:DIR:_files' \
     '--json[write the outcomes, for --merge, --resume and other tools]:FILE:_files' \
     '--junit[write the report as JUnit XML]:FILE:_files' \
     '--html[write the report as one page, to be opened in a browser]:FILE:_files' \

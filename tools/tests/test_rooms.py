@@ -20,7 +20,7 @@ ROOMS: Dict[str, Set[str]] = {
     'recorder.calls': {'common', 'recorder'},
     'recorder': {'common', 'reading', 'recorder.calls'},
     'checker.states': {'common', 'reading', 'checker.options'},
-    'checker.running': {'common', 'checker.options', 'checker.states'},
+    'checker.running': {'common', 'reading', 'checker.options', 'checker.states'},
     'disks': {'common'},
     'checker.findings': {
         'common',

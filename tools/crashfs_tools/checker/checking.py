@@ -19,13 +19,13 @@ from crashfs_tools.checker.running.results import AllResults, Results, known_sta
 from crashfs_tools.checker.running.saving import Saver
 from crashfs_tools.checker.running.trials import Trials
 from crashfs_tools.checker.states.plan import Planned
-from crashfs_tools.common.command import Refused, with_program_path, write_whole
+from crashfs_tools.common.command import Refused, print_line, with_program_path, write_whole
 from crashfs_tools.common.guard import Guard, Stopped, TimeUp, time_limit
 from crashfs_tools.common.program import Crashfs, ProgramFault
 
 from .checked_trace import CheckedTrace
 from .merging import new_report
-from .options import Options
+from .options import NAME, Options
 
 if TYPE_CHECKING:
     from crashfs_tools.checker.findings.nested import Nested
@@ -116,6 +116,7 @@ class Check:
             self.head.cut_off = [(one.line, one.tried) for one in self.trace.windows.cut_off]
         if self.head.stopped == TIME_LIMIT and self.last is not None:
             self.rerun_examples(self.last, RERUN_SECONDS)
+        self.save_cache()
 
     def check_windows(self) -> None:
         """Checks each window, up to one that was not tried whole."""
@@ -141,6 +142,7 @@ class Check:
         self.take_earlier(results)
         if before is None:
             self.head.lines = self.trace.lines.operations
+            self.open_cache(trials)
             FirstTrials(trials, results, self.trace.end()).run()
         saver = Saver(lambda: self.save(results), SAVE_SECONDS)
         try:
@@ -149,6 +151,29 @@ class Check:
             known_outcomes = before.findings.by_state if before else {}
             self.last = Window(planned, Findings(self.head, results, known_outcomes))
             self.report.add(self.last.findings)
+
+    def open_cache(self, trials: Trials) -> None:
+        """Opens the outcomes of earlier checks, if they are asked for."""
+        if self.options.cache is None:
+            return
+        from crashfs_tools.checker.running.cache import OutcomeCache, open_folder
+        from crashfs_tools.checker.running.command_files import command_name
+
+        folder = open_folder(self.options.cache)
+        prefixes = [one.number for one in trials.plan.states if one.family == 'prefix']
+        ends = [prefixes[0], prefixes[-1]]
+        name = command_name(folder, self.options.command, ends, trials.run_words)
+        trials.workplace.cache = OutcomeCache(folder, name)
+
+    def save_cache(self) -> None:
+        """Writes the outcomes for later checks. If that fails, they are only slower."""
+        cache = self.trace.workplace.cache if self.last is not None else None
+        if cache is not None:
+            self.report.cached = cache.hits
+            try:
+                cache.save()
+            except OSError as error:
+                print_line(NAME, f'--cache {error.filename}: {error.strerror}')
 
     def take_earlier(self, results: Results) -> None:
         """Takes the outcomes that --resume has of a window; Refused if it is another one there."""

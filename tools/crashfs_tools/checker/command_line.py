@@ -157,6 +157,12 @@ def add_verdict(made: argparse.ArgumentParser) -> None:
         metavar='FILE',
         help='a JSON list of known failures: they are reported, and do not change the status',
     )
+    made.add_argument(
+        '--cache',
+        metavar='DIR',
+        help='keep outcomes in this directory: a state with the same files and lines is not tried '
+        'again, unless a file that COMMAND opens has changed (needs strace)',
+    )
 
 
 def add_files(made: argparse.ArgumentParser) -> None:
@@ -270,6 +276,8 @@ def read_options(arguments: List[str]) -> Options:
         made.error('--every goes with no --families, --prefixes, --quick or --serve')
     if values.accept and (values.fail_fast or values.shard.parts > 1):
         made.error('--accept goes with no --fail-fast or --shard; give it to --merge')
+    if values.cache and values.serve:
+        made.error('--cache goes with no --serve')
     if values.uname is not None and values.serve is None:
         made.error('--uname goes with --serve')
     if values.nested and (values.serve or values.shard.parts > 1 or values.merge):

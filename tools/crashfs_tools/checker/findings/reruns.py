@@ -18,8 +18,8 @@ ENTRIES = 20
 def rerun(trials: Trials, example: State) -> Outcome:
     """The outcome of a further run; of another one if that fails too: COMMAND may fail only each so
     many runs."""
-    outcome = trials.try_one(example)
-    return outcome if outcome.result == GOOD else trials.try_one(example)
+    outcome = trials.try_one(example, 1)
+    return outcome if outcome.result == GOOD else trials.try_one(example, 2)
 
 
 def rerun_examples(trials: Trials, findings: Findings, seconds: float = float('inf')) -> None:
@@ -32,4 +32,6 @@ def rerun_examples(trials: Trials, findings: Findings, seconds: float = float('i
             began = time.monotonic()
             results.reruns[number] = rerun(trials, group.example)
             group.seconds = time.monotonic() - began
+            if results.reruns[number].result == GOOD:
+                trials.forget(state.number for state in group.states)
     findings.take_reruns()

@@ -48,6 +48,8 @@ class CheckReport:
         self.head = head
         self.known = known
         self.has_states = False
+        # How many runs of COMMAND were those of earlier checks.
+        self.cached = 0
         self.state_outcomes: List[StateRow] = []
         self.profiles: Tuple[str, ...] = ()
         self.has_json = has_json

@@ -57,6 +57,7 @@ class ReportText:
                 *self.recovery_lines(),
                 *self.disk_lines(),
                 *folded(rest_lines(self.counts), '  '),
+                *self.cache_lines(),
             ]
         ]
 
@@ -122,6 +123,11 @@ class ReportText:
         if self.head.unproved:
             return [UNPROVED + how, self.summary()]
         return [SETS_UNPROVED, self.summary()] if self.counts.are_read else [self.summary()]
+
+    def cache_lines(self) -> List[str]:
+        """How much of the report is from earlier checks."""
+        count = self.report.cached
+        return [f'  {number_of(count, "outcome")} from earlier checks (--cache)'] if count else []
 
     def cut_off_lines(self) -> List[str]:
         """Lines that were still pending where their last window ended."""

@@ -3,7 +3,8 @@
 from __future__ import annotations
 
 from dataclasses import dataclass, replace
-from typing import TYPE_CHECKING, Callable, Dict, List, Optional, Sequence, Set
+from functools import cached_property, lru_cache
+from typing import TYPE_CHECKING, Callable, Dict, Iterable, List, Optional, Sequence, Set
 
 from crashfs_tools.checker.options import Options
 from crashfs_tools.checker.states.layout import Archive, Layout
@@ -14,6 +15,7 @@ from crashfs_tools.common.limits import RUNS
 from crashfs_tools.common.program import Crashfs
 from crashfs_tools.common.trace_text import is_large_trace, root_owner
 
+from .cache import OutcomeCache, StateKeys
 from .pace import Pace, TooSlow
 from .progress import Progress
 from .recoveries import CommandRecovery, FunctionRecovery, StateRecovery
@@ -29,17 +31,21 @@ if TYPE_CHECKING:
 # lines and in what they make files grow to.
 MUCH_ENTRIES, MUCH_BYTES = 32, 1 << 20
 
+# A state may be tried so often: once, and the example of an entry twice more.
+ATTEMPTS = 3
+
 
 @dataclass
 class Workplace:
     """What all trials of a check share: its options, the program, the place for its files, the
-    acknowledged lines, and what shows the progress."""
+    acknowledged lines, what shows the progress, and the outcomes of earlier checks."""
 
     options: Options
     program: Crashfs
     guard: Guard
     says: AcknowledgedLines
     progress: Progress
+    cache: Optional[OutcomeCache] = None
 
 
 class Trials:
@@ -102,10 +108,21 @@ class Trials:
                 found[own + request.lead] = tree
         return [found[number] for number in numbers]
 
-    def try_one(self, state: State) -> Outcome:
+    def try_one(self, state: State, attempt: int = 0) -> Outcome:
+        """The outcome of a state; another one for each attempt, so that runs can be compared."""
         found: Dict[int, Outcome] = {}
-        self.run_workers(self.layout(), {state.number}, found.__setitem__)
+        self.run_uncached(self.layout, {state.number}, found.__setitem__, attempt)
         return found[state.number]
+
+    def run_words(self, words: List[str], number: int) -> str:
+        """Runs other words in the place of COMMAND in a state; returns the state's directory."""
+        checker = replace(self.checker(), recovery=CommandRecovery(words))
+        layout, place = self.archive(self.guard.directory), ''
+        for own, directory in layout.states({number}):
+            with layout.laid_out(own, directory):
+                checker.run(own, self.plan.state(own).says, directory)
+            place = directory
+        return place
 
     def try_states(self, wanted: Set[int], on_outcome: OnOutcome) -> None:
         """Tries states; a stop may come meanwhile."""
@@ -120,12 +137,54 @@ class Trials:
             on_outcome(number, outcome)
             progress.step(outcome)
 
+        @lru_cache(None)
+        def layout() -> Layout:
+            return self.layout(many=True)
+
         try:
-            layout = self.layout(many=True)
             for turn in turns:
-                self.run_workers(layout, turn, step)
+                self.run_uncached(layout, turn, step)
         finally:
             progress.end()
+
+    @cached_property
+    def keys(self) -> StateKeys:
+        """The keys of this plan's states in the cache."""
+        return StateKeys(self.planned.trace, self.plan, self.says.texts)
+
+    def run_uncached(
+        self,
+        layout: Callable[[], Layout],
+        wanted: Set[int],
+        on_outcome: OnOutcome,
+        attempt: int = 0,
+    ) -> None:
+        """Runs COMMAND in the states whose outcome isn't in the cache."""
+        cache, left = self.workplace.cache, set(wanted)
+        if cache is None:
+            self.run_workers(layout(), left, on_outcome)
+            return
+        for number in sorted(wanted):
+            known = cache.outcome(self.keys.key(number, attempt))
+            if known is not None:
+                left.remove(number)
+                on_outcome(number, known)
+
+        def keep(number: int, outcome: Outcome) -> None:
+            assert cache is not None
+            cache.add(self.keys.key(number, attempt), outcome)
+            on_outcome(number, outcome)
+
+        if left:
+            self.run_workers(layout(), left, keep)
+
+    def forget(self, numbers: Iterable[int]) -> None:
+        """Drops the outcomes of states from the cache: they may be others the next time."""
+        cache = self.workplace.cache
+        if cache is not None:
+            for number in numbers:
+                for attempt in range(ATTEMPTS):
+                    cache.forget(self.keys.key(number, attempt))
 
     def run_workers(self, layout: Layout, wanted: Set[int], on_outcome: OnOutcome) -> None:
         """Runs COMMAND in other processes: nothing of it is left if this one is killed."""

@@ -1,0 +1,122 @@
+"""Outcomes of earlier checks, in a directory: what COMMAND made of equal files with equal lines.
+
+COMMAND is known by its words and by the content of the files that it opens, which strace shows in
+two runs. A file of outcomes is replaced as a whole, and synced; what isn't whole, or may have been
+written by another user, is not read.
+"""
+
+from __future__ import annotations
+
+import hashlib
+import json
+import os
+import stat
+from typing import Any, Dict, List, Optional
+
+from crashfs_tools.checker.states.plan import Plan
+from crashfs_tools.common.command import Refused, write_whole
+from crashfs_tools.reading import read
+from crashfs_tools.reading.states import States
+
+from .runner import BAD, GOOD, Outcome
+
+FORMAT = 1
+# So many outcomes of one COMMAND are kept: the last ones that were used.
+MOST_OUTCOMES = 200_000
+OWN_MODE = 0o600
+WRITABLE_BY_OTHERS = stat.S_IWGRP | stat.S_IWOTH
+
+Digests = Dict[str, str]
+
+
+class OutcomeCache:
+    """The outcomes of one COMMAND in a directory. name is that of the file that has them."""
+
+    def __init__(self, folder: str, name: str) -> None:
+        self.path = os.path.join(folder, f'outcomes-{name}.json')
+        self.earlier: Dict[str, List[str]] = read_checked(self.path)
+        self.used: Dict[str, List[str]] = {}
+        self.hits = 0
+
+    def outcome(self, key: str) -> Optional[Outcome]:
+        """What COMMAND made of a state before; None if that isn't known."""
+        found = self.used.get(key) or self.earlier.get(key)
+        if found is None or len(found) != 3 or found[0] not in (GOOD, BAD):
+            return None
+        self.used[key] = found
+        self.hits += 1
+        return Outcome(*found)
+
+    def add(self, key: str, outcome: Outcome) -> None:
+        """Keeps an outcome, but not that a state gave no answer."""
+        if outcome.result in (GOOD, BAD):
+            self.used[key] = list(outcome)
+
+    def forget(self, key: str) -> None:
+        """Drops an outcome that another run didn't confirm."""
+        self.used.pop(key, None)
+        self.earlier.pop(key, None)
+
+    def save(self) -> None:
+        """Writes all outcomes, those of this check last."""
+        kept = {key: one for key, one in self.earlier.items() if key not in self.used}
+        room = max(0, MOST_OUTCOMES - len(self.used))
+        oldest = dict(list(kept.items())[len(kept) - min(room, len(kept)) :])
+        write_checked(self.path, {**oldest, **self.used})
+
+
+class StateKeys:
+    """Equal for states that have equal files and equal lines, of whatever trace."""
+
+    def __init__(self, trace: str, plan: Plan, lines: List[str]) -> None:
+        with open(trace, 'rb') as file:
+            self.reading = read(file.read())
+        self.states = States(self.reading)
+        self.plan = plan
+        self.lines = lines
+
+    def key(self, number: int, attempt: int) -> str:
+        """That of a state, for COMMAND's first run in it or a further one."""
+        state = self.plan.state(number)
+        tree = self.states.digest(self.plan.kept[number])
+        lines = self.lines[: state.says]
+        shown = repr((self.reading.block_size, tree, lines, attempt))
+        return hashlib.sha256(shown.encode('utf-8', 'surrogateescape')).hexdigest()
+
+
+def open_folder(path: str) -> str:
+    """The directory of a cache, which is made if it isn't there; Refused if others may write it."""
+    try:
+        os.makedirs(path, mode=0o700, exist_ok=True)
+        status = os.stat(path)
+    except OSError as error:
+        raise Refused(f'--cache {path}: {error.strerror}') from error
+    if not stat.S_ISDIR(status.st_mode):
+        raise Refused(f'--cache {path} is no directory')
+    if status.st_uid != os.geteuid() or status.st_mode & WRITABLE_BY_OTHERS:
+        raise Refused(f'--cache {path}: others may write it')
+    return path
+
+
+def read_checked(path: str) -> Dict[str, Any]:
+    """What write_checked wrote; nothing if that isn't whole, or may not be ours."""
+    try:
+        with open(os.open(path, os.O_RDONLY | os.O_NOFOLLOW | os.O_CLOEXEC), 'rb') as file:
+            status = os.fstat(file.fileno())
+            text = file.read()
+        if status.st_uid != os.geteuid() or status.st_mode & WRITABLE_BY_OTHERS:
+            return {}
+        digest, _, content = text.partition(b'\n')
+        if hashlib.sha256(content).hexdigest().encode() != digest:
+            return {}
+        fields = json.loads(content)
+        return dict(fields['values']) if fields['format'] == FORMAT else {}
+    except (OSError, ValueError, KeyError, TypeError):
+        return {}
+
+
+def write_checked(path: str, values: Dict[str, Any]) -> None:
+    """Replaces a file, which is durable afterwards: first the digest of the rest."""
+    content = json.dumps({'format': FORMAT, 'values': values})
+    digest = hashlib.sha256(content.encode()).hexdigest()
+    write_whole(path, [digest, '\n', content], OWN_MODE)

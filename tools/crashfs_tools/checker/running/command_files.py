@@ -1,0 +1,82 @@
+"""Which files COMMAND opens outside a state's directory: its program, libraries and scripts."""
+
+from __future__ import annotations
+
+import hashlib
+import json
+import os
+import re
+import shutil
+import tempfile
+from typing import Callable, Dict, Iterable, Iterator, List, Set
+
+from crashfs_tools.common.command import Refused
+from crashfs_tools.common.version import version_of
+
+from .cache import read_checked, write_checked
+
+# A call that opens a file or starts a program, with the path.
+OPENED = re.compile(r'(?:open|openat|openat2|execve|execveat)\((?:[^"]*, )?"([^"]+)"')
+CALLS = 'trace=open,openat,openat2,execve,execveat'
+# What the kernel shows in these directories differs from run to run.
+LEFT_OUT = ('/proc/', '/sys/')
+
+# The compiled form of a module of Python, by whose source it is known.
+COMPILED = re.compile(r'(.*)/__pycache__/([^/.]+)\.[^/]*pyc$')
+
+# Runs words in the place of COMMAND in a state, by its number; returns its directory.
+RunInState = Callable[[List[str], int], str]
+
+
+def command_name(folder: str, words: List[str], states: List[int], run: RunInState) -> str:
+    """Equal for commands that have equal words and open equal files. The files are those that
+    strace showed in some states when COMMAND was first run with this cache; they are looked for
+    again if one of them has changed."""
+    path = os.path.join(folder, f'command-{digest_of_text(json.dumps(words))}.json')
+    known: Dict[str, str] = read_checked(path)
+    if not known or any(digest_of_file(name) != digest for name, digest in known.items()):
+        none: Set[str] = set()
+        opened = none.union(*(opened_files(words, state, run) for state in states))
+        known = {name: digest_of_file(name) for name in sorted(opened)}
+        write_checked(path, known)
+    return digest_of_text(json.dumps([version_of(''), words, sorted(known.items())]))
+
+
+def opened_files(words: List[str], state: int, run: RunInState) -> Set[str]:
+    """The files that COMMAND opens in a state, or finds missing, but for those of the state."""
+    strace = shutil.which('strace')
+    if strace is None:
+        raise Refused('--cache needs strace, which shows the files that COMMAND opens')
+    with tempfile.NamedTemporaryFile('r', encoding='utf-8', errors='surrogateescape') as log:
+        directory = run([strace, '-f', '-qq', '-e', CALLS, '-o', log.name, '--', *words], state)
+        found = set(opened_paths(log))
+    if not found:
+        raise Refused('--cache: strace shows no file that COMMAND opens; may it trace here?')
+    left_out = (f'{os.path.realpath(directory)}/', *LEFT_OUT)
+    files = {path for path in found if os.path.isfile(path) or not os.path.lexists(path)}
+    return {path for path in files if not path.startswith(left_out)}
+
+
+def opened_paths(lines: Iterable[str]) -> Iterator[str]:
+    """The real paths of a log. Relative ones are of a state, what is only written is no input, and
+    Python looks at a module's source to see whether its compiled form is older."""
+    for line in lines:
+        match = OPENED.search(line)
+        if match is not None and os.path.isabs(match[1]) and 'O_WRONLY' not in line:
+            path = os.path.realpath(match[1])
+            compiled = COMPILED.match(path)
+            source = f'{compiled[1]}/{compiled[2]}.py' if compiled else path
+            yield source if os.path.exists(source) else path
+
+
+def digest_of_file(path: str) -> str:
+    """The digest of a file's bytes; nothing if it can't be read."""
+    try:
+        with open(path, 'rb') as file:
+            return hashlib.sha256(file.read()).hexdigest()
+    except OSError:
+        return ''
+
+
+def digest_of_text(text: str) -> str:
+    return hashlib.sha256(text.encode('utf-8', 'surrogateescape')).hexdigest()[:40]

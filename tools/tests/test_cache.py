@@ -1,0 +1,161 @@
+"""The cache of outcomes: what is not tried again, and what is, since something has changed."""
+
+from __future__ import annotations
+
+import os
+import unittest
+from pathlib import Path
+from typing import Any, List
+
+from crashfs_tools.checker.running.cache import (
+    OutcomeCache,
+    StateKeys,
+    open_folder,
+    read_checked,
+    write_checked,
+)
+from crashfs_tools.checker.running.command_files import opened_paths
+from crashfs_tools.checker.running.runner import BAD, GOOD, NO_ANSWER, Outcome
+from crashfs_tools.common.command import Refused
+
+from .support import EXAMPLES, InFolder, needs_strace
+from .test_all_states import Listing
+
+CONFIG = EXAMPLES / 'config' / 'config.trace'
+# Counts its runs, and asks a module beside it.
+RECOVER = """\
+#!/usr/bin/env python3
+import os, sys
+sys.path.insert(0, os.environ['MODULES'])
+import judge
+with open(os.environ['RUNS'], 'a') as file:
+    file.write('.')
+sys.exit(judge.judged())
+"""
+JUDGE = """\
+import os
+def judged():
+    version = open('config').read() if os.path.exists('config') else ''
+    print('lost: a version')
+    return not version.startswith('version=') or int(version[8:]) < int(os.environ['CRASHFS_SAYS'])
+"""
+
+
+class Files(InFolder):
+    def test_only_whole_files_of_ours_are_read(self) -> None:
+        path = self.path('c.json')
+        write_checked(path, {'a': ['good', '', '']})
+        self.assertEqual(read_checked(path), {'a': ['good', '', '']})
+        whole = Path(path).read_bytes()
+        for damaged in (whole[:-1], whole.replace(b'good', b'goad'), b'', b'x', whole[1:]):
+            Path(path).write_bytes(damaged)
+            self.assertEqual(read_checked(path), {}, damaged)
+        Path(path).write_bytes(whole)
+        os.chmod(path, 0o666)
+        self.assertEqual(read_checked(path), {})
+        os.chmod(path, 0o600)
+        os.symlink(path, self.path('link.json'))
+        self.assertEqual(read_checked(self.path('link.json')), {})
+
+    def test_a_folder_that_others_may_write_is_refused(self) -> None:
+        self.assertTrue(os.path.isdir(open_folder(self.path('new', 'cache'))))
+        os.mkdir(self.path('open'))
+        os.chmod(self.path('open'), 0o777)
+        with self.assertRaisesRegex(Refused, 'others may write it'):
+            open_folder(self.path('open'))
+
+    def test_what_gave_no_answer_or_was_not_confirmed_is_not_kept(self) -> None:
+        cache = OutcomeCache(self.folder, 'n')
+        for key, result in (('a', GOOD), ('b', BAD), ('c', NO_ANSWER), ('d', BAD)):
+            cache.add(key, Outcome(result, 'cause', 'output'))
+        cache.forget('d')
+        cache.save()
+        later = OutcomeCache(self.folder, 'n')
+        self.assertEqual(later.outcome('a'), Outcome(GOOD, 'cause', 'output'))
+        self.assertEqual(later.outcome('b'), Outcome(BAD, 'cause', 'output'))
+        self.assertEqual([later.outcome(key) for key in 'cd'], [None, None])
+
+    def test_the_source_of_a_compiled_module_is_looked_at(self) -> None:
+        os.mkdir(self.path('__pycache__'))
+        compiled = self.write('__pycache__/judge.cpython-311.pyc', '')
+        source = self.write('judge.py', '')
+        lines: List[str] = [
+            f'12 openat(AT_FDCWD, "{compiled}", O_RDONLY|O_CLOEXEC) = 3\n',
+            '12 openat(AT_FDCWD, "/nowhere", O_RDONLY) = -1 ENOENT (No such file or directory)\n',
+            '12 openat(AT_FDCWD, "config", O_RDONLY) = 3\n',
+            '13 execve("/bin/true", ["true", "a"], 0x7ffe /* 3 vars */) = 0\n',
+        ]
+        found = list(opened_paths(lines))
+        wanted = [source, '/nowhere', '/bin/true']
+        self.assertEqual(found, list(map(os.path.realpath, wanted)))
+
+
+class Keys(Listing):
+    def test_states_have_equal_keys_if_files_and_lines_are_equal(self) -> None:
+        planned = self.planned(CONFIG.read_text('utf-8'))
+        plan, lines = planned.plan, ['one', 'two', 'three']
+        keys = StateKeys(planned.trace, plan, lines)
+        found: Any = {}
+        for state in plan.states:
+            found.setdefault(keys.key(state.number, 0), set()).add((state.same, state.says))
+        self.assertEqual({len(one) for one in found.values()}, {1})
+        self.assertEqual(len(found), len({(one.same, one.says) for one in plan.states}))
+        others = StateKeys(planned.trace, plan, ['one', 'two', 'other'])
+        last = plan.states[-1].number if plan.states[-1].says == 3 else len(plan.operations)
+        self.assertNotEqual(keys.key(last, 0), others.key(last, 0))
+        self.assertNotEqual(keys.key(0, 0), keys.key(0, 1))
+
+
+@needs_strace
+class Checks(InFolder):
+    def setUp(self) -> None:
+        super().setUp()
+        self.write('recover.py', RECOVER, 0o755)
+        self.write('judge.py', JUDGE)
+        for name, path in (('RUNS', 'runs'), ('MODULES', '')):
+            os.environ[name] = self.path(path)
+            self.addCleanup(os.environ.pop, name)
+
+    def check(self, *words: str) -> Any:
+        """A check with the cache; returns also how often the recovery ran."""
+        self.write('runs', '')
+        ran = self.run_tool(
+            'crashfs-check', '--cache', 'cache', *words, str(CONFIG), '--', './recover.py'
+        )
+        return ran, len(self.read('runs'))
+
+    def environment(self, path: Any) -> Any:
+        more = {name: os.environ[name] for name in ('RUNS', 'MODULES') if name in os.environ}
+        return {**super().environment(path), **more}
+
+    def test_an_unchanged_store_is_not_tried_again(self) -> None:
+        first, count = self.check()
+        self.assertGreater(count, 28)
+        second, again = self.check()
+        self.assertEqual(again, 0)
+        self.assertEqual(second.returncode, first.returncode)
+        *lines, last = second.stdout.splitlines()
+        self.assertEqual(lines, first.stdout.splitlines())
+        self.assertRegex(last, r'^  \d+ outcomes from earlier checks \(--cache\)$')
+
+    def test_a_module_that_the_recovery_imports_counts(self) -> None:
+        first, _ = self.check()
+        self.assertEqual(first.returncode, 1)
+        self.write('judge.py', 'def judged():\n    return 0 # and it is longer\n')
+        second, count = self.check()
+        self.assertGreaterEqual(count, 28)
+        self.assertIn('none fails', second.stdout)
+        self.assertEqual(self.check()[1], 0)
+
+    def test_other_options_share_the_outcomes(self) -> None:
+        self.check()
+        self.assertEqual(self.check('--prefixes')[1], 0)
+
+    def test_it_goes_with_no_server(self) -> None:
+        words = '--serve', 'localhost:1', str(CONFIG), '--', 'true'
+        ran = self.run_tool('crashfs-check', '--cache', 'cache', *words)
+        self.assertEqual(ran.returncode, 2)
+
+
+if __name__ == '__main__':
+    unittest.main()
