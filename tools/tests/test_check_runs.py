@@ -206,8 +206,8 @@ class Stops(InCounted):
             ': 1 of the 5 tried fails: 1 status 1; 8 not tried (stopped by the first failure)\n',
             ran.stdout,
         )
-        # State 3 fails, and is run once more.
-        self.assertEqual(self.ran(), [11, 0, 1, 2, 3, 3])
+        # State 3 fails, and is run twice more.
+        self.assertEqual(self.ran(), [11, 0, 1, 2, 3, 3, 3])
         ran = self.check('--families', '--fail-fast', self.good, command=['true'])
         self.assertEqual(
             ran.stdout.partition(': ')[2],

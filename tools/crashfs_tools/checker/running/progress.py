@@ -4,7 +4,7 @@ from __future__ import annotations
 
 import sys
 import time
-from typing import Callable, TextIO
+from typing import Callable, Optional, TextIO
 
 from crashfs_tools.checker.options import NAME
 
@@ -20,12 +20,12 @@ class Progress:
     through all of them."""
 
     def __init__(
-        self, stream: TextIO = sys.stderr, clock: Callable[[], float] = time.monotonic
+        self, stream: Optional[TextIO] = sys.stderr, clock: Callable[[], float] = time.monotonic
     ) -> None:
         self.stream = stream
         self.clock = clock
         self.reported = clock()
-        self.terminal = stream.isatty()
+        self.terminal = stream is not None and stream.isatty()
         self.begin(0)
 
     def begin(self, total: int, part: str = '') -> None:
@@ -37,6 +37,8 @@ class Progress:
     def step(self, outcome: Outcome) -> None:
         self.tried += 1
         self.failed += outcome.result == BAD
+        if self.stream is None:
+            return
         if self.terminal and self.clock() - self.reported >= TERMINAL_SECONDS:
             self.reported = self.clock()
             print(f'\r{self.line()}\033[K', end='', file=self.stream, flush=True)
@@ -57,8 +59,8 @@ class Progress:
         if self.terminal and self.clock() - self.reported >= TERMINAL_SECONDS:
             self.reported = self.clock()
             text = f'disks: {done:,} of {total:,} moments'
-            print(f'\r{text}\033[K' if done < total else '\r\033[K', end='', file=self.stream)
-            self.stream.flush()
+            line = f'\r{text}\033[K' if done < total else '\r\033[K'
+            print(line, end='', file=self.stream, flush=True)
 
     def end(self) -> None:
         if self.terminal and self.tried:
