@@ -7,20 +7,22 @@ from pathlib import Path
 from typing import Dict, List, Optional
 
 from .completions import completions
-from .pages import PRINTED
+from .pages import PRINTED, page_with
+from .results import PAGE, results
 from .sources import TOP
 
 ABOUT = """\
-Writes what is made from the sources: tools/completions, from the options of the commands. With
---print it writes nothing, but prints the tests with what each shows, and the must-fail edits
-(tests), or the words of specs/ with what each says and the contracts that cite it (words).
+Writes what is made from the sources: tools/completions, from the options of the commands, and the
+tables of docs/RESULTS.md, from docs/results.json. With --print it writes nothing, but prints the
+tests with what each shows, and the must-fail edits (tests), or the words of specs/ with what each
+says and the contracts that cite it (words).
 
 Exit status 0, or 1 with --check if a file isn't as the sources are."""
 
 
 def made_files() -> Dict[Path, str]:
     """Each file that is made, with its text."""
-    return completions()
+    return {**completions(), PAGE: page_with(PAGE.read_text('utf-8'), results())}
 
 
 def older_files(made: Optional[Dict[Path, str]] = None) -> List[Path]:

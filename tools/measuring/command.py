@@ -5,7 +5,8 @@ What isn't built is named, and nothing is built here. `serve_bench` and the rows
 half of the processors each. For figures that count, nothing else may be at work on the machine.
 Status 0: no row is past its bound, and no program failed.
 
-`measure disks` is a command of its own: it compares crashes of real file systems with crash states.
+Two commands have options of their own: `measure disks` compares crashes of real file systems with
+crash states, and `measure stores` checks the sessions of examples/stores.
 """
 
 from __future__ import annotations
@@ -15,7 +16,7 @@ import sys
 from pathlib import Path
 from typing import Callable, Dict, List, Optional
 
-from . import disks
+from . import disks, stores
 from .memory import memory_rows
 from .programs import Programs, Tally
 from .serving import serving_rows
@@ -61,6 +62,8 @@ def main(given: Optional[List[str]] = None) -> int:
     given = sys.argv[1:] if given is None else given
     if given[:1] == ['disks']:
         return disks.main(given[1:])
+    if given[:1] == ['stores']:
+        return stores.main(given[1:])
     words = words_of(given)
     programs = Programs(words.top)
     known = [*programs.benchmarks(), 'memory', 'states']

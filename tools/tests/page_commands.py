@@ -41,6 +41,11 @@ NOT_RUN = {
     },
     'docs/DISKS.md': {
         'sudo tools/measure disks': 'it needs root and hours; test_measure_disks.py runs its parts',
+        'truncate -s 120M image': 'it needs root and btrfs, and shows what one kernel did',
+        'printf xxxxx': 'the same',
+        'truncate -s 0 disk': 'the same',
+        'cp --sparse=always image': 'the same',
+        'cat disk/d/b': 'the same',
     },
     'docs/how-to/ci.md': {
         'parallel crashfs-check': 'it needs GNU parallel; the parts are run as those of Slurm',

@@ -10,6 +10,8 @@ from html import unescape
 from pathlib import Path
 from typing import Dict, List, Tuple
 
+from measuring.store_rows import ResultsFile
+
 from .support import EXAMPLES, PATIENCE, TOOLS, InFolder, needs_strace
 
 TOP = TOOLS.parent
@@ -26,10 +28,10 @@ STAND_INS = {
     'my-recovery': f'exec {EXAMPLES}/tutorial/check.py {EXAMPLES}/tutorial/kv.py 0 {PUTS}',
 }
 STORES = {
-    'LevelDB': 'LevelDB, `sync`',
-    'bbolt': 'the same, and the file is made by it',
-    'Redis': 'Redis, `appendfsync always`, in a directory that is there',
-    'LMDB': 'LMDB',
+    'LevelDB': 'leveldb/puts',
+    'bbolt': 'bbolt/new',
+    'Redis': 'redis/aof',
+    'LMDB': 'lmdb/rows',
 }
 IMAGE = re.compile(r'!\[([^]]*)\]\(([^)]*)\)')
 
@@ -111,14 +113,13 @@ class Figures(unittest.TestCase):
         self.assertLessEqual(len(README.splitlines()), MOST_LINES)
 
     def test_the_figures_of_stores_are_those_of_their_table(self) -> None:
-        rows, text = rows_of('RESULTS.md'), ' '.join(README.split())
-        for store, row in STORES.items():
-            states, fail = rows[row][1], rows[row][3].partition(':')[0]
+        rows = {one['key']: one for one in ResultsFile().rows()}
+        text = ' '.join(README.split())
+        for store, key in STORES.items():
+            states, fail = str(rows[key]['tried']), str(rows[key]['failing'] or 'none')
             found = re.search(rf'{store}\b[^,;]*? in (none|\d+) of (\d+)', text)
             self.assertIsNotNone(found, store)
-            self.assertEqual(
-                found and found.groups(), (fail.replace('0', 'none', fail == '0'), states), store
-            )
+            self.assertEqual(found and found.groups(), (fail, states), store)
 
     def test_the_figures_of_sqlite_are_those_of_its_reports(self) -> None:
         extra = (EXAMPLES / 'sqlite' / 'extra.report').read_text()

@@ -1,0 +1,14 @@
+#!/bin/sh
+# A commit, in a repository that has one: as Git is by default, or with core.fsync=all.
+. "$(dirname "$0")/../recording.sh"
+export GIT_CONFIG_GLOBAL=/dev/null GIT_AUTHOR_DATE='1700000000 +0000' \
+    GIT_COMMITTER_DATE='1700000000 +0000' GIT_AUTHOR_NAME=me GIT_AUTHOR_EMAIL=me@example.com \
+    GIT_COMMITTER_NAME=me GIT_COMMITTER_EMAIL=me@example.com
+git init -q --template= -b main .
+git config gc.auto 0
+[ "$session" = default ] || git config core.fsync all
+echo zero >file
+git add file
+git commit -q -m zero
+record --ignore /file . "$out" -- sh -c \
+    'echo one >file && git add file && git commit -q -m one && echo "one is committed"'
