@@ -28,6 +28,10 @@ from crashfs_tools.recorder.translate import Translator
 
 TOOLS = Path(__file__).resolve().parents[1]
 EXAMPLES = TOOLS.parent / 'examples'
+# Those of real stores have version 4 and thousands of states: test_results looks at them.
+EXAMPLE_TRACES = sorted(
+    path for path in EXAMPLES.glob('**/*.trace') if path.parent.parent.name != 'stores'
+)
 FAKE = str(TOOLS / 'crashfs_tools' / 'reading' / '__main__.py')
 # First on PATH, so that scripts are run by the Python that runs the tests.
 PYTHON_FOLDER = os.path.dirname(sys.executable)

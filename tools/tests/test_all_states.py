@@ -16,7 +16,7 @@ from crashfs_tools.reading.every import every_set
 from crashfs_tools.reading.order import Order
 
 from .random_traces import RandomTrace
-from .support import EXAMPLES, FAKE, TOOLS, InFolder
+from .support import EXAMPLE_TRACES, EXAMPLES, FAKE, TOOLS, InFolder
 from .test_windows import HEADER, Reader, creat, said, sync, write
 
 OPTIONS = {'prefixes': False, 'has_lost': True, 'has_files': True, 'serve': None}
@@ -25,8 +25,8 @@ TREES = Dict[int, Any]
 
 def trace_texts() -> List[Tuple[str, str]]:
     """Traces of the examples, and random ones of each version, of not too many sets."""
-    paths = [path for path in EXAMPLES.glob('**/*.trace') if path.parent.name != 'sqlite']
-    found = [(path.name, path.read_text('utf-8')) for path in sorted(paths)]
+    paths = [path for path in EXAMPLE_TRACES if path.parent.name != 'sqlite']
+    found = [(path.name, path.read_text('utf-8')) for path in paths]
     for version in (1, 2, 3):
         for seed in range(40, 48):
             text = RandomTrace(version, seed).text()

@@ -9,7 +9,7 @@ from crashfs_tools.reading.listing import listing
 from crashfs_tools.reading.picking import lines_of
 
 from .random_traces import RandomTrace
-from .support import EXAMPLES, InFolder, needed
+from .support import EXAMPLE_TRACES, InFolder, needed
 
 ROW_43 = Path(__file__).with_name('data') / 'version-3' / 'row43.trace'
 TRACES = 300
@@ -80,7 +80,7 @@ class BesideTheProgram(InFolder):
     @needed(program_of(3) is not None, 'a crashfs that takes traces of version 3 is not there')
     def test_the_sets_that_differ_in_the_examples(self):
         words = ['picks', '--every', '--different']
-        for path in sorted(EXAMPLES.glob('**/*.trace')):
+        for path in EXAMPLE_TRACES:
             with self.subTest(trace=path.name):
                 wanted = read_of(words, path.read_text('utf-8'))
                 self.assertEqual(self.printed(program_of(3), words, str(path)), wanted)

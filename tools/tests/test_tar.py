@@ -11,11 +11,10 @@ from crashfs_tools.common.program import Crashfs
 from crashfs_tools.reading import plan_of, read
 from crashfs_tools.recorder.directory import scan
 
-from .support import EXAMPLES, FAKE, InFolder, needed
+from .support import EXAMPLE_TRACES, EXAMPLES, FAKE, InFolder, needed
 
 # As `tar -tv` prints an entry: its kind, mode, owner, group, size, time and name.
 ENTRY = re.compile(r'([d-])([rwx-]{9}) (\S+)/(\S+) +(\d+) 1970-01-01 00:00:00 (.*)')
-EXAMPLE_TRACES = sorted(EXAMPLES.glob('**/*.trace'))
 LONG = 'n' * limits.NAME_BYTES
 HEADER = '{"trace":1,"owner":"cat","group":"staff","mode":"775"}\n'
 RIGHTS = '"owner":"ann","group":"staff","mode":"640"'

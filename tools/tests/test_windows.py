@@ -22,7 +22,7 @@ from crashfs_tools.reading.main import read_options
 from crashfs_tools.reading.plan import different, file_sets, lost_sets, read_picks
 
 from .random_traces import RandomTrace
-from .support import EXAMPLES, FAKE
+from .support import EXAMPLE_TRACES, EXAMPLES, FAKE
 from .test_check_command import InStore
 
 RIGHTS = '"owner":"u","group":"u","mode":"644"'
@@ -118,7 +118,7 @@ class Tried(InWindows):
     """What is tried of each session, beside the plan of the whole."""
 
     def sessions(self):
-        for path in sorted(EXAMPLES.glob('**/*.trace')):
+        for path in EXAMPLE_TRACES:
             if path.parent.name != 'sqlite':
                 yield path.name, path.read_text(encoding='utf-8')
         for version in (1, 2, 3):
