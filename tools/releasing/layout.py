@@ -57,8 +57,9 @@ def tools() -> Items:
 
 
 def documents() -> Items:
-    """Pages, pictures and examples, in the same folders as here, so that links to them work."""
-    paths = [*TOP_PAGES, *tracked('docs/*.md'), *tracked('docs/images'), *tracked('examples')]
+    """Pages, pictures, data and examples, in the same folders as here, so that links to them work."""
+    data = [*tracked('docs/images'), *tracked('docs/results.json'), *tracked('examples')]
+    paths = [*TOP_PAGES, *tracked('docs/*.md'), *data]
     return {f'{DOCUMENTS}/{path}': file_of(path) for path in paths}
 
 
