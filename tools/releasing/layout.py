@@ -57,7 +57,7 @@ def tools() -> Items:
 
 
 def documents() -> Items:
-    """Pages, pictures, data and examples, in the same folders as here, so that links to them work."""
+    """Pages, pictures, data and examples, in the same folders as here: links to them work."""
     data = [*tracked('docs/images'), *tracked('docs/results.json'), *tracked('examples')]
     paths = [*TOP_PAGES, *tracked('docs/*.md'), *data]
     return {f'{DOCUMENTS}/{path}': file_of(path) for path in paths}
