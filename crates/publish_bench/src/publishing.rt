@@ -2,7 +2,7 @@
 ghost use Rattle.std.specs.Arc.{arc_value};
 ghost use Rattle.std.specs.Prelude.{List};
 ghost use Rattle.cs_shared_runs.specs.Serving.{IsOnly, ServesAll};
-ghost use Rattle.cs_users.specs.Rows.{Row};
+ghost use Rattle.cs_users.specs.Rows.{Row as UserRow};
 
 use cs_bench::{Row, Total};
 use cs_plan::Scene;
@@ -28,7 +28,7 @@ fn published<S: ServerBrand, R: Threads + Wait + Sync>(
     requires here { S.is_scene (arc_value scene) }
     requires only { IsOnly S.is_scene (arc_value scene) }
     requires serves { ServesAll S.serves S.loads (arc_value scene) }
-    requires loads { (users : List Row) → S.loads users }
+    requires loads { (users : List UserRow) → S.loads users }
 {
     let users = Users::read(alloc, b"1:ann::\n").ok()?;
     let users = Arc::new(alloc, users).ok()?;
@@ -51,7 +51,7 @@ fn time_scene<S: ServerBrand, R: Threads + Wait + Sync + Clock>(
     requires here { S.is_scene (arc_value scene) }
     requires only { IsOnly S.is_scene (arc_value scene) }
     requires serves { ServesAll S.serves S.loads (arc_value scene) }
-    requires loads { (users : List Row) → S.loads users }
+    requires loads { (users : List UserRow) → S.loads users }
 {
     let states = scene.plan().len() as u64;
     let start = Instant::now(rt)?;
