@@ -29,7 +29,7 @@ QUICK = (
     'rooms',
     'translate',
     'untranslated',
-    'voices',
+    'output_streams',
 )
 
 
@@ -64,6 +64,7 @@ def has_passed(result: unittest.TestResult, needs_program: bool) -> bool:
 
 
 def main(words: Optional[List[str]] = None) -> int:
+    """Runs the tests as the words, or the command line, ask for; returns 0 if they have passed."""
     parser = argparse.ArgumentParser(prog='gating.suite', description=__doc__)
     parser.add_argument('--program', action='store_true', help='crashfs is built')
     parser.add_argument('--quick', action='store_true', help='run a few modules only')

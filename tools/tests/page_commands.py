@@ -15,7 +15,7 @@ BLOCK = re.compile(r'(?<=\n\n)(?:    .*\n|\n+(?=    ))+')
 FENCE = re.compile(r'^```.*?^```$', re.M | re.S)
 FIRST_WORD = re.compile(
     r'(?:\$ )?(?:tools/[\w-]+|crashfs[\w-]*|rt|apt-get|array=\S+|cd|\(cd|git|ls|man|mkdir|mount|'
-    r'parallel|PATH=\S+|pip|pipx|python3|rm|sbatch|sleep|sqlite3|strace|sudo|tar|truncate|'
+    r'PATH=\S+|pip|pipx|python3|rm|sbatch|sleep|sqlite3|strace|sudo|tar|truncate|'
     r'/usr/bin/time|#!/bin/sh)'
     r'(?=\s|$)'
 )
@@ -33,22 +33,18 @@ NOT_RUN = {
     'docs/CONTRIBUTING.md': {
         'python3 -m unittest': 'they run tests, these too',
         '(cd crates/crashfs && rt try': 'it needs the toolchain; the gate builds the program',
-        'apt-get install ./crashfs_': 'there is no release; test_release.py makes its archives',
-        'cd /usr/share/doc/crashfs': 'the same',
-        'tar -xzf crashfs-': 'the same',
-        'PATH="$PWD/crashfs-': 'the same',
-        'cd crashfs-': 'the same',
     },
     'docs/DISKS.md': {
         'sudo tools/measure disks': 'it needs root and hours; test_measure_disks.py runs its parts',
         'truncate -s 120M image': 'it needs root and btrfs, and shows what one kernel did',
-        'printf xxxxx': 'the same',
+        'printf': 'the same',
         'truncate -s 0 disk': 'the same',
+        'touch disk/other': 'the same',
         'cp --sparse=always image': 'the same',
-        'cat disk/d/b': 'the same',
+        'cat disk/': 'the same',
     },
     'docs/how-to/ci.md': {
-        'parallel crashfs-check': 'it needs GNU parallel; the parts are run as those of Slurm',
+        'crashfs-campaign --time-limit 3600': 'it takes an hour; test_examples.py has two sessions',
         'array=$(sbatch': 'it needs Slurm; the parts are run here, one after the other',
         'sbatch --dependency': 'the same',
     },

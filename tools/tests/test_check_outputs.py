@@ -13,7 +13,7 @@ from crashfs_tools.checker.states.layout import lay_out
 from crashfs_tools.checker.states.rewriting import rewrite
 from crashfs_tools.common.command import Refused, write_whole
 from crashfs_tools.common.entry import Entry
-from crashfs_tools.recorder.log_stream import open_log
+from crashfs_tools.recorder.log_stream import create_log
 
 from .support import EXAMPLES, InFolder
 from .test_check_command import InStore
@@ -86,7 +86,7 @@ class Outputs(InStore):
             with self.assertRaisesRegex(OSError, 'another user made it'):
                 write_whole(path, ['x'])
             with self.assertRaisesRegex(OSError, 'another user made it'):
-                open_log(path)
+                create_log(path)
         os.chown(self.path('shared', 'link'), 0, 0, follow_symlinks=False)
         write_whole(self.path('shared', 'link'), ['mine'])
         self.assertEqual(self.read('victim'), 'mine')

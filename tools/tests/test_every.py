@@ -10,7 +10,8 @@ from typing import Dict, List, Tuple
 from crashfs_tools.reading import StateList, ReadingFault, Reading, plan_of, read
 from crashfs_tools.reading.classes import Classes
 from crashfs_tools.reading.every import count_sets, every_set, sample
-from crashfs_tools.reading.order import Order, bits
+from crashfs_tools.reading.order import Order
+from crashfs_tools.reading.place_sets import places_of
 
 from .random_traces import RandomTrace
 from .support import EXAMPLES
@@ -66,7 +67,7 @@ def every(lines: List[str]) -> List[str]:
 
 
 def text_of(places: int) -> str:
-    return json.dumps(list(bits(places)), separators=(',', ':'))
+    return json.dumps(list(places_of(places)), separators=(',', ':'))
 
 
 def count(lines: List[str]) -> int:

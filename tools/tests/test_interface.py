@@ -134,6 +134,16 @@ class Checks(InterfaceCase):
         self.assertEqual(report.status, 3)
         self.assertEqual(report.entries[0].cause, 'it had not ended after 5 seconds')
 
+    def test_what_a_function_starts_can_be_ended_by_the_guard(self) -> None:
+        outer = os.environ.get('CRASHFS_GUARD')
+
+        def recovery_with_token(folder: str, lines: List[str]) -> None:
+            assert os.environ['CRASHFS_GUARD'] != outer, 'the token of the check is missing'
+
+        trace = str(EXAMPLES / 'config' / 'config.trace')
+        report = check(trace, recovery_with_token, unproved=True, prefixes=True)
+        self.assertEqual(report.entries, [])
+
     def test_children_of_the_caller_are_left_alone(self) -> None:
         child = os.spawnlp(os.P_NOWAIT, 'sleep', 'sleep', '600')
         try:

@@ -5,7 +5,7 @@ import tempfile
 import unittest
 
 from inventory.command import older_files
-from inventory.pages import BEGIN, END, calls_shown, cell, page_with
+from inventory.pages import BEGIN, END, calls_shown, page_with, table_cell
 from inventory.sources import Word, contracts_in, examples_in, words_in
 
 TESTS = '''\
@@ -97,7 +97,7 @@ class Inventories(unittest.TestCase):
         self.assertNotIn('IsKnown', found['List::sort'])
 
     def test_a_bar_and_many_calls_stay_in_their_cell(self):
-        self.assertEqual(cell('a || b'), 'a \\|\\| b')
+        self.assertEqual(table_cell('a || b'), 'a \\|\\| b')
         self.assertEqual(calls_shown(list('abcdef')), '`a`, `b`, `c`, `d` and 2 more')
 
     def test_a_part_is_put_between_its_marks_alone(self):

@@ -59,7 +59,7 @@ class Searched(unittest.TestCase):
         whole = (1 << len(plan.operations)) - 1
 
         def fails(kept):
-            self.assertTrue(plan.needs.allow(kept))
+            self.assertTrue(plan.needs.is_allowed(kept))
             return not kept >> 2 & 1
 
         loss, _ = searched(plan, whole & ~0b1100, fails)
@@ -127,7 +127,7 @@ class Guesses(InStore):
             """Answers from the trees in the place of COMMAND."""
 
             def try_sets(self, sets):
-                says = findings.plan.says
+                says = findings.plan.say_places
                 for kept in sets:
                     files = set(trees.tree(kept))
                     found = cause(files, bin(kept & says).count('1'))
@@ -135,7 +135,7 @@ class Guesses(InStore):
                     runs.append(kept)
 
         states = [group.example for group in guesses]
-        findings.take_losses(Trees(None, None, findings).run(states))
+        findings.add_losses(Trees(None, None, findings).run(states))
         self.assertFalse([group for group in findings.groups if group.pair.is_guess])
         self.assertLess(len(runs), 12 * len(states))
         for group in findings.groups:

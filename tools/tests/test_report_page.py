@@ -14,7 +14,6 @@ from crashfs_tools.checker.report.page import page
 from crashfs_tools.checker.report.json_report import json_pieces
 from crashfs_tools.checker.report.text import ReportText
 from crashfs_tools.checker.running.runner import BAD, GOOD, NO_ANSWER, Outcome
-from crashfs_tools.checker.states.plan import Trial
 from crashfs_tools.common.entry import Entry
 from crashfs_tools.common.trace_lines import TraceLine
 
@@ -77,8 +76,8 @@ class Pages(unittest.TestCase):
         found = map(findings.by_state.get, (one.number for one in drawn))
         failing = sum(one is not None and one.result == BAD for one in found)
         self.assertEqual(signs.count('b'), failing)
-        trials = {Trial(one.same, one.says) for one in drawn}
-        others = {Trial(one.same, one.says) for one in findings.plan.states} - trials
+        trials = {one.trial for one in drawn}
+        others = {one.trial for one in findings.plan.states} - trials
         self.assertEqual(len(data['picks']), len(others))
         self.assertEqual(
             sorted(lacks for *_, lacks in data['picks']), [it[2] for it in data['picks']]

@@ -55,48 +55,27 @@ def check(
 
     The options are those of crashfs-check. time_limit needs the main thread. Refused is raised for
     bad input, and if the recovery fails though nothing is lost."""
-    options = options_of_states(trace, every, families, prefixes, quick, profile, crashfs, unproved)
-    options.jobs = jobs or processors()
-    options.nested, options.fail_fast = nested, fail_fast
+    options = Options(os.fspath(trace), every=every, families=families, prefixes=prefixes)
+    options.quick, options.profile = quick, profile
+    options.crashfs, options.unproved = path_of(crashfs), unproved
+    options.jobs, options.nested, options.fail_fast = jobs or processors(), nested, fail_fast
     options.time_limit, options.timeout = time_limit, timeout
     options.accept, options.cache = path_of(accept), path_of(cache)
     set_recovery(options, recovery)
-    with Guard(f'{NAME}-', is_reaper=False) as guard:
+    with Guard(NAME, may_reap=False) as guard:
         checked = run_check(options, guard, Progress(io.StringIO()), has_states=True)
     if checked.end is not None:
         raise checked.end.__cause__ or checked.end
     return checked.report
 
 
-def options_of_states(
-    trace: PathLike,
-    every: Optional[int],
-    families: bool,
-    prefixes: bool,
-    quick: bool,
-    profile: Optional[str],
-    crashfs: Optional[PathLike],
-    unproved: bool,
-) -> Options:
-    """The options that say which states there are, and who computes them."""
-    return Options(
-        trace=os.fspath(trace),
-        every=every,
-        families=families,
-        prefixes=prefixes,
-        quick=quick,
-        profile=profile,
-        crashfs=path_of(crashfs),
-        unproved=unproved,
-    )
-
-
 def path_of(path: Optional[PathLike]) -> Optional[str]:
+    """A path as text; None if there is none."""
     return None if path is None else os.fspath(path)
 
 
 def set_recovery(options: Options, recovery: Union[RecoveryOf, Sequence[str]]) -> None:
-    """Sets the options' command or function."""
+    """Sets the options' command, or function. Refused if other options need a command."""
     if isinstance(recovery, Sequence):
         options.command = [recovery] if isinstance(recovery, str) else list(recovery)
         return
@@ -107,6 +86,7 @@ def set_recovery(options: Options, recovery: Union[RecoveryOf, Sequence[str]]) -
 
     @functools.wraps(function)
     def call(directory: str, lines: List[str]) -> object:
+        """The function, with its directory as a Path."""
         return function(Path(directory), lines)
 
     options.function = call

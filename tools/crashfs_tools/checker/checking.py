@@ -38,11 +38,11 @@ ANOTHER = '--resume: that is a report of another check'
 
 
 class Interrupted(Exception):
-    """A fault that came when states were tried already: the report has these."""
+    """A fault, its cause, that came when states were tried already: the report has these."""
 
 
 class CheckResult(NamedTuple):
-    """The report, what a file of it may be readable for, and what ended the check early."""
+    """The report, the mode of a file of it, and what ended the check early, if anything did."""
 
     report: CheckReport
     mode: int
@@ -50,14 +50,21 @@ class CheckResult(NamedTuple):
 
 
 class Window(NamedTuple):
-    """One part of a session, or the whole: its plan, and what came of its states."""
+    """One part of a session, or the whole: where its states are tried, and what came of them."""
 
-    planned: Planned
+    trials: Trials
     findings: Findings
+
+    @property
+    def planned(self) -> Planned:
+        """Its plan."""
+        return self.trials.planned
 
 
 class Check:
-    """A check of one trace. run() goes through its windows; `last` is the one that it is at."""
+    """A check of one trace. run() goes through its windows; `last` is the one that it is at, None
+    before the first, and is_over says whether the last one was tried whole. has_states says whether
+    the report has the outcome of each state."""
 
     def __init__(self, trace: CheckedTrace, has_states: bool = False) -> None:
         self.trace = trace
@@ -68,9 +75,12 @@ class Check:
         self.earlier = self.read_earlier()
         self.last: Optional[Window] = None
         self.is_over = False
+        # What ended the check early, also if all states had been tried.
+        self.end_cause = ''
 
     def read_earlier(self) -> Optional[AllResults]:
-        """The results of --resume; Refused if they are of another check."""
+        """The results of --resume; None if there are none yet. Refused if they are of another
+        check."""
         path = self.options.resume
         if path is None or not os.path.exists(path):
             return None
@@ -105,23 +115,34 @@ class Check:
         return CheckResult(self.report, self.trace.mode, end)
 
     def note_end(self, cause: str) -> None:
-        """Notes what ended the check, if it wasn't over."""
+        """Notes what ended the check; the report says so if not all states were tried."""
+        self.end_cause = self.end_cause or cause
         if not self.is_over:
             self.head.stopped = self.head.stopped or cause
 
     def complete_report(self) -> None:
-        """Adds what is only known at the end, however it came."""
+        """Adds to the report what is only known at the end, however it came."""
         self.head.has_rest = self.last is not None and not self.last.planned.is_last
         if self.trace.windows is not None:
             self.head.cut_off = [(one.line, one.tried) for one in self.trace.windows.cut_off]
         if self.head.stopped == TIME_LIMIT and self.last is not None:
             self.rerun_examples(self.last, RERUN_SECONDS)
+        self.report.not_done = list(self.options_not_done())
         self.save_cache()
 
+    def options_not_done(self) -> Iterator[str]:
+        """What was asked for besides the states and not done, each with the reason."""
+        why = f'stopped by {self.end_cause}' if self.end_cause else 'only a part of the states is'
+        if self.options.nested and self.end_cause and self.nested.left:
+            yield f'--nested: {self.nested.left:,} of {self.options.nested:,} not tried ({why})'
+        if self.options.disks is not None and self.report.sightings is None:
+            yield f'--disks: not tried ({why})'
+
     def check_windows(self) -> None:
-        """Checks each window, up to one that was not tried whole."""
+        """Checks each window, up to one that was not tried whole or, with --fail-fast, that has a
+        failure."""
         for planned in self.trace.all_planned():
-            trials = self.trace.trials(planned)
+            trials = self.trace.trials(planned, keeps_trees=True)
             is_whole = self.try_window(trials)
             assert self.last is not None
             window = self.last
@@ -146,14 +167,14 @@ class Check:
             FirstTrials(trials, results, self.trace.end()).run()
         saver = Saver(lambda: self.save(results), SAVE_SECONDS)
         try:
-            return trials.run(results, saver.save_if_due)
+            return trials.try_all(results, saver.save_if_due)
         finally:
             known_outcomes = before.findings.by_state if before else {}
-            self.last = Window(planned, Findings(self.head, results, known_outcomes))
+            self.last = Window(trials, Findings(self.head, results, known_outcomes))
             self.report.add(self.last.findings)
 
     def open_cache(self, trials: Trials) -> None:
-        """Opens the outcomes of earlier checks, if they are asked for."""
+        """Opens the outcomes of earlier checks, if they are asked for by --cache."""
         if self.options.cache is None:
             return
         from crashfs_tools.checker.running.cache import OutcomeCache, open_folder
@@ -166,7 +187,8 @@ class Check:
         trials.workplace.cache = OutcomeCache(folder, name)
 
     def save_cache(self) -> None:
-        """Writes the outcomes for later checks. If that fails, they are only slower."""
+        """Writes the outcomes for later checks, if --cache is given. If that fails, a line says so:
+        the later checks are only slower."""
         cache = self.trace.workplace.cache if self.last is not None else None
         if cache is not None:
             self.report.cached = cache.hits
@@ -176,16 +198,18 @@ class Check:
                 print_line(NAME, f'--cache {error.filename}: {error.strerror}')
 
     def take_earlier(self, results: Results) -> None:
-        """Takes the outcomes that --resume has of a window; Refused if it is another one there."""
+        """Adds to the results of a window the outcomes that --resume has of it; Refused if it is
+        another one there."""
         place = self.report.counts.windows
         if self.earlier is None or place >= len(self.earlier.windows):
             return
         if self.earlier.windows[place].identity() != results.identity():
             raise Refused(ANOTHER)
-        results.take(self.earlier.windows[place])
+        results.take_earlier(self.earlier.windows[place])
 
     def save(self, results: Results) -> None:
-        """Writes the JSON as it would be if the check was killed now."""
+        """Writes the file of --json, if there is one, as it would be if the check was killed
+        now."""
         if self.options.json not in (None, '-'):
             from crashfs_tools.checker.report.json_report import partial_pieces
 
@@ -202,7 +226,7 @@ class Check:
         return self.head.shard.parts > 1 or self.options.serve is not None
 
     def find_losses(self, trials: Trials, findings: Findings) -> None:
-        """Finds which of their losses makes states fail that lack several things."""
+        """Finds for states that lack several things which loss makes them fail."""
         if self.is_part or not any(one.pair.is_guess for one in findings.groups):
             return
         from crashfs_tools.checker.findings.losses import find_losses
@@ -211,21 +235,23 @@ class Check:
         self.report.replace_last(findings)
 
     def rerun_examples(self, window: Window, seconds: float = float('inf')) -> None:
-        """Runs each entry's example of a window again, with nothing else running."""
+        """Runs the example of each entry of a window again, with nothing else running; begins none
+        after so many seconds."""
         if window.findings.groups:
             from crashfs_tools.checker.findings.reruns import rerun_examples
 
-            rerun_examples(self.trace.trials(window.planned), window.findings, seconds)
+            rerun_examples(window.trials, window.findings, seconds)
             self.report.replace_last(window.findings)
 
     def add_details(self, trials: Trials, findings: Findings) -> None:
-        """Adds differences and advice, second crashes and disks; not for a part of the states."""
+        """Adds differences and advice, second crashes and disks; nothing if the states are only a
+        part."""
         if self.is_part:
             return
         if findings.groups:
             from crashfs_tools.checker.findings.advice_trials import add_details
 
-            add_details(trials, self.trace.planner, findings)
+            add_details(trials, self.trace.planner.for_copies(trials.plan), findings)
             self.report.replace_last(findings)
         if self.options.nested:
             self.report.recoveries += self.nested.run(trials, findings)
@@ -236,7 +262,7 @@ class Check:
 
     @cached_property
     def nested(self) -> Nested:
-        """One for all windows: it counts the recoveries that it has tried."""
+        """What tries recoveries: one for all windows, since it counts those that it has tried."""
         from crashfs_tools.checker.findings.nested import Nested
 
         return Nested(self.options.nested)
@@ -244,8 +270,8 @@ class Check:
 
 @contextmanager
 def open_trace(options: Options, guard: Guard, progress: Progress) -> Iterator[CheckedTrace]:
-    """The trace of some options, with COMMAND's whole path. Refused if something of it can't be
-    read or run; within this, what the program refuses is Refused too."""
+    """The trace of some options, to which COMMAND's whole path is written. Refused if something of
+    them can't be read or run; within this, what the program refuses is Refused too."""
     refuse_unreadable(options.trace or '')
     if options.disks is not None:
         from crashfs_tools.disks.filesystems import require_filesystems
@@ -260,7 +286,7 @@ def open_trace(options: Options, guard: Guard, progress: Progress) -> Iterator[C
     try:
         yield trace
     except ProgramFault as fault:
-        raise trace.planner.refused('tar', fault) from fault
+        raise trace.planner.refusal_of('tar', fault) from fault
 
 
 def refuse_unreadable(trace: str) -> None:

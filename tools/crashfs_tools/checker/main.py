@@ -35,12 +35,13 @@ BAD_INPUT = 2
 
 
 def run_command(options: Options) -> int:
-    """Does what the options ask for, and returns the status."""
+    """Does what the options ask for, and returns the exit status. A stop is raised after the report
+    is written."""
     refuse_outputs(options)
     if options.merge is not None:
-        return finish(options, merged(options))
+        return finish(options, merge_reports(options))
     keep_descriptors()
-    with Guard(f'{NAME}-') as guard:
+    with Guard(NAME) as guard:
         if options.state is not None:
             from .show_state import show_state
 
@@ -52,8 +53,8 @@ def run_command(options: Options) -> int:
     return status
 
 
-def merged(options: Options) -> Report:
-    """The report of --merge."""
+def merge_reports(options: Options) -> Report:
+    """The report of --merge. Refused if the files aren't shards of one check."""
     from .merging import merged_report
 
     if options.trace is not None:
@@ -73,19 +74,20 @@ def refuse_outputs(options: Options) -> None:
 
 
 def outputs_of(options: Options) -> Dict[str, str]:
-    """The files that are written, by their options."""
+    """The paths of the files that are written, by their options."""
     outputs = {'--json': options.json, '--junit': options.junit, '--html': options.html}
     return {name: path for name, path in outputs.items() if path is not None}
 
 
 def mode_of_reports(paths: List[str]) -> int:
-    """Who may read a report of others: those who may read them all."""
+    """The mode of a report of other reports: who may read them all may read it."""
     return reduce(and_, (0o600 | os.stat(path).st_mode & 0o066 for path in paths))
 
 
 def finish(options: Options, report: Report) -> int:
-    """Writes the files and then prints the report; it prints it also if a file can't be written. If
-    standard output has a file, the report goes to standard error."""
+    """Writes the files and then prints the report; it prints it also if a file can't be written,
+    and then raises the OSError. If standard output has a file, the report goes to standard error.
+    Returns the exit status."""
     fault = None
     try:
         write_files(options, report)
@@ -102,6 +104,7 @@ def finish(options: Options, report: Report) -> int:
 
 
 def write_files(options: Options, report: Report) -> None:
+    """Writes the files that the options name."""
     if options.json is not None:
         report.write_json(options.json)
     if options.junit is not None:
@@ -111,7 +114,8 @@ def write_files(options: Options, report: Report) -> None:
 
 
 def run_reported(arguments: List[str]) -> int:
-    """Runs the command. A fault that somebody else can mend is in a line that names it."""
+    """Runs the command, and returns the exit status. A fault that the user can mend is a line that
+    names it; any other is raised."""
     options = read_options(arguments)
     stop_by_exception()
     try:
@@ -142,6 +146,7 @@ def print_fault(fault: Optional[BaseException]) -> None:
 
 
 def main(arguments: Optional[List[str]] = None) -> int:
+    """The command, with the arguments of this process or others; returns the exit status."""
     words = sys.argv[1:] if arguments is None else arguments
     print_utf8()
     return run_guarded(NAME, lambda: run_reported(words), NOT_ALL_TRIED)

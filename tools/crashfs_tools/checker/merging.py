@@ -8,7 +8,7 @@ from crashfs_tools.checker.findings.groups import Findings
 from crashfs_tools.checker.findings.accepted_failures import AcceptedFailures
 from crashfs_tools.checker.findings.tree_diff import find_differences
 from crashfs_tools.checker.report.report import CheckReport
-from crashfs_tools.checker.running.results import AllResults, Head, Results, merged
+from crashfs_tools.checker.running.results import AllResults, Head, Results, merged_shards
 from crashfs_tools.checker.running.read_results import read_json
 from crashfs_tools.checker.running.runner import Outcome
 from crashfs_tools.common.command import Refused
@@ -25,18 +25,19 @@ OTHER_PLAN = (
 
 
 def new_report(head: Head, options: Options) -> CheckReport:
-    """A report without findings, with the known failures of --accept."""
-    known = AcceptedFailures.read(options.accept) if options.accept else None
-    return CheckReport(head, options.json is not None, options.html is not None, known)
+    """A report without findings, with the failures of --accept. Refused if they can't be read."""
+    accepted = AcceptedFailures.read(options.accept) if options.accept else None
+    return CheckReport(head, options.json is not None, options.html is not None, accepted)
 
 
 def merged_report(options: Options) -> CheckReport:
-    """The report; how files differ is in it if the trace is given, of which trees are made."""
-    results = merged([read_json(path) for path in options.merge or []])
+    """The report of the files of --merge; how files differ is in it if the trace is given, of which
+    trees are made. Refused if they are not all shards of one check, or not of the trace."""
+    results = merged_shards([read_json(path) for path in options.merge or []])
     if options.trace is None:
         return report_of(options, results)
     program = Crashfs.find_or_read(options.crashfs, options.unproved)
-    with Guard(f'{NAME}-') as guard:
+    with Guard(NAME) as guard:
         trace = CheckedTrace(options, program, guard)
         if trace.head().digest != results.head.digest:
             raise Refused(f'{options.trace}: {OTHER_TRACE}')
@@ -46,6 +47,7 @@ def merged_report(options: Options) -> CheckReport:
 def report_of(
     options: Options, results: AllResults, trace: Optional[CheckedTrace] = None
 ) -> CheckReport:
+    """The report of results. Refused if the trace has other states than they."""
     report = new_report(results.head, options)
     outcomes: Dict[int, Outcome] = {}
     planned = trace.all_planned() if trace else None

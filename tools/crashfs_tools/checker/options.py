@@ -28,19 +28,21 @@ def processors() -> int:
 
 
 class Shard(NamedTuple):
-    """One of so many parts, from 1."""
+    """One of so many parts of the states; parts are counted from 1."""
 
     part: int = 1
     parts: int = 1
 
     def has(self, place: int) -> bool:
+        """Whether the state at a place of the list of all, from 0, is of this part."""
         return place % self.parts == self.part - 1
 
 
 @dataclass
 class Options:
-    """What a check does, as the options of the command line say it. function is a recovery in the
-    place of COMMAND: it is called with a state's directory and the acknowledged lines."""
+    """What a check does, as the options of the command line say it, by their names; command is what
+    follows `--`. function is a recovery in the place of COMMAND. window is the most
+    micro-operations of a window, for tests."""
 
     trace: Optional[str] = None
     command: List[str] = field(default_factory=list)
@@ -75,7 +77,8 @@ class Options:
 
     @property
     def leaves_families_out(self) -> bool:
-        """A server has the plan that it was given: prefixes and holes, unless it has picks."""
+        """Whether --lost and --files are only tried if they are given. A server has the plan that
+        it was started with: prefixes and holes, unless it has picks."""
         return self.quick or self.prefixes or self.serve is not None
 
     @property
@@ -95,15 +98,17 @@ class Options:
 
     @property
     def most_seconds(self) -> float:
-        """How long all crash states may take; longer if that is asked for, or if each shard has a
-        part of them."""
+        """How many seconds all crash states may take; as long as they do if that is asked for, or
+        if each shard has a part of them."""
         is_free = self.every is not None or self.time_limit is not None or self.shard.parts > 1
         return float('inf') if is_free else MOST_SECONDS
 
     @property
     def has_lost(self) -> bool:
+        """Whether the family --lost is tried."""
         return self.lost or not self.leaves_families_out
 
     @property
     def has_files(self) -> bool:
+        """Whether the family --files is tried."""
         return self.files or not self.leaves_families_out

@@ -31,8 +31,8 @@ def prepare_standard_streams() -> None:
 
 
 def run_guarded(program: str, run: Callable[[], int], status: int) -> int:
-    """Runs a whole command and returns its status, or the given one, which is no verdict, if it
-    fails by an error of its own."""
+    """Runs a whole command and returns its status; if it fails by an error of its own, prints that
+    and returns the given status, which is no verdict."""
     try:
         return run()
     except Exception as error:
@@ -41,7 +41,8 @@ def run_guarded(program: str, run: Callable[[], int], status: int) -> int:
 
 
 def print_own_fault(program: str, error: Exception, result: str = '') -> None:
-    """Prints that an error is the program's own, and what came of the run."""
+    """Prints one line: that an error is the program's own, and what the run did nevertheless, as
+    `no trace is written`. With the variable TRACEBACK also where it came."""
     is_asked = bool(os.environ.get(TRACEBACK))
     if is_asked:
         # Few runs need it, and each start would take it.

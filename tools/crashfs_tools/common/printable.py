@@ -16,8 +16,8 @@ SHORT = {'\n': '\\n', '\t': '\\t', '\r': '\\r'}
 
 
 def printable(text: str, allowed: str = '') -> str:
-    """The text with an escape (such as \\x1b or \\u202e) for each character that isn't shown, but
-    for those that are allowed."""
+    """The text with an escape, such as \\x1b or \\u202e, for each character of UNPRINTABLE that
+    isn't allowed."""
     return UNPRINTABLE.sub(
         lambda match: match[0] if match[0] in allowed else escape(match[0]), text
     )
@@ -33,6 +33,11 @@ def escape(letter: str) -> str:
     if code < 0x100:
         return f'\\x{code:02x}'
     return f'\\u{code:04x}' if code < 0x10000 else f'\\U{code:08x}'
+
+
+def count_text(count: int, noun: str) -> str:
+    """A number with what it counts, as `1 state` or `2 states`."""
+    return f'{count:,} {noun}' if count == 1 else f'{count:,} {noun}s'
 
 
 def print_utf8() -> None:

@@ -27,7 +27,7 @@ RANDOM = [
 
 
 def without_numbers(text: str) -> str:
-    """A name or a cause with the same sign in the place of each number and random part."""
+    """A name or a cause with `#` in the place of each number and random part (RANDOM)."""
     for form in RANDOM:
         text = form.sub('#', text)
     return text
@@ -63,13 +63,13 @@ class TraceLine(NamedTuple):
         names: then a program may change their order."""
         return not any(
             one.startswith(two) or two.startswith(one)
-            for one in self.folders
-            for two in other.folders
+            for one in self.paths_with_slash
+            for two in other.paths_with_slash
         )
 
     @property
-    def folders(self) -> List[str]:
-        """The paths, each with a slash at its end."""
+    def paths_with_slash(self) -> List[str]:
+        """The one or two paths of the line, each with a slash at its end."""
         return [path.rstrip('/') + '/' for path in (self.path, self.target) if path]
 
     @property
@@ -83,15 +83,21 @@ class TraceLine(NamedTuple):
 
 
 def line_in_words(number: int, fields: Dict[str, Any]) -> TraceLine:
-    """A line of an operation, from its fields."""
+    """The line of an operation in words, from its number and its fields."""
     path = fields.get('path', fields.get('from', ''))
     return TraceLine(
-        number, fields['op'], path, fields.get('to', ''), details_of(fields), fields.get('note', '')
+        number,
+        fields['op'],
+        path,
+        target=fields.get('to', ''),
+        details=details_of(fields),
+        note=fields.get('note', ''),
     )
 
 
 def details_of(fields: Dict[str, Any]) -> str:
-    """What a line says in addition to its paths, but no bytes."""
+    """What the fields of an operation say in addition to its paths, but no bytes; empty if there
+    is no more."""
     if fields['op'] == 'say':
         text: str = fields['text']
         return text if len(text) <= LARGEST_SAY else f'{text[:LARGEST_SAY]}..'

@@ -4,14 +4,13 @@ from __future__ import annotations
 
 import json
 from io import StringIO
-from typing import Any, Dict, Iterable, Iterator, List, NamedTuple, Tuple
+from typing import Any, Dict, Iterable, List, NamedTuple, Tuple
 
-from .trace import TraceError
+from .trace import BLANKS, TraceError, fields_of_line, fields_of_lines
 from .trace_lines import TraceLine, line_in_words
 
 Fields = Dict[str, Any]
 ENCODING = 'utf-8', 'surrogateescape'
-BLANKS = ' \t\r\n'
 
 
 class TraceText(NamedTuple):
@@ -20,21 +19,6 @@ class TraceText(NamedTuple):
 
     operations: Dict[int, TraceLine]
     acknowledged: List[str]
-
-
-def fields_of_line(number: int, line: str) -> Any:
-    """The value that the JSON of a line has; TraceError if it is no JSON."""
-    try:
-        return json.loads(line)
-    except ValueError as error:
-        raise TraceError(f'line {number} is no line of a trace ({error})') from error
-
-
-def fields_of_lines(lines: Iterable[str]) -> Iterator[Tuple[int, Any]]:
-    """The number and the fields of each line that isn't empty."""
-    for number, line in enumerate(lines, 1):
-        if line.strip(BLANKS):
-            yield number, fields_of_line(number, line)
 
 
 def read_text(text: str) -> TraceText:
@@ -49,8 +33,8 @@ def read_text(text: str) -> TraceText:
     return TraceText(operations, acknowledged)
 
 
-def version_of(text: str) -> int:
-    """The version that a trace's header gives; 0 if it has no header."""
+def trace_version(text: str) -> int:
+    """The version that a trace's header gives; 0 if it has no header, or none with a version."""
     try:
         _, header = next(fields_of_lines(StringIO(text)))
         version = header['trace']
@@ -60,13 +44,14 @@ def version_of(text: str) -> int:
 
 
 def root_owner(lines: Iterable[str]) -> str:
-    """The owner of the root, from the header."""
+    """The owner of the root, from the header of a trace that `crashfs` has accepted."""
     _, header = next(fields_of_lines(lines))
     return str(header['owner'])
 
 
 def with_syncs(text: str, points: Iterable[Tuple[int, str]]) -> str:
-    """A trace with an fsync of these paths after these of its lines."""
+    """A trace with more syncs: each of the points is a line's number and the path that an fsync
+    after it has."""
     paths: Dict[int, List[str]] = {}
     for number, path in sorted(points):
         paths.setdefault(number, []).append(path)
@@ -85,8 +70,8 @@ def without_says(text: str) -> str:
 
 
 def is_large_trace(lines: Iterable[str], most_entries: int, most_bytes: int) -> bool:
-    """Whether a trace has so many start lines, or so many bytes in its lines and in what they make
-    files grow to."""
+    """Whether a trace has at least so many start lines, or so many bytes in its lines and in the
+    lengths that truncates set. TraceError if a line is no JSON."""
     entries = size = 0
     for number, line in enumerate(lines, 1):
         fields = fields_of_line(number, line) if line.strip(BLANKS) else {}

@@ -7,8 +7,9 @@ from importlib import import_module
 from crashfs_tools import VERSION
 
 
-def version_of(command: str) -> str:
-    """What --version prints. A release has a module that names its commit and its kit."""
+def version_text(command: str) -> str:
+    """What --version prints of a command. Only a release has the module `built`, which names its
+    commit and its kit."""
     try:
         built = import_module('crashfs_tools.built')
     except ModuleNotFoundError:

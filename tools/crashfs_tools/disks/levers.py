@@ -33,7 +33,8 @@ class Pull(NamedTuple):
 
 
 def pulls(lever: Lever, unsynced: int) -> Iterator[Pull]:
-    """A lever as often as it makes sense with so many files that have unsynced bytes."""
+    """The pulls of a lever that can write something which no other pull does, if so many files have
+    unsynced bytes. ONE is pulled for each of several files; for a single one it would be BOTH."""
     if lever is Lever.ONE:
         yield from (Pull(lever, place) for place in range(unsynced) if unsynced > 1)
     elif unsynced or lever not in (Lever.BYTES, Lever.BOTH):
@@ -41,8 +42,8 @@ def pulls(lever: Lever, unsynced: int) -> Iterator[Pull]:
 
 
 def pull(replay: Replay, one: Pull, other: str) -> None:
-    """Moves what the kernel has to the disk. other is the path of a file outside the session's
-    directory, whose fsync writes the log."""
+    """Makes the kernel write what a pull says. other is the path of a file that isn't the session's
+    on the same file system: its fsync writes the log."""
     lever, files = one.lever, list(replay.unsynced)
     if one.place is not None:
         files = files[one.place : one.place + 1]
@@ -56,6 +57,8 @@ def pull(replay: Replay, one: Pull, other: str) -> None:
 
 
 def write_log(other: str) -> None:
+    """Makes the file system write its log, by a change and an fsync of a file; makes the file if it
+    isn't there."""
     descriptor = os.open(other, os.O_RDWR | os.O_CREAT | os.O_CLOEXEC, 0o600)
     try:
         os.pwrite(descriptor, os.urandom(8), 0)

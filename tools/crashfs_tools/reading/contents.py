@@ -34,13 +34,13 @@ class Contents:
         self._shown: Dict[int, int] = {}
 
     def start(self, file: int) -> int:
-        """The content of a file that nothing has changed."""
+        """The number of the content with which a file is made, by its number."""
         data = self.reading.made_data.get(file, Data(self.reading.block_size))
         blocks = tuple((it, self.block(data.blocks[it])) for it in sorted(data.blocks))
         return self.number(Content(self.reading.made_rights[file], data.length, blocks))
 
     def number(self, content: Content) -> int:
-        """The number of a file's content, the same for equal ones."""
+        """The number of a content, the same for equal ones."""
         if content not in self.numbers:
             self.numbers[content] = len(self.contents)
             self.contents.append(content)
@@ -54,7 +54,7 @@ class Contents:
         return self.block_numbers[data]
 
     def changed(self, content: int, place: int) -> int:
-        """The content after a micro-operation of its file."""
+        """The number of a content after the micro-operation at a place, which is of its file."""
         key = content, place
         if key not in self._changed:
             operation = self.reading.operations[place]
@@ -62,7 +62,7 @@ class Contents:
         return self._changed[key]
 
     def after(self, content: Content, operation: Micro) -> Content:
-        """The content after a micro-operation on the file."""
+        """A content after a micro-operation of its file."""
         if isinstance(operation, SetRights):
             return content._replace(rights=operation.rights)
         if isinstance(operation, ChangeSize):
@@ -75,7 +75,7 @@ class Contents:
         return content._replace(blocks=blocks)
 
     def cut(self, blocks: Tuple[Tuple[int, int], ...], length: int) -> Tuple[Tuple[int, int], ...]:
-        """The blocks without what is past a length."""
+        """The blocks of a content without what is past a length."""
         full, rest = divmod(length, self.reading.block_size)
         kept = [(it, number) for it, number in blocks if it < full]
         number = dict(blocks).get(full, ZEROS)
@@ -85,7 +85,7 @@ class Contents:
     def overwritten(
         self, blocks: Tuple[Tuple[int, int], ...], write: WriteBlock
     ) -> Tuple[Tuple[int, int], ...]:
-        """The blocks after one was written in part."""
+        """The blocks of a content after a write to one of them."""
         changed = dict(blocks)
         before = self.blocks[changed.pop(write.block, ZEROS)]
         number = self.block(overwritten(before, write.at, write.data))
@@ -94,7 +94,7 @@ class Contents:
         return tuple(sorted(changed.items()))
 
     def shown(self, content: int) -> int:
-        """The content without the bytes past its size."""
+        """The number of a content without the bytes past its size."""
         if content not in self._shown:
             it = self.contents[content]
             self._shown[content] = self.number(it._replace(blocks=self.cut(it.blocks, it.size)))

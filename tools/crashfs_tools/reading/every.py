@@ -17,7 +17,7 @@ MOST_MEMBERS = 2**64 - 1
 
 
 def every_set(order: Order) -> Iterator[int]:
-    """All allowed sets, ascending: the sets without a place come before those with it, for the
+    """All allowed sets, ascending: the one without a place comes before the one with it, for the
     first place in which two sets differ."""
     waiting = [(0, order.full)]
     while waiting:
@@ -48,19 +48,21 @@ def futures(order: Order) -> List[Dict[int, int]]:
 
 
 def steps(order: Order, future: int, lowest: int) -> List[int]:
-    """The futures that follow one: without its lowest place, and with it; or itself."""
+    """The futures that follow one at a place, which is given as a set of one: without the place,
+    and with it; the future itself if it doesn't have the place."""
     if not future & lowest:
         return [future]
     return [order.later_without(future, lowest), future & ~order.unit(lowest)]
 
 
 def count_sets(order: Order) -> int:
-    """How many allowed sets there are."""
+    """How many allowed sets there are; ReadingFault if they are too many to count."""
     return sum(futures(order)[-1].values())
 
 
 def sample(order: Order, wanted: int, seed: int) -> Iterator[int]:
-    """So many allowed sets, drawn one after the other, each with the same chance for every set."""
+    """So many allowed sets, drawn one after the other, each with the same chance for every set, and
+    the same ones for each seed; ReadingFault if they are too many to count."""
     extensions = count_extensions(order)
     total = extensions[0][order.full]
     if total > MOST_MEMBERS:
@@ -87,7 +89,8 @@ def count_extensions(order: Order) -> List[Dict[int, int]]:
 
 
 def set_at(order: Order, extensions: List[Dict[int, int]], number: int) -> int:
-    """The allowed set that has so many before it."""
+    """The allowed set that has so many before it in the order of every_set; extensions are those of
+    count_extensions."""
     places, future = 0, order.full
     for place in range(order.count):
         lowest = 1 << place

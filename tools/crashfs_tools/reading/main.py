@@ -8,7 +8,7 @@ from typing import Dict, List, Union
 
 from .faults import ReadingFault
 from .listing import json_listing, listing
-from .picking import Usage, judge, lines_of
+from .picking import Usage, printed_lines, refuse_options
 from .plan import StateList, add_families, plan_of, read_picks
 from .trace import read
 
@@ -35,7 +35,7 @@ HELP = (
 
 
 def main(words: List[str]) -> int:
-    """Runs a command and returns its status."""
+    """Runs a command, such as `list`, and returns its exit status, which is the program's."""
     try:
         options = read_options(words)
         run(words[0], options)
@@ -56,7 +56,8 @@ def main(words: List[str]) -> int:
 
 
 def read_options(words: List[str]) -> Options:
-    """The options of a command, each with its value; Usage for one that it lacks."""
+    """The options of a command, each with its value, or True if it takes none; Usage for one that
+    it lacks."""
     if not words or words[0] not in FLAGS:
         raise Usage(f"unrecognized subcommand '{words[0] if words else ''}'")
     options: Options = {}
@@ -73,18 +74,18 @@ def read_options(words: List[str]) -> Options:
     if '--trace' not in options:
         raise Usage('the following required arguments were not provided: --trace <FILE>')
     if words[0] == 'picks':
-        judge(options)
+        refuse_options(options)
     return options
 
 
 def run(command: str, options: Options) -> None:
-    """Prints what a command asks for."""
+    """Prints what a command asks for; ReadingFault if its input has a fault."""
     if '--help' in options:
         print(HELP)
         return
     reading = read(file_bytes(str(options['--trace'])))
     if command == 'picks':
-        sys.stdout.writelines(lines_of(reading, options))
+        sys.stdout.writelines(printed_lines(reading, options))
         return
     picks = read_picks(file_bytes(str(options['--picks']))) if '--picks' in options else []
     plan = plan_of(reading, '--holes' in options, picks)
@@ -98,7 +99,7 @@ def run(command: str, options: Options) -> None:
 
 
 def file_bytes(path: str) -> bytes:
-    """The bytes of a file; a fault that names it if it can't be read."""
+    """The bytes of a file; a ReadingFault that names it if it can't be read."""
     try:
         with open(path, 'rb') as file:
             return file.read()
@@ -107,8 +108,8 @@ def file_bytes(path: str) -> bytes:
 
 
 def write_archive(plan: StateList, options: Options) -> None:
+    """Writes the archive that the options of `tar` ask for."""
     # `list` begins faster without tarfile.
-    """Writes the archive that `tar` asks for."""
     from .archive import ArchiveWriter
 
     numbers = states_of(plan, options)
@@ -122,10 +123,11 @@ def write_archive(plan: StateList, options: Options) -> None:
 
 
 def states_of(plan: StateList, options: Options) -> List[int]:
-    """The states that options name, in their order."""
+    """The numbers of the states that options name, in their order; ReadingFault if one isn't
+    there."""
     if '--state' in options:
         number = str(options['--state'])
-        if not number.isdigit():
+        if not number.isdecimal():
             raise Usage(f"invalid value '{number}' for '--state <N>'")
         numbers = [int(number)]
     else:
@@ -136,11 +138,11 @@ def states_of(plan: StateList, options: Options) -> List[int]:
 
 
 def numbers_of(shown: str) -> List[int]:
-    """The states of a list of numbers and ranges, in its order."""
+    """The numbers of a list of numbers and ranges, in its order; Usage if it isn't one."""
     numbers: List[int] = []
     for piece in shown.split(','):
         first, dash, last = piece.partition('-')
-        if not first.isdigit() or bool(dash) != last.isdigit():
+        if not first.isdecimal() or bool(dash) != last.isdecimal():
             raise Usage(f"invalid value '{shown}' for '--states <LIST>'")
         more = range(int(first), int(last or first) + 1)
         if not more:

@@ -10,8 +10,9 @@ from .classes import Classes
 from .every import count_sets, every_set, sample
 from .faults import ReadingFault
 from .lines import PROFILES
-from .order import Order, bits
-from .plan import StateList, different, file_sets, lost_sets
+from .order import Order
+from .place_sets import places_of
+from .plan import StateList, different_places, file_sets, lost_sets
 from .profiles import order_in
 from .trace import Reading
 
@@ -26,7 +27,7 @@ class Usage(Exception):
     """A command line that is refused."""
 
 
-def judge(options: Options) -> None:
+def refuse_options(options: Options) -> None:
     """Usage for options that don't go together, or a value that is out of range."""
     families = [it for it in ('--every', '--sample') if it in options]
     families += ['--lost'] if {'--lost', '--files'} & options.keys() else []
@@ -47,7 +48,8 @@ def judge(options: Options) -> None:
 
 
 def number_of(options: Options, option: str, default: int = MOST) -> int:
-    """The number that an option has."""
+    """The number that an option has, or a default if it isn't given; Usage if it is out of
+    range."""
     if option not in options:
         return default
     text = str(options[option])
@@ -57,8 +59,9 @@ def number_of(options: Options, option: str, default: int = MOST) -> int:
     return int(text)
 
 
-def lines_of(reading: Reading, options: Options) -> Iterator[str]:
-    """What `picks` prints; ReadingFault if it is refused, before the first line."""
+def printed_lines(reading: Reading, options: Options) -> Iterator[str]:
+    """The lines that `picks` prints of a trace. The first one is a ReadingFault if it is
+    refused."""
     if '--count' in options:
         yield f'{shown_count(count_sets(Order(reading)))}\n'
         return
@@ -67,28 +70,30 @@ def lines_of(reading: Reading, options: Options) -> Iterator[str]:
 
 
 def shown_count(count: int) -> str:
-    """A number, or that it is larger than eight bytes hold."""
+    """A number as `picks --count` prints it: one that eight bytes don't hold is only `more
+    than`."""
     largest = 2**64 - 1
     return str(count) if count <= largest else f'more than {largest}'
 
 
 def sets_of(reading: Reading, options: Options) -> Iterator[List[int]]:
-    """The sets that the options ask for."""
+    """The places of each set that the options ask for, in the order in which they are printed;
+    ReadingFault if they are refused."""
     if '--every' in options:
         return every_members(reading, options)
     if '--sample' in options:
         seed = number_of(options, '--seed')
         drawn = sample(Order(reading), number_of(options, '--sample'), seed)
-        return (list(bits(places)) for places in drawn)
+        return (list(places_of(places)) for places in drawn)
     plan = StateList(reading)
     families = [lost_sets(plan)] if '--lost' in options else []
     families += [file_sets(plan)] if '--files' in options else []
     # A set of both families is printed twice.
-    return (it for family in families for it in different(family))
+    return (it for family in families for it in different_places(family))
 
 
 def every_members(reading: Reading, options: Options) -> Iterator[List[int]]:
-    """The members of --every, none if there are more than --most."""
+    """The places of each set of --every; ReadingFault if there are more than --most."""
     profile = options.get('--profile')
     order = Order(reading) if profile is None else order_in(reading, str(profile))
     is_different = '--different' in options
@@ -97,4 +102,4 @@ def every_members(reading: Reading, options: Options) -> Iterator[List[int]]:
     found = list(islice(members, most + 1))
     if len(found) > most:
         raise ReadingFault(f'more than {most} sets')
-    return (list(bits(places)) for places in found)
+    return (list(places_of(places)) for places in found)

@@ -10,7 +10,7 @@ from .names import DIRECTORY, Inode
 
 
 class SyncPoint:
-    """A sync point of everything, before the micro-operation at its place."""
+    """A sync of everything, after so many micro-operations: before the one at that place."""
 
     def __init__(self, at: int) -> None:
         self.at = at
@@ -25,7 +25,7 @@ class SyncPoint:
 
 
 class FileSync(SyncPoint):
-    """An fsync of a file."""
+    """An fsync of a file, by its number."""
 
     def __init__(self, at: int, file: int) -> None:
         super().__init__(at)
@@ -61,7 +61,8 @@ class DataSync(FileSync):
 
 
 class RangeSync(DataSync):
-    """Of a file's sizes, and of writes all of whose bytes lie in the range."""
+    """A sync of a part of a file: of the file's sizes, and of writes all of whose bytes lie in the
+    part."""
 
     def __init__(self, at: int, file: int, offset: int, length: int) -> None:
         super().__init__(at, file)
@@ -78,7 +79,7 @@ class RangeSync(DataSync):
 
 
 class DirectorySync(SyncPoint):
-    """An fsync of a directory: of its entries, and of its rights."""
+    """An fsync of a directory, by its number: of its entries, and of its rights."""
 
     def __init__(self, at: int, directory: int) -> None:
         super().__init__(at)
@@ -96,5 +97,5 @@ class DirectorySync(SyncPoint):
 
 
 def is_file(node: Inode, file: int) -> bool:
-    """Whether it is the file or symbolic link of a number."""
+    """Whether an inode is the file or symbolic link of a number."""
     return node.kind != DIRECTORY and node.number == file

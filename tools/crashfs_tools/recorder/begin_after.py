@@ -11,8 +11,8 @@ from .recording import Recording
 
 
 class LateStart:
-    """Waits for the line that is wanted: the one of a number, or the first that a pattern
-    matches."""
+    """Begins the trace again after the acknowledged line that is wanted: the one of a number, from
+    1, or the first that a pattern matches."""
 
     def __init__(self, recording: Recording, wanted: str) -> None:
         self.recording, self.wanted = recording, wanted
@@ -29,13 +29,14 @@ class LateStart:
 
     def is_wanted(self, text: str) -> bool:
         """Whether the newest line is the one at which the trace begins."""
-        if self.wanted.isdigit():
+        if self.wanted.isdecimal():
             return self.count == int(self.wanted)
         return fnmatch.fnmatchcase(text, self.wanted)
 
 
 def restart_trace(recording: Recording) -> None:
-    """Begins the trace again. What wasn't synced up to here counts as durable."""
+    """Begins the trace again, with the recording's tree as its start. What wasn't synced up to here
+    counts as durable."""
     header, start = start_lines(recording.tree.entries, recording.tree.files)
     recording.begin_trace(header)
     for line in start:

@@ -116,8 +116,11 @@ class MappedFiles:
             self.descriptors.append(descriptor)
         self.copies.numbers[number] = self.inodes[inode]
 
-    def copy(self, line: int, process: int, is_alone: bool, others: Iterable[int] = ()) -> None:
-        """Copies the files that changed since the last copy."""
+    def copy_changed(
+        self, line: int, process: int, is_alone: bool, others: Iterable[int] = ()
+    ) -> None:
+        """Copies the files that changed since the last copy, when `line` lines of the log were
+        read; others are the processes that aren't stopped."""
         changed: Dict[int, Bytes] = {}
         for number, descriptor in enumerate(self.descriptors):
             data = file_bytes(descriptor)
@@ -127,14 +130,15 @@ class MappedFiles:
         self.copies.taken.append(FileCopy(line, process, is_alone, changed, shared))
 
     def mapped_by(self, processes: Iterable[int]) -> Set[int]:
-        """The files that processes have mapped."""
+        """The numbers of the followed files that these processes have mapped: a file counts by its
+        inode, whatever its device, so it may be too many."""
         mapped: Set[str] = set()
         for process in processes:
             mapped |= stopped_processes.inodes_mapped(process)
         return {number for (_, inode), number in self.inodes.items() if str(inode) in mapped}
 
-    def finish(self, line: int) -> None:
+    def make_last_copy(self, line: int) -> None:
         """Makes the last copy, of what the program left, and closes the files."""
-        self.copy(line, 0, True)
+        self.copy_changed(line, 0, True)
         for descriptor in self.descriptors:
             os.close(descriptor)

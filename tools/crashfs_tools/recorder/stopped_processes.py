@@ -21,7 +21,7 @@ class Stop(Enum):
     RESUMED = 'the thread runs again'
 
 
-def group_of(thread: int) -> Optional[int]:
+def process_of_thread(thread: int) -> Optional[int]:
     """The process of a thread, or None if it has ended."""
     try:
         with open(f'/proc/{thread}/status', encoding='ascii', errors='replace') as lines:
@@ -48,7 +48,8 @@ def is_stopped(thread: int) -> bool:
 
 
 def wait_until_stopped(thread: int, process: int) -> Stop:
-    """Waits until all threads of a process are stopped, up to a limit."""
+    """Waits until all threads of a process are stopped, for SECONDS at most, and returns how the
+    wait ended. `thread` is the one that was reported as stopped."""
     deadline = time.monotonic() + SECONDS
     while is_stopped(thread):
         if all(map(is_stopped, threads_of(process))):

@@ -20,8 +20,8 @@ NOT_REPRODUCIBLE = (
 @dataclass
 class Tried:
     """The result of trying an advice on a copy of the trace, in different states: how many of the
-    group's are left, of how many; how many others fail, and how many of these failed before. In
-    total, before and after are how many fail without the advice and with it."""
+    group's are left, of how many in total; how many others fail, and how many of these failed
+    before (still). before and after are how many fail without the advice and with it."""
 
     left: int
     total: int
@@ -31,6 +31,7 @@ class Tried:
     after: int = 0
 
     def __add__(self, other: Tried) -> Tried:
+        """The results for two groups of different windows that are one entry."""
         return Tried(
             self.left + other.left,
             self.total + other.total,
@@ -81,7 +82,8 @@ class Advice:
     tried: Optional[Tried] = None
 
     def lines(self) -> List[str]:
-        """The sentence, the remedy, and the result of trying it. What doesn't help is no remedy."""
+        """The sentence, the remedy, and the result of trying it, as a report has them. What doesn't
+        help is no remedy."""
         if self.tried is None:
             return self.text + ([self.remedy] if self.remedy else [])
         if not self.tried.is_right:
@@ -92,7 +94,8 @@ class Advice:
 def loss_advice(
     kept: TraceLine, lost: TraceLine, places: Places, lines: Dict[int, TraceLine]
 ) -> Advice:
-    """The advice for a line that was lost; places are all pairs of lines to keep in order."""
+    """The advice for a line that was lost; places are all pairs of lines to keep in order, and
+    lines those of the trace. There is none if no sync makes the line durable."""
     path = lost.synced_by
     sentence = f'line {lost.number} ({lost.text}) was not durable when {kept_text(kept)}'
     if path is None:
@@ -110,13 +113,15 @@ def loss_advice(
 
 
 def before_rename(path: str, between: range, lines: Dict[int, TraceLine]) -> str:
-    """Names the line that renames the file, if there is one: the sync belongs before it."""
+    """Names the line that renames a file, of the lines of a range, since the sync belongs before
+    it; an empty text if there is none."""
     found = (lines[number] for number in between if number in lines)
     first = next((one for one in found if (one.word, one.path) == ('rename', path)), None)
     return f', before line {first.number} ({first.text})' if first else ''
 
 
 def kept_text(kept: TraceLine) -> str:
+    """The end of the sentence `line N was not durable when ..`."""
     if kept.word == 'say':
         return f'line {kept.number} acknowledged "{kept.details}"'
     return f'line {kept.number} ({kept.text}) was'
@@ -131,7 +136,8 @@ def torn_advice(line: TraceLine, parts: str) -> Advice:
 
 
 def span_advice(kept: Optional[TraceLine], lost: Optional[TraceLine]) -> Advice:
-    """The advice for states that lose nothing: they fail from one line on, until another."""
+    """The advice for states that lose nothing: they fail from the kept line on, or from the
+    beginning, until the one that is lost; to the end if there is none."""
     first = f'line {kept.number} ({kept.text})' if kept else 'the beginning'
     if lost is None:
         return Advice([f'from {first} on it fails, though nothing is lost'])

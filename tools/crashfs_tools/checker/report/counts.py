@@ -18,7 +18,8 @@ LEAST_OF_MANY = 1_000_000
 
 
 class AcceptedStates(NamedTuple):
-    """How many different failing states are of known failures, and by the words of their causes."""
+    """How many different failing states are of accepted failures, in total and by the words of
+    their causes."""
 
     total: int
     words: Counts[str]
@@ -60,7 +61,7 @@ class StateCounts:
         self.windows += 1
         self.every.append(findings.plan.all_states)
         self.profile = findings.plan.profiles.wanted
-        self.operations = findings.plan.begin + len(findings.plan.operations)
+        self.operations = findings.plan.first_place + len(findings.plan.operations)
         self.states += len(results.own)
         self.different += len(results.trials)
         self.wanted += sum(map(shard.has, range(len(results.wanted))))
@@ -74,15 +75,18 @@ class StateCounts:
         self.add_outcomes(outcomes)
 
     def add_outcomes(self, outcomes: List[Outcome]) -> None:
+        """Adds the outcomes of different states."""
         self.results.update(one.result for one in outcomes)
         self.words.update(one.word for one in outcomes if one.result == BAD)
 
     @property
     def good(self) -> int:
+        """How many different states are good."""
         return self.results[GOOD]
 
     @property
     def failing(self) -> int:
+        """How many different states are bad."""
         return self.results[BAD]
 
     @property
@@ -108,7 +112,7 @@ class StateCounts:
 
     @property
     def tried_text(self) -> str:
-        """How much of what there is was tried."""
+        """How many of the crash states were tried, as a sentence."""
         if self.is_part or self.has_every:
             return f'{self.tried:,} of {self.total} crash states were tried.'
         return f'{self.tried:,} different states of some families were tried, not all crash states.'
@@ -127,7 +131,7 @@ class StateCounts:
         return head.shard.parts == 1 and not self.left and not head.has_rest
 
 
-def accepted_states(groups: List[Group]) -> AcceptedStates:
+def states_of_accepted(groups: List[Group]) -> AcceptedStates:
     """The states of accepted groups that no other group has."""
     none: FrozenSet[Tuple[int, ...]] = frozenset()
     others = none.union(*(group.tried for group in groups if group.accepted is None))

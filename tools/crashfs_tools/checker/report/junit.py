@@ -20,9 +20,10 @@ SPACES = '\n\t'
 
 
 def junit_lines(report: CheckReport) -> Iterator[str]:
-    """A test case for each entry of the report, for each failure on disks that no tried state has,
-    and one for all other states. The time of an entry is that of its example's second run, and that
-    of the last case is the rest of the check's."""
+    """The text of the file of --junit, in pieces: a test case for each entry of the report, for
+    each failure on disks that no tried state has, and one for all other states. The time of an
+    entry is that of its example's second run, and that of the last case is the rest of the
+    check's."""
     groups, on_disks = report.groups(), report.disk_failures()
     results = [*(group.result for group in groups), *(one.outcome.result for one in on_disks)]
     skipped = sum(group.accepted is not None for group in groups)
@@ -49,12 +50,13 @@ def junit_lines(report: CheckReport) -> Iterator[str]:
     yield '</testsuite>\n'
 
 
-def case_lines(report: CheckReport, group: Group, names: str) -> Iterator[str]:
-    """A test case; its message is the whole sentence with the advice, or why it is accepted."""
+def case_lines(report: CheckReport, group: Group, attributes: str) -> Iterator[str]:
+    """The test case of an entry, with these attributes; its message is the whole sentence with the
+    advice, or why the entry is accepted."""
     head, *details = ReportText(report).group_lines(group)
     kind = 'failure' if group.result == BAD else 'error'
     message = ' '.join(group.advice.lines()) or head.strip()
-    yield f'<testcase {names} time="{group.seconds:.3f}">\n'
+    yield f'<testcase {attributes} time="{group.seconds:.3f}">\n'
     if group.accepted is not None:
         yield f'<skipped message={attribute(accepted_text(group.accepted))}/>\n</testcase>\n'
         return
@@ -64,11 +66,11 @@ def case_lines(report: CheckReport, group: Group, names: str) -> Iterator[str]:
     yield '</testcase>\n'
 
 
-def disk_case_lines(one: DiskFailure, name: str) -> Iterator[str]:
-    """A test case for a failure on disks that no tried state has."""
+def disk_case_lines(one: DiskFailure, class_name: str) -> Iterator[str]:
+    """The test case of a failure on disks that no tried state has; class_name is quoted."""
     kind = 'failure' if one.outcome.result == BAD else 'error'
     case = f'{one.outcome.cause} ({one.explanation.where})'
-    yield f'<testcase classname={name} name={attribute(case)} time="0.000">\n'
+    yield f'<testcase classname={class_name} name={attribute(case)} time="0.000">\n'
     lines = one.lines()
     yield f'<{kind} message={attribute(lines[0])}>' + text('\n'.join(lines)) + f'</{kind}>\n'
     yield f'<system-out>{text(one.outcome.output)}</system-out>\n'
@@ -76,8 +78,10 @@ def disk_case_lines(one: DiskFailure, name: str) -> Iterator[str]:
 
 
 def text(shown: str) -> str:
+    """A text as XML has it between tags."""
     return escape(printable(shown, SPACES))
 
 
 def attribute(shown: str) -> str:
+    """A text as the value of an attribute, with its quotes."""
     return quoteattr(printable(shown))

@@ -2,9 +2,8 @@
 
 from __future__ import annotations
 
-from typing import List
-
 from crashfs_tools.checker.findings.groups import Group
+from crashfs_tools.checker.findings.wording import joined_by
 
 # File systems that keep to a profile, as far as was seen (docs/DISKS.md).
 SEEN = {'journal': 'ext4, XFS'}
@@ -16,22 +15,17 @@ def profiles_text(group: Group, are_all: bool) -> str:
     counts = {name: len(states) for name, states in group.under.items()}
     is_same = all(count in (0, group.count) for count in counts.values())
     allow = [
-        shown(name) if is_same else f'{shown(name)}: {count:,}'
+        shown_profile(name) if is_same else f'{shown_profile(name)}: {count:,}'
         for name, count in counts.items()
         if count
     ]
-    others = [shown(name) for name, count in counts.items() if not count]
+    others = [shown_profile(name) for name, count in counts.items() if not count]
     if not others:
         return f'under {joined_by("and", allow)}'
     how = '' if are_all else 'by the sets that were tried '
     return f'under {joined_by("and", allow)}; {how}not under {joined_by("or", others)}'
 
 
-def shown(name: str) -> str:
+def shown_profile(name: str) -> str:
+    """A profile's name, with the file systems that were seen to keep to it."""
     return f'{name} ({SEEN[name]})' if name in SEEN else name
-
-
-def joined_by(word: str, names: List[str]) -> str:
-    """Names with commas, and a word before the last one."""
-    *others, last = names or ['none']
-    return f'{", ".join(others)} {word} {last}' if others else last

@@ -5,7 +5,8 @@ from __future__ import annotations
 import math
 from typing import Iterator
 
-from crashfs_tools.checker.running.progress import duration
+from crashfs_tools.checker.findings.wording import fails
+from crashfs_tools.checker.running.progress import duration_text
 
 from .counts import StateCounts
 
@@ -13,7 +14,8 @@ CONFIDENCE = 0.95
 
 
 def rest_lines(counts: StateCounts) -> Iterator[str]:
-    """What was drawn at random, and how long all would take, by which option."""
+    """The last lines of a report: what was drawn at random, and how long all would take, by which
+    option; none if all crash states were tried, or weren't asked for."""
     if not counts.is_part:
         return
     if counts.drawn and len(counts.every) == 1 and not counts.profile:
@@ -26,16 +28,16 @@ def rest_lines(counts: StateCounts) -> Iterator[str]:
 
 
 def time_text(counts: StateCounts, states: int, at_least: str = '') -> str:
-    """How long so many states take, if that is known."""
+    """How long so many states take, after a comma; an empty text if that isn't known."""
     seconds = counts.seconds * states
-    return f', and would take {at_least}about {duration(seconds)}' if seconds else ''
+    return f', and would take {at_least}about {duration_text(seconds)}' if seconds else ''
 
 
 def drawn_text(counts: StateCounts) -> str:
-    """What the sets that were drawn tell of all."""
+    """What the sets that were drawn say of all sets."""
     drawn, fail = len(counts.drawn), sum(counts.drawn)
     if fail:
-        return f'{fail:,} of {drawn:,} drawn at random fail{"s" if fail == 1 else ""}'
+        return f'{fail:,} of {drawn:,} drawn at random {fails(fail)}'
     sets = f'{counts.sets:,} sets' if counts.sets is not None else 'sets'
     share = shown_share(1 - (1 - CONFIDENCE) ** (1 / drawn))
     return (
@@ -45,6 +47,6 @@ def drawn_text(counts: StateCounts) -> str:
 
 
 def shown_share(share: float) -> str:
-    """A share as a percentage with two digits that count, rounded up."""
+    """A share, from 0 to 1, as a percentage with two digits that count, rounded up."""
     digits = 1 - math.floor(math.log10(share * 100))
     return f'{math.ceil(share * 100 * 10**digits) / 10**digits:.{max(0, digits)}f}%'

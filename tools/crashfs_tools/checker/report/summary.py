@@ -4,6 +4,7 @@ from __future__ import annotations
 
 from typing import List
 
+from crashfs_tools.checker.findings.wording import fails
 from crashfs_tools.checker.running.results import Head
 from crashfs_tools.checker.running.runner import NO_ANSWER
 from crashfs_tools.common.printable import printable
@@ -15,7 +16,7 @@ SHOWN_WORDS = 5
 
 
 class Summary:
-    """The line for what was counted of a check; accepted are the states of known failures."""
+    """The line for what was counted of a check; accepted are the states of accepted failures."""
 
     def __init__(self, head: Head, counts: StateCounts, accepted: AcceptedStates) -> None:
         self.head = head
@@ -26,6 +27,7 @@ class Summary:
 
     @property
     def line(self) -> str:
+        """The whole line."""
         counts, trace = self.counts, printable(self.head.trace)
         if not counts.windows:
             return f'{trace}: nothing was tried{self.stop_text}'
@@ -37,6 +39,7 @@ class Summary:
 
     @property
     def stop_text(self) -> str:
+        """What stopped the check, in brackets; an empty text if nothing did."""
         return f' (stopped by {self.head.stopped})' if self.head.stopped else ''
 
     @property
@@ -70,7 +73,7 @@ class Summary:
 
     @property
     def accepted_text(self) -> List[str]:
-        """How many states are of known failures; nothing if none is."""
+        """How many states are of accepted failures, in a part of the verdict; none if none is."""
         count = self.accepted.total
         if not count:
             return []
@@ -81,7 +84,8 @@ class Summary:
 
     @property
     def failing_text(self) -> List[str]:
-        """How many fail, apart from known failures; nothing if there are only these."""
+        """How many fail, apart from accepted failures, in a part of the verdict; none if there are
+        only these."""
         counts = self.counts
         if not self.failing:
             return [] if self.accepted.total else [self.none_text]
@@ -96,24 +100,22 @@ class Summary:
 
     @property
     def none_text(self) -> str:
+        """That none fails; of a part of the states that none of these does."""
         if self.counts.is_part:
             return 'none of these fails'
         return 'none fails' if self.is_whole else f'none{self.of_tried} fails'
 
     @property
     def of_tried(self) -> str:
+        """Of how many states something is said if not all were tried."""
         shard = self.head.shard
         by_shard = f' by shard {shard.part}/{shard.parts}' if shard.parts > 1 else ''
         return f' of the {self.counts.tried:,} tried{by_shard}'
 
     @property
     def left_text(self) -> str:
-        """What was not tried."""
+        """How many states were not tried, and which further ones."""
         counts, rest = self.counts, ''
         if self.head.has_rest:
             rest = f'all states after micro-operation {counts.operations - 1:,}'
         return ' and '.join(filter(None, [f'{counts.left:,}' if counts.left else '', rest]))
-
-
-def fails(count: int) -> str:
-    return 'fails' if count == 1 else 'fail'

@@ -14,7 +14,7 @@ class TooSlow(Exception):
 
 
 class Pace:
-    """Measures states as they are tried; they may take so many seconds together."""
+    """Measures how long states take as they are tried; all together may take so many seconds."""
 
     def __init__(self, most: float, clock: Callable[[], float] = time.monotonic) -> None:
         self.most = most
@@ -22,12 +22,13 @@ class Pace:
         self.begin(0)
 
     def begin(self, total: int) -> None:
+        """Begins to measure so many states."""
         self.total = total
         self.tried = 0
         self.begun = self.clock()
 
-    def step(self) -> None:
-        """One more was tried; TooSlow, once, if all will take too long."""
+    def note_tried(self) -> None:
+        """Counts one more state as tried. TooSlow, once, if all will take too long."""
         self.tried += 1
         if self.tried == MEASURED and self.seconds * self.total > self.most:
             self.most = float('inf')
@@ -35,5 +36,5 @@ class Pace:
 
     @property
     def seconds(self) -> float:
-        """How long each state takes, as many as there are at once; 0 if none was tried."""
+        """How long each state has taken, with all jobs at work; 0 if none was tried."""
         return (self.clock() - self.begun) / self.tried if self.tried else 0.0

@@ -16,8 +16,8 @@ UNITS = ((3600, 'hour'), (60, 'minute'), (1, 'second'))
 
 
 class Progress:
-    """Counts the states of one part of a check after the other; the time of the last line goes on
-    through all of them."""
+    """Shows how many states of one part of a check after the other were tried. The pause between
+    two lines goes on from part to part. Without a stream nothing is shown."""
 
     def __init__(
         self, stream: Optional[TextIO] = sys.stderr, clock: Callable[[], float] = time.monotonic
@@ -25,49 +25,54 @@ class Progress:
         self.stream = stream
         self.clock = clock
         self.reported = clock()
-        self.terminal = stream is not None and stream.isatty()
-        self.begin(0)
+        self.is_terminal = stream is not None and stream.isatty()
+        self.begin_part(0)
 
-    def begin(self, total: int, part: str = '') -> None:
+    def begin_part(self, total: int, name: str = '') -> None:
+        """Begins a part of so many states; its name comes first in its lines."""
         self.total = total
-        self.part = part
+        self.name = name
         self.tried = self.failed = 0
         self.begun = self.clock()
 
-    def step(self, outcome: Outcome) -> None:
+    def add_outcome(self, outcome: Outcome) -> None:
+        """Counts one more state of the part, and prints a line if it is time."""
         self.tried += 1
         self.failed += outcome.result == BAD
         if self.stream is None:
             return
-        if self.terminal and self.clock() - self.reported >= TERMINAL_SECONDS:
+        if self.is_terminal and self.clock() - self.reported >= TERMINAL_SECONDS:
             self.reported = self.clock()
             print(f'\r{self.line()}\033[K', end='', file=self.stream, flush=True)
-        elif not self.terminal and self.clock() - self.reported >= EVERY_SECONDS:
+        elif not self.is_terminal and self.clock() - self.reported >= EVERY_SECONDS:
             self.reported = self.clock()
             print(f'{NAME}: {self.line()}', file=self.stream, flush=True)
 
     def line(self) -> str:
-        """The estimate takes the states that are left for as slow as those that were tried."""
+        """How far the part is. The estimate takes the states that are left for as slow as those
+        that were tried; one was."""
         seconds = (self.clock() - self.begun) / self.tried * (self.total - self.tried)
         return (
-            f'{self.part}{self.tried:,} of {self.total:,} tried, {self.failed:,} fail, '
-            f'about {duration(seconds)} left'
+            f'{self.name}{self.tried:,} of {self.total:,} tried, {self.failed:,} fail, '
+            f'about {duration_text(seconds)} left'
         )
 
-    def note(self, done: int, total: int) -> None:
-        """How many of the moments of a session were tried on real disks."""
-        if self.terminal and self.clock() - self.reported >= TERMINAL_SECONDS:
+    def show_moments(self, done: int, total: int) -> None:
+        """Shows how many of the moments of a session were tried on real disks, on a terminal."""
+        if self.is_terminal and self.clock() - self.reported >= TERMINAL_SECONDS:
             self.reported = self.clock()
             text = f'disks: {done:,} of {total:,} moments'
             line = f'\r{text}\033[K' if done < total else '\r\033[K'
             print(line, end='', file=self.stream, flush=True)
 
-    def end(self) -> None:
-        if self.terminal and self.tried:
+    def end_part(self) -> None:
+        """Removes the line of the part from a terminal."""
+        if self.is_terminal and self.tried:
             print('\r\033[K', end='', file=self.stream, flush=True)
 
 
-def duration(seconds: float) -> str:
+def duration_text(seconds: float) -> str:
+    """A duration in its largest unit: `2 hours`."""
     size, unit = next((one for one in UNITS if seconds >= one[0]), UNITS[-1])
     count = round(seconds / size)
     return f'{count:,} {unit}{"s" if count != 1 else ""}'

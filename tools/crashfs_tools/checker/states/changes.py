@@ -11,8 +11,8 @@ ENDING = '.missing'
 
 
 class Changes(NamedTuple):
-    """Of one state: the paths of the start tree that it doesn't have, and its entries that the
-    start tree doesn't have the same, by their paths in the archive: the root's is empty."""
+    """Of the state of a number: the paths of the start tree that it doesn't have, and its entries
+    that the start tree doesn't have the same. Paths are relative, the root's is empty."""
 
     number: int
     missing: List[str]
@@ -28,7 +28,8 @@ class Changes(NamedTuple):
 
 def read_changes(members: Iterator[Member]) -> Iterator[Changes]:
     """The changes of each state, in the order of the archive: first the list of what is missing,
-    which has no directory before its name, and then the entries."""
+    which has no directory before its name, and then the entries. ArchiveFault if an entry comes
+    before its list."""
     changes: Optional[Changes] = None
     for whole, entry in members:
         top, _, path = whole.partition('/')

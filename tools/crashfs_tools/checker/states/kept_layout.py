@@ -17,9 +17,12 @@ from .plan import Planned
 
 
 class KeptLayout(Archive):
+    """Each process that calls states() has one directory below the folder; kept is None before."""
+
     def __init__(
         self, program: Crashfs, planned: Planned, folder: str, environment: Dict[str, str]
     ) -> None:
+        """Asks the program for the start tree."""
         super().__init__(program, planned, folder, environment)
         words = [*planned.parts[0].words, '--state', '0']
         with program.archive(words, environment) as members:
@@ -27,21 +30,25 @@ class KeptLayout(Archive):
         self.kept: Optional[KeptTree] = None
 
     def states(self, wanted: Set[int]) -> Iterator[Tuple[int, str]]:
+        """The directory is the same for each state; in the end it is removed."""
         self.kept = KeptTree(os.path.join(self.folder, f'kept-{os.getpid()}'))
         try:
             for number, tree in self.trees(wanted):
-                self.kept.bring(tree)
+                self.kept.change_to(tree)
                 yield number, self.kept.directory
         finally:
             self.kept.remove()
 
     @contextmanager
     def laid_out(self, number: int, directory: str) -> Iterator[None]:
+        """Notes when COMMAND may begin to change the directory."""
         assert self.kept is not None
-        self.kept.begin()
+        self.kept.note_start()
         yield
 
     def trees(self, wanted: Set[int]) -> Iterator[Tuple[int, Entries]]:
+        """The trees of the wanted states, by their numbers. ProgramFault if the program lacks
+        one."""
         left = set(wanted)
         for request in self.planned.requests(wanted):
             words = [*request.words, '--changes']

@@ -6,21 +6,20 @@ import os
 from abc import ABC, abstractmethod
 from contextlib import contextmanager
 from itertools import groupby
-from typing import ContextManager, Dict, Iterable, Iterator, List, Set, Tuple, Union
+from typing import ContextManager, Dict, Iterable, Iterator, List, Set, Tuple
 
 from crashfs_tools.common.archive import Member
 from crashfs_tools.common.entry import Entry
 from crashfs_tools.common.removal import FOLDER, remove_tree, set_folder_mode
-from crashfs_tools.common.program import Crashfs, ProgramFault, top_of
+from crashfs_tools.common.program import Crashfs, ProgramFault, first_name
 from crashfs_tools.common.sparse import SparseBytes
 
 from .plan import Planned
-from .rewriting import PIECE_BYTES, has_bytes, write_at
+from .rewriting import PIECE_BYTES, Bytes, has_bytes, write_at
 
 NEW_FILE = os.O_WRONLY | os.O_CREAT | os.O_EXCL | os.O_NOFOLLOW | os.O_CLOEXEC
 # A directory's mode while it is filled.
 FILLED_MODE = 0o700
-Bytes = Union[bytes, bytearray, SparseBytes]
 
 
 class Layout(ABC):
@@ -28,12 +27,12 @@ class Layout(ABC):
 
     @abstractmethod
     def states(self, wanted: Set[int]) -> Iterator[Tuple[int, str]]:
-        """Each wanted state with its directory, in ascending order."""
+        """Each wanted state with the path of its directory, in ascending order."""
 
     @abstractmethod
     def laid_out(self, number: int, directory: str) -> ContextManager[None]:
-        """Within this a state's directory has the state's tree; behind it the directory is gone.
-        Several processes may lay out states at once."""
+        """Within this the directory of the state that came last has its tree; afterwards the
+        directory is gone. Several processes may lay out states at once."""
 
 
 class Archive(Layout):
@@ -49,15 +48,17 @@ class Archive(Layout):
 
     @contextmanager
     def laid_out(self, number: int, directory: str) -> Iterator[None]:
+        """The tree is there already: the directory is only removed."""
         yield
         remove_tree(directory)
 
     def states(self, wanted: Set[int]) -> Iterator[Tuple[int, str]]:
-        """An archive is read as fast as the states are taken: each has its tree already."""
+        """Each directory has its tree already: an archive is read as fast as states are taken.
+        ProgramFault if the program lacks one."""
         left = set(wanted)
         for request in self.planned.requests(wanted):
             with self.program.archive(request.words, self.environment) as members:
-                for top, tree in groupby(members, top_of):
+                for top, tree in groupby(members, first_name):
                     number = int(top) + request.lead
                     if number in left:
                         left.remove(number)
@@ -66,21 +67,23 @@ class Archive(Layout):
             raise ProgramFault(0, f'crashfs tar wrote no state {min(left)}'.encode())
 
     def directory_of(self, number: int, top: str, tree: Iterable[Member]) -> str:
-        """Lays out a state, whose paths in the archive begin with a name."""
-        directory = unused(os.path.join(self.folder, str(number)))
+        """Lays out a state, whose paths in the archive begin with a name; returns its directory."""
+        directory = unused_path(os.path.join(self.folder, str(number)))
         lay_out(directory, ((path[len(top) + 1 :], entry) for path, entry in tree))
         return directory
 
 
-def unused(path: str) -> str:
-    """A path where nothing is: what COMMAND left may be one that can't be removed."""
-    return unused(f'{path}+') if os.path.lexists(path) else path
+def unused_path(path: str) -> str:
+    """A path where nothing is, the given one if it can be: what COMMAND left there may be something
+    that can't be removed."""
+    return unused_path(f'{path}+') if os.path.lexists(path) else path
 
 
 def lay_out(directory: str, tree: Iterable[Member]) -> None:
-    """Makes a directory that has the tree. Symbolic links are made when all else is there, so that
-    nothing is made through one. Directories get their modes last, and inner ones before outer ones,
-    since modes may forbid what is done below."""
+    """Makes a directory that has the tree, whose paths are relative, the root's empty; a directory
+    comes before what is in it. Symbolic links are made when all else is there, so that nothing is
+    made through one. Directories get their modes last, and inner ones before outer ones, since
+    modes may forbid what is done below."""
     os.mkdir(directory, FILLED_MODE)
     umask = os.umask(0)
     try:
@@ -93,7 +96,7 @@ def lay_out(directory: str, tree: Iterable[Member]) -> None:
                     links.append((path, entry.link))
                 elif entry.is_directory:
                     modes.append((path, entry.mode))
-                put(path, entry, at)
+                make_entry(path, entry, at)
             make_links(links, at)
             for path, mode in reversed(modes):
                 set_folder_mode(path or '.', mode, at)
@@ -103,8 +106,9 @@ def lay_out(directory: str, tree: Iterable[Member]) -> None:
         os.umask(umask)
 
 
-def put(path: str, entry: Entry, at: int) -> None:
-    """Makes a file or directory."""
+def make_entry(path: str, entry: Entry, at: int) -> None:
+    """Makes a file or directory below an open directory; nothing for the root or a symbolic
+    link."""
     if entry.data is not None:
         write_file(path, entry.mode, entry.data, at)
     elif path and entry.is_directory:
@@ -112,13 +116,14 @@ def put(path: str, entry: Entry, at: int) -> None:
 
 
 def make_links(links: Iterable[Tuple[str, str]], at: int) -> None:
-    """Makes symbolic links, each path with its target: inner paths first, since none may be made
-    through another."""
+    """Makes symbolic links below an open directory, each path with its target: inner paths first,
+    since none may be made through another."""
     for path, link in sorted(links, reverse=True):
         os.symlink(os.fsencode(link), path, dir_fd=at)
 
 
 def write_file(path: str, mode: int, data: Bytes, at: int) -> None:
+    """Makes a file below an open directory; FileExistsError if there is one."""
     file = os.open(path, NEW_FILE, mode, dir_fd=at)
     try:
         write_all(file, data)
@@ -129,7 +134,7 @@ def write_file(path: str, mode: int, data: Bytes, at: int) -> None:
 def write_all(file: int, data: Bytes) -> None:
     """Writes a new file's bytes; large runs of zeros become holes, as of a file that was grown."""
     if isinstance(data, SparseBytes):
-        for place, run in data.runs():
+        for place, run in data.page_runs():
             write_at(file, place, run)
     elif len(data) <= PIECE_BYTES:
         write_at(file, 0, data)

@@ -1,4 +1,5 @@
-"""Calls that change what a process has: fork, exec, chdir, umask."""
+"""Calls that change what a process has: fork, exec, chdir, umask. Each `on_NAME` translates a call
+NAME that has returned."""
 
 from __future__ import annotations
 
@@ -11,16 +12,19 @@ from crashfs_tools.recorder.strace_log import Call
 
 
 def on_clone(files: LiveFiles, process: Process, call: Call) -> None:
+    """Adds the process or thread that a fork makes, unless it has called already."""
     if call.result > 0 and call.result not in files.processes:
         files.processes[call.result] = process.forked_child(call)
 
 
 def on_execve(files: LiveFiles, process: Process, call: Call) -> None:
+    """Starts another program in a process."""
     process.exec()
 
 
 def on_chdir(files: LiveFiles, process: Process, call: Call) -> None:
-    path = arguments.path(call.word(0))
+    """Sets the working directory by a path."""
+    path = arguments.path_of_text(call.argument(0))
     if path is not None:
         place = process.paths
         full = os.path.join(place.directory, path)
@@ -28,16 +32,19 @@ def on_chdir(files: LiveFiles, process: Process, call: Call) -> None:
 
 
 def on_fchdir(files: LiveFiles, process: Process, call: Call) -> None:
+    """Sets the working directory by a descriptor."""
     process.paths.directory = call.descriptor().path or process.paths.directory
 
 
 def on_umask(files: LiveFiles, process: Process, call: Call) -> None:
-    process.paths.umask = arguments.octal(call.word(0))
+    """Sets the umask."""
+    process.paths.umask = arguments.octal(call.argument(0))
 
 
 def on_chroot(files: LiveFiles, process: Process, call: Call) -> None:
-    path = arguments.path(call.word(0)) or '/'
-    files.report('chroot: paths of that process mean other files from here on', path)
+    """Reports that paths of a process mean other files from here on."""
+    path = arguments.path_of_text(call.argument(0)) or '/'
+    files.recording.report('chroot: paths of that process mean other files from here on', path)
 
 
 HANDLERS = {
