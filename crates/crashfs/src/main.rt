@@ -102,7 +102,7 @@ where
     let mut faults = Vec::new(alloc);
     let status = match &ask.job {
         Job::List(options) => list_with(alloc, &inputs, *options, &mut out, &mut faults),
-        Job::Tar(states) => tar_of(alloc, &inputs, states, &mut out, &mut faults),
+        Job::Tar(options) => tar_of(alloc, &inputs, options, &mut out, &mut faults),
         Job::Picks(options) => {
             picks_of(alloc, &inputs, sets_of(*options), &mut out, &mut faults)
         }

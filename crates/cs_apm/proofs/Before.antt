@@ -1,5 +1,5 @@
 -- A file before any operation.
-use Rattle.std.proofs.Common.{◌≡◌, ℕ, zero, suc, ◌+◌, ◌<◌, ◌≤◌, Bool, true, false, List, [], ◌∷◌, ◌++◌, length, get_or, refl, sym, ap, ◌∙◌}
+use Rattle.std.proofs.Common.{◌≡◌, ℕ, zero, suc, ◌+◌, ◌-◌, ◌<◌, ◌≤◌, Bool, true, false, List, [], ◌∷◌, ◌++◌, length, get_or, sym, ap, ◌∙◌}
 use Rattle.std.proofs.Common.{subst, ⊎_elim, arith, length-append, map}
 use Rattle.std.proofs.lemmas.Bool.{cases_lt, cases_Bool, false≢true}
 use Rattle.std.proofs.lemmas.List.{get_or_append_left, get_or-map, get_or_past, length-map}
@@ -11,31 +11,28 @@ use Rattle.cs_tree_model.specs.Tree.{Path}
 use Rattle.cs_trace.specs.Traces.{Trace}
 use Rattle.cs_micro.specs.declared.micro_op.MicroOp.{MicroOp}
 use Rattle.cs_micro.specs.declared.micro_op.MicroOp.TheVariants.{Say}
-use Rattle.cs_apm.specs.Atlases.{AreChanged, AreStarts, content_before, files_left, no_record}
+use Rattle.cs_apm.specs.Atlases.{AreChanged, AreStarts, content_before, files_left}
+use Rattle.cs_apm.specs.States.{no_record}
 use Rattle.cs_apm.specs.Contents.{changes_file, content_left}
 use Rattle.cs_apm.specs.Rules.{op_at}
-use Rattle.cs_apm.specs.States.{Content, bytes_of, content_at, content_of, empty_files, no_content, owner_at, owners_made, owners_of}
+use Rattle.cs_apm.specs.States.{Content, bytes_of, content_at, content_of, files_made, no_content, owner_at, owners_made, owners_of}
 use Rattle.cs_apm.specs.States.{start_state, state_of, with_created}
 use Rattle.cs_apm.proofs.Contents.{content_idle, file_left}
+use Rattle.cs_apm.proofs.FilesMade.{length-files_made}
 
-all_same : {X Y : Type 0} (d : Y) (xs : List X) (n : ℕ) → get_or (map (λ _. d) xs) n d ≡ d
-all_same d [] n = refl
-all_same d (x ∷ xs) zero = refl
-all_same d (x ∷ xs) (suc n) = all_same d xs n
-
-behind : {X Y : Type 0} (d : Y) (ys : List Y) (xs : List X) (n : ℕ) → length ys ≤ n → get_or (ys ++ map (λ _. d) xs) n d ≡ d
-behind d [] xs n high = all_same d xs n
-behind d (y ∷ ys) xs zero high = absurd (omega (arith, high))
-behind d (y ∷ ys) xs (suc n) high = behind d ys xs n (omega (arith, high))
+behind : {Y : Type 0} (d : Y) (xs ys : List Y) (n : ℕ) → length xs ≤ n → get_or (xs ++ ys) n d ≡ get_or ys (n - length xs) d
+behind d [] ys n high = (let same : n ≡ n - 0 = omega arith in ap (λ k. get_or ys k d) same)
+behind d (x ∷ xs) ys zero high = absurd (omega (arith, high))
+behind d (x ∷ xs) ys (suc n) high =
+    let same : n - length xs ≡ suc n - length (x ∷ xs) = omega (arith, high) in
+    behind d xs ys n (omega (arith, high)) ∙ ap (λ k. get_or ys k d) same
 
 module _ (t : Trace) (ops : List MicroOp) (starts : List ℕ) (are : AreStarts t starts) (n : ℕ) where
-  pub made_before : (items : List ℕ) (content : Content) → length starts ≤ n → items ≡ [] → content ≡ record {
-    size = length items;
-    bytes = items;
-  } → content ≡ content_before t ops n
-  made_before items content high none is =
-      is ∙ ap (λ (v : List ℕ). let c : Content = record { size = length v; bytes = v } in c) none
-      ∙ sym (behind no_content (map (content_at t.records) t.files) (owners_made ops) n
+  pub made_before : (content : Content) → length starts ≤ n → content ≡ get_or (files_made ops) (n - length starts) no_content
+      → content ≡ content_before t ops n
+  made_before content high is =
+      is ∙ ap (λ k. get_or (files_made ops) (n - k) no_content) (are.long ∙ sym (length-map t.files (content_at t.records)))
+      ∙ sym (behind no_content (map (content_at t.records) t.files) (files_made ops) n
       (let long = are.long in let same = length-map t.files (content_at t.records) in omega (arith, high, long, same)))
 
   pub start_before : (e : Path × Record) (items : List ℕ) (content : Content) → n < length starts
@@ -47,7 +44,7 @@ module _ (t : Trace) (ops : List MicroOp) (starts : List ℕ) (are : AreStarts t
       ∙ ap (λ (w : Path × Record). content_of w.1) read
       ∙ are.content n low
       ∙ sym (get_or-map (content_at t.records) t.files n [] no_content inside)
-      ∙ sym (get_or_append_left (map (content_at t.records) t.files) (empty_files ops) no_content n
+      ∙ sym (get_or_append_left (map (content_at t.records) t.files) (files_made ops) no_content n
       (let same_length = length-map t.files (content_at t.records) in omega (arith, inside, same_length)))
 
 none_changed : (n : ℕ) (ops : List MicroOp) (k : ℕ) → list_any (changes_file n) ops ≡ false → changes_file n (op_at ops k) ≡ false
@@ -70,10 +67,10 @@ unflagged n count ops changed flag f places are low read is =
 -- ---- what a set leaves of each file
 
 module _ (t : Trace) (ops : List MicroOp) (places : List ℕ) where
-  as_many : length (map (content_at t.records) t.files ++ empty_files ops) ≡ length (owners_of t ops)
+  as_many : length (map (content_at t.records) t.files ++ files_made ops) ≡ length (owners_of t ops)
   as_many =
-      length-append (map (content_at t.records) t.files) (empty_files ops)
-      ∙ (λ w. length-map t.files (content_at t.records) w + length-map (owners_made ops) (λ _. no_content) w)
+      length-append (map (content_at t.records) t.files) (files_made ops)
+      ∙ (λ w. length-map t.files (content_at t.records) w + length-files_made ops w)
       ∙ sym (length-append (map (owner_at t.records) t.files) (owners_made ops) ∙ ap (λ k. k + length (owners_made ops))
       (length-map t.files (owner_at t.records)))
 

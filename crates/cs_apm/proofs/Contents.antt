@@ -53,10 +53,10 @@ with_file_at files file n g low = ⊎_elim
 length_files : (files : List Content) (o : MicroOp) → length (files_after files o) ≡ length files
 length_files files (ChangeFileSize file size) = length-set files file _
 length_files files (WriteBlock file block start at bytes) = length-set files file _
-length_files files (CreateDirEntry p node rights) = refl
-length_files files (DeleteDirEntry p kind) = refl
-length_files files (MoveDirEntry p q) = refl
-length_files files (LinkDirEntry p file) = refl
+length_files files (CreateDirEntry e node rights bytes) = refl
+length_files files (DeleteDirEntry e node) = refl
+length_files files (MoveDirEntry a b node old) = refl
+length_files files (LinkDirEntry e kind file old half) = refl
 length_files files (SetAttr target rights) = refl
 length_files files Say = refl
 
@@ -65,10 +65,10 @@ one_file : (files : List Content) (n : ℕ) (o : MicroOp) → n < length files
 one_file files n (ChangeFileSize file size) low = with_file_at files file n (λ f. content_after_op f (ChangeFileSize file size)) low
 one_file files n (WriteBlock file block start at bytes) low =
     with_file_at files file n (λ f. content_after_op f (WriteBlock file block start at bytes)) low
-one_file files n (CreateDirEntry p node rights) low = refl
-one_file files n (DeleteDirEntry p kind) low = refl
-one_file files n (MoveDirEntry p q) low = refl
-one_file files n (LinkDirEntry p file) low = refl
+one_file files n (CreateDirEntry e node rights bytes) low = refl
+one_file files n (DeleteDirEntry e node) low = refl
+one_file files n (MoveDirEntry a b node old) low = refl
+one_file files n (LinkDirEntry e kind file old half) low = refl
 one_file files n (SetAttr target rights) low = refl
 one_file files n Say low = refl
 

@@ -1,10 +1,7 @@
 -- Entries of the table.
-use Rattle.std.specs.Option.{option_map_or}
-use Rattle.std.proofs.lemmas.Option.{slice_get-get_or, slice_get_read, slice_get_past}
+use Rattle.cs_trace_lines.specs.declared.profile.Profile.{Profile}
 use Rattle.cs_trace_lines.specs.declared.version.Version.{Version}
-use Rattle.cs_apm.specs.declared.row.Row.{Row}
-use Rattle.cs_apm.specs.Bits.{has_place}
-use Rattle.std.proofs.Common.{◌≡◌, ℕ, zero, suc, ◌∷◌, ◌+◌, ◌<◌, ◌≤◌, Bool, false, List, [], length, map, get_or, refl, sym, ap, ◌∙◌, subst}
+use Rattle.std.proofs.Common.{◌≡◌, ℕ, zero, suc, ◌∷◌, ◌+◌, ◌<◌, ◌≤◌, Bool, false, List, [], length, map, get_or, refl, sym, ap, ◌∙◌}
 use Rattle.std.proofs.Common.{⊎_elim, arith}
 use Rattle.std.proofs.lemmas.Bool.{cases_lt}
 use Rattle.std.proofs.lemmas.List.{get_or_past}
@@ -13,8 +10,7 @@ use Rattle.std.specs.List.{range_with_len}
 use Rattle.cs_micro.specs.declared.micro_op.MicroOp.{MicroOp}
 use Rattle.cs_micro.specs.declared.sync_point.SyncPoint.{SyncPoint}
 use Rattle.cs_apm.specs.Rules.{needs}
-use Rattle.cs_apm.specs.Orders.{table, needs_in}
-use Rattle.cs_apm.specs.Rows.{AreRows, bit_in}
+use Rattle.cs_sets.specs.Orders.{table, needs_in}
 use Rattle.cs_apm.proofs.Filling.{needs_later}
 
 pub length_table : (need : ℕ → ℕ → Bool) (n : ℕ) → length (table need n) ≡ n
@@ -31,9 +27,9 @@ entry need n i j later low =
     (omega (arith, h, length-map-range_with_len (λ i. need i j) 0 j)) ∙ sym (later i j h))
     (cases_lt i j)
 
-pub entry_of_rules : (ops : List MicroOp) (syncs : List SyncPoint) (version : Version) (n i j : ℕ) → j < n
-    → needs_in (table (needs ops syncs version) n) i j ≡ needs ops syncs version i j
-entry_of_rules ops syncs version n i j low = entry (needs ops syncs version) n i j (λ a b h. needs_later ops syncs version a b h) low
+pub entry_of_rules : (ops : List MicroOp) (syncs : List SyncPoint) (version : Version) (profile : Profile) (n i j : ℕ) → j < n
+    → needs_in (table (needs ops syncs version profile) n) i j ≡ needs ops syncs version profile i j
+entry_of_rules ops syncs version profile n i j low = entry (needs ops syncs version profile) n i j (λ a b h. needs_later ops syncs version profile a b h) low
 
 map_same : {X : Type 0} (f g : ℕ → X) (a n : ℕ) → ((k : ℕ) → k < a + n → f k ≡ g k)
     → map f (range_with_len a n) ≡ map g (range_with_len a n)
@@ -47,18 +43,3 @@ unfolding table
 table_same p q n same =
     map_same (λ j. map (λ i. p i j) (range_with_len 0 j)) (λ j. map (λ i. q i j) (range_with_len 0 j)) 0 n
     (λ j l. map_same (λ i. p i j) (λ i. q i j) 0 j (λ i m. same i j (omega (arith, l))))
-
-pub bits_say : (need : ℕ → ℕ → Bool) (n : ℕ) (rows : List Row) (d : Row) → AreRows need n rows → (i j : ℕ) → j < n
-    → bit_in rows i j ≡ need i j
-unfolding bit_in
-bits_say need n rows d are i j low =
-    let there = slice_get-get_or rows j d (subst (λ m. j < m) (sym are.long) low) in
-    ap (λ o. option_map_or (λ r. has_place r i) o false) there ∙ are.each j (get_or rows j d) there i
-
-pub bit_read : (rows : List Row) (j i : ℕ) (x : Row) → j < length rows → x ≡ get_or rows j x → bit_in rows i j ≡ has_place x i
-unfolding bit_in
-bit_read rows j i x low is = ap (λ o. option_map_or (λ r. has_place r i) o false) (slice_get_read rows (length rows) j x refl low is)
-
-pub bits_past : (rows : List Row) (i j : ℕ) → length rows ≤ j → bit_in rows i j ≡ false
-unfolding bit_in
-bits_past rows i j high = ap (λ o. option_map_or (λ r. has_place r i) o false) (slice_get_past rows j high)

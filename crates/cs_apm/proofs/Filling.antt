@@ -4,9 +4,10 @@ use Rattle.std.proofs.Common.{sym, ap, ◌∙◌, subst, ⊎_elim, arith}
 use Rattle.std.proofs.lemmas.Bool.{cases_eq, cases_lt, lt-ltb, le-ltb, eq-eqb, ne_eqb}
 use Rattle.std.proofs.lemmas.List.{length_push, get_or_append_left, get_or_at}
 use Rattle.std.proofs.lemmas.Option.{slice_get-get_or, slice_get_within, get_or_from_slice_get}
+use Rattle.cs_trace_lines.specs.declared.profile.Profile.{Profile}
 use Rattle.cs_trace_lines.specs.declared.version.Version.{Version}
-use Rattle.cs_apm.specs.declared.row.Row.{Row}
-use Rattle.cs_apm.specs.Bits.{has_place}
+use Rattle.cs_sets.specs.declared.row.Row.{Row}
+use Rattle.cs_sets.specs.Bits.{has_place}
 use Rattle.cs_micro.specs.declared.micro_op.MicroOp.{MicroOp}
 use Rattle.cs_micro.specs.declared.sync_point.SyncPoint.{SyncPoint}
 use Rattle.cs_apm.specs.Rules.{needs}
@@ -47,15 +48,15 @@ filled_skip need j row w is filled i = filled i ∙ ⊎_elim
     (λ (e : i ≡ w → ⊥). let t = ne_eqb i w e in ap (λ b. b && need i j) (sym (tests_more i w ∙ ap (λ b. b || nat_lt i w) t)))
     (cases_eq i w)
 
-pub needs_later : (ops : List MicroOp) (syncs : List SyncPoint) (version : Version) (i j : ℕ) → j ≤ i → needs ops syncs version i j ≡ false
+pub needs_later : (ops : List MicroOp) (syncs : List SyncPoint) (version : Version) (profile : Profile) (i j : ℕ) → j ≤ i → needs ops syncs version profile i j ≡ false
 unfolding needs
-needs_later ops syncs version i j h = let e : nat_lt i j ≡ false = le-ltb i j h in rw e refl
+needs_later ops syncs version profile i j h = let e : nat_lt i j ≡ false = le-ltb i j h in rw e refl
 
-pub filled_all : (ops : List MicroOp) (syncs : List SyncPoint) (version : Version) (j : ℕ) (row : Row)
-    → IsFilled (needs ops syncs version) j row j → IsRow (needs ops syncs version) j row
-filled_all ops syncs version j row filled i = filled i ∙ ⊎_elim
-    (λ (l : i < j). ap (λ b. b && needs ops syncs version i j) (lt-ltb i j l))
-    (λ (h : j ≤ i). ap (λ b. b && needs ops syncs version i j) (le-ltb i j h) ∙ sym (needs_later ops syncs version i j h))
+pub filled_all : (ops : List MicroOp) (syncs : List SyncPoint) (version : Version) (profile : Profile) (j : ℕ) (row : Row)
+    → IsFilled (needs ops syncs version profile) j row j → IsRow (needs ops syncs version profile) j row
+filled_all ops syncs version profile j row filled i = filled i ∙ ⊎_elim
+    (λ (l : i < j). ap (λ b. b && needs ops syncs version profile i j) (lt-ltb i j l))
+    (λ (h : j ≤ i). ap (λ b. b && needs ops syncs version profile i j) (le-ltb i j h) ∙ sym (needs_later ops syncs version profile i j h))
     (cases_lt i j)
 
 pub rows_more : (need : ℕ → ℕ → Bool) (n : ℕ) (rows : List Row) (row : Row) → AreRows need n rows → IsRow need n row

@@ -8,15 +8,15 @@ use Rattle.std.proofs.lemmas.List.Folds.{list_any-append}
 use Rattle.std.proofs.lemmas.Option.{get_or_from_slice_get, slice_get-get_or, slice_get_within}
 use Rattle.std.specs.List.{list_any}
 use Rattle.std.specs.Prelude.{slice_get, slice_set}
-use Rattle.cs_trace.specs.declared.operation.Node.TheVariants as nodes
+use Rattle.cs_entries.specs.declared.node.Node.TheVariants.{Directory, File}
 use Rattle.cs_micro.specs.declared.micro_op.MicroOp.{MicroOp}
 use Rattle.cs_micro.specs.declared.micro_op.MicroOp.TheVariants.{CreateDirEntry, DeleteDirEntry, MoveDirEntry, LinkDirEntry, ChangeFileSize}
 use Rattle.cs_micro.specs.declared.micro_op.MicroOp.TheVariants.{WriteBlock, SetAttr, Say}
 use Rattle.cs_apm.specs.Atlases.{AreChanged}
 use Rattle.cs_apm.specs.Making.{with_file_marked}
 use Rattle.cs_apm.specs.Contents.{changes_file}
-use Rattle.cs_apm.specs.Laws.Chains.{or_false}
-use Rattle.cs_apm.specs.States.{owners_made}
+use Rattle.cs_sets.specs.Laws.Members.{or_false}
+use Rattle.cs_apm.specs.States.{directories_made, owners_made}
 
 -- a slice that was changed is put back
 pub put_back : {X : Type 0} (xs ys : List X) (n : ℕ) → length xs ≡ length ys → n ≡ length ys → take n (xs ++ drop (length xs) ys) ≡ xs
@@ -25,10 +25,10 @@ put_back xs ys n same is =
     (append-nil xs) ∙ take-length xs
 
 pub length-marked : (flags : List Bool) (o : MicroOp) → length (with_file_marked flags o) ≡ length flags
-length-marked flags (CreateDirEntry p node rights) = refl
-length-marked flags (DeleteDirEntry p kind) = refl
-length-marked flags (MoveDirEntry p q) = refl
-length-marked flags (LinkDirEntry p file) = refl
+length-marked flags (CreateDirEntry e node rights bytes) = refl
+length-marked flags (DeleteDirEntry e node) = refl
+length-marked flags (MoveDirEntry a b node old) = refl
+length-marked flags (LinkDirEntry e kind file old half) = refl
 length-marked flags (ChangeFileSize file size) = length-set flags file true
 length-marked flags (WriteBlock file block start at bytes) = length-set flags file true
 length-marked flags (SetAttr target rights) = refl
@@ -63,10 +63,10 @@ changed_more ops count flags o are = record {
   where
     one : (o : MicroOp) (n : ℕ) (flag : Bool) → slice_get (with_file_marked flags o) n ≡ Some flag
         → flag ≡ (list_any (changes_file n) ops || list_any (changes_file n) (o ∷ []))
-    one (CreateDirEntry p node rights) n flag there = are.each n flag there ∙ sym (or_false (list_any (changes_file n) ops))
-    one (DeleteDirEntry p kind) n flag there = are.each n flag there ∙ sym (or_false (list_any (changes_file n) ops))
-    one (MoveDirEntry p q) n flag there = are.each n flag there ∙ sym (or_false (list_any (changes_file n) ops))
-    one (LinkDirEntry p file) n flag there = are.each n flag there ∙ sym (or_false (list_any (changes_file n) ops))
+    one (CreateDirEntry e node rights bytes) n flag there = are.each n flag there ∙ sym (or_false (list_any (changes_file n) ops))
+    one (DeleteDirEntry e node) n flag there = are.each n flag there ∙ sym (or_false (list_any (changes_file n) ops))
+    one (MoveDirEntry a b node old) n flag there = are.each n flag there ∙ sym (or_false (list_any (changes_file n) ops))
+    one (LinkDirEntry e kind file old half) n flag there = are.each n flag there ∙ sym (or_false (list_any (changes_file n) ops))
     one (ChangeFileSize file size) n flag there = set_flag flags file n flag (list_any (changes_file n) ops) (are.each n) there
     one (WriteBlock file block start at bytes) n flag there = set_flag flags file n flag (list_any (changes_file n) ops) (are.each n) there
     one (SetAttr target rights) n flag there = are.each n flag there ∙ sym (or_false (list_any (changes_file n) ops))
@@ -74,12 +74,24 @@ changed_more ops count flags o are = record {
 
 pub owners_made-append : (xs ys : List MicroOp) → owners_made (xs ++ ys) ≡ owners_made xs ++ owners_made ys
 owners_made-append [] ys = refl
-owners_made-append (CreateDirEntry p (nodes.File file) rights ∷ xs) ys = ap (λ os. rights ∷ os) (owners_made-append xs ys)
-owners_made-append (CreateDirEntry p nodes.Directory rights ∷ xs) ys = owners_made-append xs ys
-owners_made-append (DeleteDirEntry p kind ∷ xs) ys = owners_made-append xs ys
-owners_made-append (MoveDirEntry p q ∷ xs) ys = owners_made-append xs ys
-owners_made-append (LinkDirEntry p file ∷ xs) ys = owners_made-append xs ys
+owners_made-append (CreateDirEntry e (File kind file) rights bytes ∷ xs) ys = ap (λ os. rights ∷ os) (owners_made-append xs ys)
+owners_made-append (CreateDirEntry e (Directory d) rights bytes ∷ xs) ys = owners_made-append xs ys
+owners_made-append (DeleteDirEntry e node ∷ xs) ys = owners_made-append xs ys
+owners_made-append (MoveDirEntry a b node old ∷ xs) ys = owners_made-append xs ys
+owners_made-append (LinkDirEntry e kind file old half ∷ xs) ys = owners_made-append xs ys
 owners_made-append (ChangeFileSize file size ∷ xs) ys = owners_made-append xs ys
 owners_made-append (WriteBlock file block start at bytes ∷ xs) ys = owners_made-append xs ys
 owners_made-append (SetAttr target rights ∷ xs) ys = owners_made-append xs ys
 owners_made-append (Say ∷ xs) ys = owners_made-append xs ys
+
+pub directories_made-append : (xs ys : List MicroOp) → directories_made (xs ++ ys) ≡ directories_made xs ++ directories_made ys
+directories_made-append [] ys = refl
+directories_made-append (CreateDirEntry e (File kind file) rights bytes ∷ xs) ys = directories_made-append xs ys
+directories_made-append (CreateDirEntry e (Directory d) rights bytes ∷ xs) ys = ap (λ os. rights ∷ os) (directories_made-append xs ys)
+directories_made-append (DeleteDirEntry e node ∷ xs) ys = directories_made-append xs ys
+directories_made-append (MoveDirEntry a b node old ∷ xs) ys = directories_made-append xs ys
+directories_made-append (LinkDirEntry e kind file old half ∷ xs) ys = directories_made-append xs ys
+directories_made-append (ChangeFileSize file size ∷ xs) ys = directories_made-append xs ys
+directories_made-append (WriteBlock file block start at bytes ∷ xs) ys = directories_made-append xs ys
+directories_made-append (SetAttr target rights ∷ xs) ys = directories_made-append xs ys
+directories_made-append (Say ∷ xs) ys = directories_made-append xs ys

@@ -1,28 +1,31 @@
 -- Owner, group and permissions that a set leaves of a file, member by member, and of all files by their
 -- numbers.
-use Rattle.std.proofs.Common.{◌≡◌, ◌≢◌, ℕ, ◌+◌, ◌<◌, ◌==◌, cond, List, [], ◌∷◌, Option, Some, length, take, get_or, refl, sym, ap, ◌∙◌}
+use Rattle.std.proofs.Common.{◌≡◌, ◌≢◌, ℕ, ◌+◌, ◌<◌, ◌==◌, cond, List, [], ◌∷◌, length, take, get_or, refl, sym, ap, ◌∙◌}
 use Rattle.std.proofs.Common.{subst, ⊎_elim, map}
 use Rattle.std.proofs.lemmas.Bool.{cases_eq, eq-eqb, ne_eqb}
 use Rattle.std.proofs.lemmas.List.{length-set, get_or-set_same, get_or-set_other, map_more}
 use Rattle.std.proofs.lemmas.List.Sums.{fold_push}
-use Rattle.std.specs.Option.{option_map}
 use Rattle.std.specs.Prelude.{fold, slice_set}
-use Rattle.cs_tree_model.specs.declared.record.Record.{Record}
-use Rattle.cs_tree_model.specs.Fresh.{fresh_record}
-use Rattle.cs_trace.specs.declared.operation.Rights.{Rights}
+use Rattle.cs_entries.specs.declared.node.Node.TheVariants.{Directory, File}
+use Rattle.cs_start.specs.declared.rights.Rights.{Rights}
 use Rattle.cs_trace.specs.declared.operation.Target.TheVariants as targets
 use Rattle.cs_trace.specs.Traces.{Trace}
 use Rattle.cs_micro.specs.declared.micro_op.MicroOp.{MicroOp}
 use Rattle.cs_micro.specs.declared.micro_op.MicroOp.TheVariants.{CreateDirEntry, DeleteDirEntry, MoveDirEntry, LinkDirEntry, ChangeFileSize}
 use Rattle.cs_micro.specs.declared.micro_op.MicroOp.TheVariants.{WriteBlock, SetAttr, Say}
-use Rattle.cs_apm.specs.Atlases.{files_left, owners_left}
-use Rattle.cs_apm.specs.Owners.{owner_after, owner_left}
+use Rattle.cs_apm.specs.Atlases.{directories_left, owners_left}
+use Rattle.cs_apm.specs.Owners.{directory_after, directory_left, owner_after, owner_left}
 use Rattle.cs_apm.specs.Rules.{op_at}
-use Rattle.cs_apm.specs.Slots.{IsKnown, entry_of}
-use Rattle.cs_apm.specs.States.{State, state_after, no_content, no_rights, owners_after, owners_of, record_of, record_with, start_state}
-use Rattle.cs_apm.specs.States.{state_of, visible, with_created}
-use Rattle.cs_apm.specs.declared.slot.Slot.{Slot}
-use Rattle.cs_apm.specs.declared.slot.Slot.TheVariants.{File}
+use Rattle.cs_apm.specs.States.{State, directories_after, directories_of, no_rights, owners_after, owners_of, start_state, state_after}
+use Rattle.cs_apm.specs.States.{state_of, with_created}
+
+module _ (step : Rights → MicroOp → Rights) (owner : Rights) (ops : List MicroOp) (places : List ℕ) where
+  fold_more : (k : ℕ) → k < length places
+      → fold step owner (map (op_at ops) (take (k + 1) places))
+      ≡ step (fold step owner (map (op_at ops) (take k places))) (op_at ops (get_or places k 0))
+  fold_more k low =
+      ap (fold step owner) (map_more (op_at ops) places k 0 low)
+      ∙ fold_push step owner (map (op_at ops) (take k places)) (op_at ops (get_or places k 0))
 
 module _ (n : ℕ) (owner : Rights) (ops : List MicroOp) (places : List ℕ) where
   pub owner_none : owner ≡ owner_left n owner ops (take 0 places)
@@ -33,9 +36,17 @@ module _ (n : ℕ) (owner : Rights) (ops : List MicroOp) (places : List ℕ) whe
       → owner_left n owner ops (take (k + 1) places)
       ≡ owner_after n (owner_left n owner ops (take k places)) (op_at ops (get_or places k 0))
   unfolding owner_left
-  owner_more k low =
-      ap (fold (owner_after n) owner) (map_more (op_at ops) places k 0 low) ∙ fold_push (owner_after n) owner
-      (map (op_at ops) (take k places)) (op_at ops (get_or places k 0))
+  owner_more = fold_more (owner_after n) owner ops places
+
+  pub directory_none : owner ≡ directory_left n owner ops (take 0 places)
+  unfolding directory_left
+  directory_none = refl
+
+  pub directory_more : (k : ℕ) → k < length places
+      → directory_left n owner ops (take (k + 1) places)
+      ≡ directory_after n (directory_left n owner ops (take k places)) (op_at ops (get_or places k 0))
+  unfolding directory_left
+  directory_more = fold_more (directory_after n) owner ops places
 
 -- ---- all files
 
@@ -50,26 +61,26 @@ set_at owners file n rights low = ⊎_elim
     (cases_eq file n)
 
 length_owners : (owners : List Rights) (o : MicroOp) → length (owners_after owners o) ≡ length owners
-length_owners owners (CreateDirEntry p node rights) = refl
-length_owners owners (DeleteDirEntry p kind) = refl
-length_owners owners (MoveDirEntry p q) = refl
-length_owners owners (LinkDirEntry p file) = refl
+length_owners owners (CreateDirEntry e node rights bytes) = refl
+length_owners owners (DeleteDirEntry e node) = refl
+length_owners owners (MoveDirEntry a b node old) = refl
+length_owners owners (LinkDirEntry e kind file old half) = refl
 length_owners owners (ChangeFileSize file size) = refl
 length_owners owners (WriteBlock file block start at bytes) = refl
 length_owners owners (SetAttr (targets.File file) rights) = length-set owners file rights
-length_owners owners (SetAttr (targets.Directory p) rights) = refl
+length_owners owners (SetAttr (targets.Directory d path) rights) = refl
 length_owners owners Say = refl
 
 one_owner : (owners : List Rights) (n : ℕ) (o : MicroOp) → n < length owners
     → get_or (owners_after owners o) n no_rights ≡ owner_after n (get_or owners n no_rights) o
-one_owner owners n (CreateDirEntry p node rights) low = refl
-one_owner owners n (DeleteDirEntry p kind) low = refl
-one_owner owners n (MoveDirEntry p q) low = refl
-one_owner owners n (LinkDirEntry p file) low = refl
+one_owner owners n (CreateDirEntry e node rights bytes) low = refl
+one_owner owners n (DeleteDirEntry e node) low = refl
+one_owner owners n (MoveDirEntry a b node old) low = refl
+one_owner owners n (LinkDirEntry e kind file old half) low = refl
 one_owner owners n (ChangeFileSize file size) low = refl
 one_owner owners n (WriteBlock file block start at bytes) low = refl
 one_owner owners n (SetAttr (targets.File file) rights) low = set_at owners file n rights low
-one_owner owners n (SetAttr (targets.Directory p) rights) low = refl
+one_owner owners n (SetAttr (targets.Directory d path) rights) low = refl
 one_owner owners n Say low = refl
 
 fold_owner : (owners : List Rights) (n : ℕ) (os : List MicroOp) → n < length owners
@@ -83,7 +94,45 @@ owners_fold : (s : State) (os : List MicroOp) → (fold state_after s os).owners
 owners_fold s [] = refl
 owners_fold s (o ∷ os) = owners_fold (state_after s o) os
 
--- each file's in a state are what the set leaves of them
+-- ---- all directories
+
+length_directories : (all : List Rights) (o : MicroOp) → length (directories_after all o) ≡ length all
+length_directories all (CreateDirEntry e (Directory d) rights bytes) = length-set all d rights
+length_directories all (CreateDirEntry e (File kind file) rights bytes) = refl
+length_directories all (DeleteDirEntry e node) = refl
+length_directories all (MoveDirEntry a b node old) = refl
+length_directories all (LinkDirEntry e kind file old half) = refl
+length_directories all (ChangeFileSize file size) = refl
+length_directories all (WriteBlock file block start at bytes) = refl
+length_directories all (SetAttr (targets.File file) rights) = refl
+length_directories all (SetAttr (targets.Directory d path) rights) = length-set all d rights
+length_directories all Say = refl
+
+one_directory : (all : List Rights) (n : ℕ) (o : MicroOp) → n < length all
+    → get_or (directories_after all o) n no_rights ≡ directory_after n (get_or all n no_rights) o
+one_directory all n (CreateDirEntry e (Directory d) rights bytes) low = set_at all d n rights low
+one_directory all n (CreateDirEntry e (File kind file) rights bytes) low = refl
+one_directory all n (DeleteDirEntry e node) low = refl
+one_directory all n (MoveDirEntry a b node old) low = refl
+one_directory all n (LinkDirEntry e kind file old half) low = refl
+one_directory all n (ChangeFileSize file size) low = refl
+one_directory all n (WriteBlock file block start at bytes) low = refl
+one_directory all n (SetAttr (targets.File file) rights) low = refl
+one_directory all n (SetAttr (targets.Directory d path) rights) low = set_at all d n rights low
+one_directory all n Say low = refl
+
+fold_directory : (all : List Rights) (n : ℕ) (os : List MicroOp) → n < length all
+    → get_or (fold directories_after all os) n no_rights ≡ fold (directory_after n) (get_or all n no_rights) os
+fold_directory all n [] low = refl
+fold_directory all n (o ∷ os) low =
+    fold_directory (directories_after all o) n os (subst (λ k. n < k) (sym (length_directories all o)) low)
+    ∙ ap (λ r. fold (directory_after n) r os) (one_directory all n o low)
+
+directories_fold : (s : State) (os : List MicroOp) → (fold state_after s os).directories ≡ fold directories_after s.directories os
+directories_fold s [] = refl
+directories_fold s (o ∷ os) = directories_fold (state_after s o) os
+
+-- what is of each in a state is what the set leaves of it
 module _ (t : Trace) (ops : List MicroOp) (places : List ℕ) where
   pub left_owner : (n : ℕ) → n < length (owners_of t ops)
       → owner_left n (get_or (owners_of t ops) n no_rights) ops places ≡ get_or (owners_left t ops places) n no_rights
@@ -92,18 +141,9 @@ module _ (t : Trace) (ops : List MicroOp) (places : List ℕ) where
       ap (λ owners. get_or owners n no_rights) (owners_fold (with_created (start_state t) ops) (map (op_at ops) places))
       ∙ fold_owner (owners_of t ops) n (map (op_at ops) places) low)
 
-  -- the record of a file's slot
-  pub file_record : (n number : ℕ) (table : List Rights) (slot : Slot) (owners : List Rights) (owner : Rights) (content : Option (List ℕ))
-      (r : Record) → slot ≡ File n → IsKnown (length table) (length owners) slot
-      → owners ≡ owners_of t ops → owner ≡ owner_left n (get_or owners n no_rights) ops places
-      → content ≡ Some (visible (get_or (files_left t ops places) n no_content)) → r ≡ fresh_record number (record_with owner 0 content)
-      → Some r ≡ option_map (λ e. fresh_record number (record_of (owners_left t ops places) (files_left t ops places) e))
-      (entry_of table slot)
-  file_record n number table slot owners owner content r at known are owns holds is =
-      let low : n < length (owners_of t ops) = subst (λ os. n < length os) are (subst (IsKnown (length table) (length owners)) at known) in
-      let left : owner ≡ get_or (owners_left t ops places) n no_rights =
-      owns ∙ ap (λ os. owner_left n (get_or os n no_rights) ops places) are ∙ left_owner n low in
-      ap Some (is ∙ (λ w. fresh_record number (record_with (left w) 0 (holds w))))
-      ∙ sym (ap
-      (λ s. option_map (λ e. fresh_record number (record_of (owners_left t ops places) (files_left t ops places) e)) (entry_of table s))
-      at)
+  pub left_directory : (n : ℕ) → n < length (directories_of t ops)
+      → directory_left n (get_or (directories_of t ops) n no_rights) ops places ≡ get_or (directories_left t ops places) n no_rights
+  unfolding directories_left directory_left state_of
+  left_directory n low = sym (
+      ap (λ all. get_or all n no_rights) (directories_fold (with_created (start_state t) ops) (map (op_at ops) places))
+      ∙ fold_directory (directories_of t ops) n (map (op_at ops) places) low)

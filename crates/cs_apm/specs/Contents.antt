@@ -1,7 +1,7 @@
 -- What a set leaves of one file.
 use Rattle.std.specs.Prelude.{ℕ, ◌+◌, ◌≤◌, ◌==◌, if◌then◌else◌, Bool, false, List, length, fold}
 use Rattle.std.specs.Prelude.{map}
-use Rattle.cs_names.specs.declared.limits.TheConstants.{FILE_BYTES}
+use Rattle.cs_trace.specs.declared.limits.TheConstants.{LARGE_FILE_BYTES}
 use Rattle.cs_micro.specs.declared.micro_op.MicroOp.{MicroOp}
 use Rattle.cs_micro.specs.declared.micro_op.MicroOp.TheVariants.{ChangeFileSize, WriteBlock}
 use Rattle.cs_apm.specs.Rules.{op_at}
@@ -29,5 +29,5 @@ content_left n content ops places = fold (content_after n) content (map (op_at o
 
 -- a block's bytes lie within the largest file
 abbrev pub IsSmall : MicroOp → Type 0
-IsSmall (WriteBlock file block start at bytes) = start + at + length bytes ≤ FILE_BYTES
+IsSmall (WriteBlock file block start at bytes) = start + at + length bytes ≤ LARGE_FILE_BYTES
 IsSmall _ = Unit {0}

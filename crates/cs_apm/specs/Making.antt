@@ -1,44 +1,48 @@
 -- What holds while the tables of an atlas are made; for private clauses.
-use Rattle.std.specs.Prelude.{◌≡◌, ◌<◌, ℕ, ◌⊎◌, Bool, true, List, length, slice_index_or, slice_set}
-use Rattle.std.specs.List.{Contains}
-use Rattle.cs_tree_model.specs.declared.record.Record.{Record}
-use Rattle.cs_tree_model.specs.Tree.{Path}
-use Rattle.cs_trace.specs.declared.operation.Node.{Node}
-use Rattle.cs_trace.specs.declared.operation.Node.TheVariants as nodes
+use Rattle.std.specs.Prelude.{◌≡◌, ◌<◌, ℕ, Bool, false, true, List, length, slice_index_or, slice_set}
+use Rattle.std.specs.List.{All, Contains}
+use Rattle.cs_entries.specs.declared.entry.Entry.{Entry}
+use Rattle.cs_entries.specs.declared.node.Node.{Node}
+use Rattle.cs_entries.specs.declared.node.Node.TheVariants.{Directory, File}
+use Rattle.cs_entries.specs.Rules.{entries_touched}
+use Rattle.cs_micro.specs.Legal.{entry_op}
 use Rattle.cs_micro.specs.declared.micro_op.MicroOp.{MicroOp}
-use Rattle.cs_micro.specs.declared.micro_op.MicroOp.TheVariants.{ChangeFileSize, WriteBlock}
-use Rattle.cs_apm.specs.Atlases.{no_record}
-use Rattle.cs_apm.specs.Rules.{paths_named, op_at}
+use Rattle.cs_micro.specs.declared.micro_op.MicroOp.TheVariants.{ChangeFileSize, CreateDirEntry}
+use Rattle.cs_micro.specs.declared.micro_op.MicroOp.TheVariants.{WriteBlock}
+use Rattle.cs_apm.specs.Held.{node_at}
+use Rattle.cs_apm.specs.Rules.{op_at}
 
--- the paths of the first n records are among these
-abbrev pub HasFirst : List Path → List (Path × Record) → ℕ → Type 0
-HasFirst paths records n = (k : ℕ) → k < n → Contains paths (slice_index_or records k no_record).0
+-- the entries that a micro-operation touches are among these
+abbrev pub HasTouched : List Entry → MicroOp → Type 0
+HasTouched entries op = All (Contains entries) (entries_touched (entry_op op))
 
--- the paths that a micro-operation names are among these
-abbrev pub HasNamed : List Path → MicroOp → Type 0
-HasNamed paths op = (p : Path) → Contains (paths_named op) p → Contains paths p
+abbrev pub HasAllTouched : List Entry → List MicroOp → ℕ → Type 0
+HasAllTouched entries ops n = (k : ℕ) → k < n → HasTouched entries (op_at ops k)
 
-abbrev pub HasAllNamed : List Path → List MicroOp → ℕ → Type 0
-HasAllNamed paths ops n = (k : ℕ) → k < n → HasNamed paths (op_at ops k)
-
--- the path is that of a record, or one of the first n micro-operations names it
-abbrev pub IsKnownPath : List (Path × Record) → List MicroOp → ℕ → Path → Type 0
-IsKnownPath records ops n path =
-    ((k : ℕ) × (k < length records) × ((slice_index_or records k no_record).0 ≡ path))
-    ⊎ ((k : ℕ) × (k < n) × Contains (paths_named (op_at ops k)) path)
-
-abbrev pub node_at : List Node → ℕ → Node
-node_at ns i = slice_index_or ns i nodes.Directory
+-- it is the file of the number
+abbrev pub IsFile : ℕ → Node → Type 0
+IsFile n (File kind file) = file ≡ n
+IsFile n (Directory d) = ⊥
 
 -- the place is noted, if the node is a file's
 abbrev pub with_file_noted : List ℕ → Node → ℕ → List ℕ
-with_file_noted starts nodes.Directory place = starts
-with_file_noted starts (nodes.File file) place = slice_set starts file place
+with_file_noted starts (Directory d) place = starts
+with_file_noted starts (File kind file) place = slice_set starts file place
 
 -- of the files, those among the first k nodes are found
 abbrev pub FindsFiles : List Node → ℕ → List ℕ → Type 0
-FindsFiles ns k starts = (n i : ℕ) → n < length starts → i < k → node_at ns i ≡ nodes.File n
-    → (slice_index_or starts n 0 < k) × (node_at ns (slice_index_or starts n 0) ≡ nodes.File n)
+FindsFiles ns k starts = (n i : ℕ) → n < length starts → i < k → IsFile n (node_at ns i)
+    → (slice_index_or starts n 0 < k) × IsFile n (node_at ns (slice_index_or starts n 0))
+
+-- the place is noted, if the node is a directory's
+abbrev pub with_directory_noted : List ℕ → Node → ℕ → List ℕ
+with_directory_noted places (Directory d) place = slice_set places d place
+with_directory_noted places (File kind file) place = places
+
+-- it makes a file or a symbolic link
+abbrev pub makes_file : MicroOp → Bool
+makes_file (CreateDirEntry e (File kind file) rights bytes) = true
+makes_file _ = false
 
 -- the flag of the file that is changed is set
 abbrev pub with_file_marked : List Bool → MicroOp → List Bool

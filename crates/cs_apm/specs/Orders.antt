@@ -1,21 +1,23 @@
 -- The order of a trace's micro-operations: for each of them, which of those before it it needs.
-use Rattle.std.specs.Prelude.{ℕ, Bool, false, List, [], length, map, slice_index_or}
-use Rattle.std.specs.List.{range_with_len}
+use Rattle.std.specs.Prelude.{ℕ, Bool, List, length}
+use Rattle.cs_sets.specs.Orders.{table}
+use Rattle.cs_trace_lines.specs.Versions.{profile_of}
+use Rattle.cs_trace_lines.specs.declared.profile.Profile.{Profile}
 use Rattle.cs_micro.specs.Micros.{Micros}
 use Rattle.cs_apm.specs.Rules as rules
 
--- a row for each place, with an entry for each place before it
-unfoldable pub table : (ℕ → ℕ → Bool) → ℕ → List (List Bool)
-table need n = map (λ j. map (λ i. need i j) (range_with_len 0 j)) (range_with_len 0 n)
+-- by the rules of the trace's version, on a file system of another profile
+abbrev pub needs_by : Micros → Profile → ℕ → ℕ → Bool
+needs_by micros profile = rules.needs micros.ops micros.syncs micros.version profile
 
--- what the table says: whether j needs i
-unfoldable pub needs_in : List (List Bool) → ℕ → ℕ → Bool
-needs_in order i j = slice_index_or (slice_index_or order j []) i false
-
--- by the ten rules
+-- on one of the trace's own profile
 abbrev pub needs_of : Micros → ℕ → ℕ → Bool
-needs_of micros = rules.needs micros.ops micros.syncs micros.version
+needs_of micros = needs_by micros (profile_of micros.version)
 
 -- the order of a trace's micro-operations
 abbrev pub order_of : Micros → List (List Bool)
 order_of micros = table (needs_of micros) (length micros.ops)
+
+-- that of another profile
+abbrev pub order_by : Micros → Profile → List (List Bool)
+order_by micros profile = table (needs_by micros profile) (length micros.ops)

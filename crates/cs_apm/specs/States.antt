@@ -1,37 +1,31 @@
 -- The state of a set of micro-operations: plain maps, and the tree that they are read as.
-use Rattle.std.specs.Prelude.{ℕ, ◌+◌, ◌-◌, ◌%◌, nat_lt, if◌then◌else◌, List, [], ◌∷◌, ◌++◌, Option}
-use Rattle.std.specs.Prelude.{None, Some, unwrap_or, length, take, drop, replicate, fold, map}
-use Rattle.std.specs.Prelude.{slice_set, slice_index_or, refl}
+use Rattle.std.specs.Prelude.{ℕ, ◌+◌, ◌-◌, ◌%◌, ◌==◌, nat_lt, if◌then◌else◌, Bool, true, false, List}
+use Rattle.std.specs.Prelude.{[], ◌∷◌, ◌++◌, Option, None, Some, unwrap_or, length, take, drop}
+use Rattle.std.specs.Prelude.{replicate, filter, fold, map, slice_set, slice_index_or, refl}
 use Rattle.std.specs.Coded.{Coded, code_by, coded×, coded_ℕ, coded_list}
-use Rattle.std.specs.FinMap.{FinMap, from_entries, get, insert, remove}
-use Rattle.std.specs.List.{zip}
+use Rattle.std.specs.FinMap.{FinMap}
+use Rattle.std.specs.List.{position_from, range_with_len}
 use Rattle.std.specs.Option.{option_map_or}
-use Rattle.cs_tree_model.specs.declared.mode.TheConstants.{DMDIR}
+use Rattle.cs_entries.specs.declared.node.FileKind.{FileKind}
+use Rattle.cs_entries.specs.declared.node.FileKind.TheVariants.{Regular, Symlink}
+use Rattle.cs_entries.specs.declared.node.Node.{Node}
+use Rattle.cs_entries.specs.declared.node.Node.TheVariants.{Directory, File}
+use Rattle.cs_entries.specs.Tables.{Table, paths_in, table_after}
+use Rattle.cs_tree_model.specs.declared.mode.TheConstants.{DMDIR, DMSYMLINK}
 use Rattle.cs_tree_model.specs.declared.record.MetadataBuf.{MetadataBuf}
 use Rattle.cs_tree_model.specs.declared.record.Record.{Record}
 use Rattle.cs_tree_model.specs.Fresh.{fresh}
 use Rattle.cs_tree_model.specs.Maps.Values.{map_values}
 use Rattle.cs_tree_model.specs.Tree.{Path, path_cmp, Tree}
-use Rattle.cs_trace.specs.declared.operation.Node.{Node}
-use Rattle.cs_trace.specs.declared.operation.Node.TheVariants as nodes
-use Rattle.cs_trace.specs.declared.operation.Rights.{Rights}
+use Rattle.cs_start.specs.declared.rights.Rights.{Rights}
 use Rattle.cs_trace.specs.declared.operation.Target.TheVariants as targets
-use Rattle.cs_trace.specs.Traces.{Trace, record_in}
+use Rattle.cs_trace.specs.Traces.{Trace, directory_count, record_in, start_table}
 use Rattle.cs_micro.specs.declared.micro_op.MicroOp.{MicroOp}
-use Rattle.cs_micro.specs.declared.micro_op.MicroOp.TheVariants.{CreateDirEntry, DeleteDirEntry}
-use Rattle.cs_micro.specs.declared.micro_op.MicroOp.TheVariants.{MoveDirEntry, LinkDirEntry}
-use Rattle.cs_micro.specs.declared.micro_op.MicroOp.TheVariants.{ChangeFileSize, WriteBlock}
-use Rattle.cs_micro.specs.declared.micro_op.MicroOp.TheVariants.{SetAttr}
+use Rattle.cs_micro.specs.declared.micro_op.MicroOp.TheVariants.{CreateDirEntry, ChangeFileSize}
+use Rattle.cs_micro.specs.declared.micro_op.MicroOp.TheVariants.{WriteBlock, SetAttr}
+use Rattle.cs_micro.specs.Legal.{entry_op}
 use Rattle.cs_micro.specs.Micros.{Micros}
-use Rattle.cs_apm.specs.Rules.{op_at}
-
--- what is at a path: a directory with its owner, group and permissions, or a file by its number
-pub data Entry : Type 0 where
-  Directory : Rights → Entry
-  File : ℕ → Entry
-
-abbrev pub Entries : Type 0
-Entries = FinMap path_cmp Entry
+use Rattle.cs_apm.specs.Rules.{is_directory_numbered, op_at}
 
 -- a file by its number: its size, and its bytes from the first on; those past the size are hidden
 pub record Content : Type 0 where
@@ -44,36 +38,18 @@ content_code =
     code_by (ℕ × List ℕ) (coded× coded_ℕ (coded_list coded_ℕ)) (λ c. (c.size, c.bytes))
     (λ p. record { size = p.0; bytes = p.1 }) (λ _. refl)
 
--- what is at each path, and of the files by their numbers what is in them, and owner, group and
--- permissions
+-- what each entry holds; of the files and symbolic links by their numbers what is in them, and
+-- owner, group and permissions; and these of the directories by their numbers
 pub record State : Type 0 where
-  pub paths : Entries
+  pub entries : Table
   pub files : List Content
   pub owners : List Rights
+  pub directories : List Rights
 
 -- ---- one operation
 
--- what is at p moves to q
-abbrev pub with_entry_moved : {X : Type 0} → Path → Path → FinMap path_cmp X → FinMap path_cmp X
-with_entry_moved p q m = option_map_or (λ e. insert (remove m p) q e) (get m p) m
-
--- the entry that is made
-abbrev pub entry_made : Node → Rights → Entry
-entry_made nodes.Directory rights = Directory rights
-entry_made (nodes.File file) rights = File file
-
--- what is at the path has these rights, if it is a directory
-abbrev pub with_rights_at : Entries → Path → Rights → Option Entry → Entries
-with_rights_at m path rights (Some (Directory old)) = insert m path (Directory rights)
-with_rights_at m path rights _ = m
-
-abbrev pub entries_after : Entries → MicroOp → Entries
-entries_after m (CreateDirEntry p node rights) = insert m p (entry_made node rights)
-entries_after m (DeleteDirEntry p kind) = remove m p
-entries_after m (MoveDirEntry p q) = with_entry_moved p q m
-entries_after m (LinkDirEntry p file) = insert m p (File file)
-entries_after m (SetAttr (targets.Directory p) rights) = with_rights_at m p rights (get m p)
-entries_after m _ = m
+abbrev pub entries_after : Table → MicroOp → Table
+entries_after t op = table_after t (entry_op op)
 
 -- a size that shrinks drops every byte past it, hidden ones too
 abbrev pub content_with_size : ℕ → Content → Content
@@ -112,32 +88,57 @@ abbrev pub owners_after : List Rights → MicroOp → List Rights
 owners_after owners (SetAttr (targets.File file) rights) = slice_set owners file rights
 owners_after owners _ = owners
 
+-- a directory has the rights that it is made with, and then those that are set
+abbrev pub directories_after : List Rights → MicroOp → List Rights
+directories_after all (CreateDirEntry e (Directory d) rights bytes) = slice_set all d rights
+directories_after all (SetAttr (targets.Directory d path) rights) = slice_set all d rights
+directories_after all _ = all
+
 abbrev pub state_after : State → MicroOp → State
 state_after state op = record {
-  paths = entries_after state.paths op;
+  entries = entries_after state.entries op;
   files = files_after state.files op;
   owners = owners_after state.owners op;
+  directories = directories_after state.directories op;
 }
 
 -- ---- the state of a set
 
--- the owner, group and permissions of each file that an operation makes
+abbrev pub content_of_bytes : List ℕ → Content
+content_of_bytes bytes = record { size = length bytes; bytes = bytes }
+
+-- the owner, group and permissions of each file and symbolic link that an operation makes
 abbrev pub owners_made : List MicroOp → List Rights
 owners_made [] = []
-owners_made (CreateDirEntry p (nodes.File file) rights ∷ ops) = rights ∷ owners_made ops
+owners_made (CreateDirEntry e (File kind file) rights bytes ∷ ops) = rights ∷ owners_made ops
 owners_made (_ ∷ ops) = owners_made ops
 
--- each of these files without a byte
-abbrev pub empty_files : List MicroOp → List Content
-empty_files ops = map (λ _. no_content) (owners_made ops)
+-- the bytes that each is made with: a file has none, a symbolic link its target
+abbrev pub files_made : List MicroOp → List Content
+files_made [] = []
+files_made (CreateDirEntry e (File kind file) rights bytes ∷ ops) =
+    content_of_bytes bytes ∷ files_made ops
+files_made (_ ∷ ops) = files_made ops
 
--- all files as they are made, those of the start first; no set is without its number
+abbrev pub no_rights : Rights
+no_rights = record { owner = []; group = []; permissions = 0 }
+
+-- one for each making of a directory; in a set that has the making, the directory of the number has
+-- the rights that it is made with
+abbrev pub directories_made : List MicroOp → List Rights
+directories_made [] = []
+directories_made (CreateDirEntry e (Directory d) rights bytes ∷ ops) =
+    rights ∷ directories_made ops
+directories_made (_ ∷ ops) = directories_made ops
+
+-- all files, symbolic links and directories as they are made, those of the start first; no set is
+-- without its number
 abbrev pub with_created : State → List MicroOp → State
 with_created start ops =
     record start {
-      files = start.files ++ empty_files ops;
-      owners =
-          start.owners ++ owners_made ops;
+      files = start.files ++ files_made ops;
+      owners = start.owners ++ owners_made ops;
+      directories = start.directories ++ directories_made ops;
     }
 
 -- the members of the set in the trace's order
@@ -157,22 +158,11 @@ rights_of r = record { owner = r.owner; group = r.group; permissions = permissio
 abbrev pub rights_in : MetadataBuf → Rights
 rights_in m = record { owner = m.owner; group = m.group; permissions = permission_bits m.mode }
 
-abbrev pub start_entry : Node → Record → Entry
-start_entry node r = entry_made node (rights_of r)
-
--- what is at each path at the start
-abbrev pub start_entries : List (Path × Record) → List Node → Entries
-start_entries records nodes =
-    from_entries (map (λ x. (x.0.0, start_entry x.1 x.0.1)) (zip records nodes))
-
-abbrev pub no_rights : Rights
-no_rights = record { owner = []; group = []; permissions = 0 }
-
 abbrev pub bytes_of : Record → List ℕ
 bytes_of r = unwrap_or r.content []
 
 abbrev pub content_of : Record → Content
-content_of r = record { size = length (bytes_of r); bytes = bytes_of r }
+content_of r = content_of_bytes (bytes_of r)
 
 -- the content of the file at a path of the start, and its owner, group and permissions
 abbrev pub content_at : List (Path × Record) → Path → Content
@@ -186,11 +176,44 @@ owner_at records path = option_map_or rights_of (record_in records path) no_righ
 abbrev pub owners_of : Trace → List MicroOp → List Rights
 owners_of trace ops = map (owner_at trace.records) trace.files ++ owners_made ops
 
+-- a record that no place has
+abbrev pub no_record : Path × Record
+no_record = (
+  [],
+  record {
+    number = 0;
+    vers = 0;
+    owner = [];
+    group = [];
+    mode = 0;
+    atime = 0;
+    mtime = 0;
+    muid = [];
+    content = None;
+  },
+)
+
+-- the place of the directory of the number among the start's records; the root's, if there is none
+abbrev pub directory_place : List Node → ℕ → ℕ
+directory_place nodes n = unwrap_or (position_from (is_directory_numbered n) 0 nodes) 0
+
+-- its owner, group and permissions at the start
+abbrev pub directory_owner : Trace → ℕ → Rights
+directory_owner trace n =
+    rights_of (slice_index_or trace.records (directory_place trace.nodes n) no_record).1
+
+-- those of each directory by its number as it is made: those of the start, and those that are made
+abbrev pub directories_of : Trace → List MicroOp → List Rights
+directories_of trace ops =
+    map (directory_owner trace) (range_with_len 0 (directory_count trace.nodes))
+    ++ directories_made ops
+
 abbrev pub start_state : Trace → State
 start_state trace = record {
-  paths = start_entries trace.records trace.nodes;
+  entries = start_table trace;
   files = map (content_at trace.records) trace.files;
   owners = map (owner_at trace.records) trace.files;
+  directories = map (directory_owner trace) (range_with_len 0 (directory_count trace.nodes));
 }
 
 -- ---- read as a tree
@@ -212,14 +235,27 @@ record_with rights bit content = record {
   content = content;
 }
 
-abbrev pub record_of : List Rights → List Content → Entry → Record
-record_of owners files (Directory rights) = record_with rights DMDIR None
-record_of owners files (File file) =
-    record_with (slice_index_or owners file no_rights) 0
-    (Some (visible (slice_index_or files file no_content)))
+-- the bytes of the file or symbolic link of a number
+abbrev pub bytes_left : List Content → ℕ → Option (List ℕ)
+bytes_left files file = Some (visible (slice_index_or files file no_content))
+
+-- the bit of a mode for what is no directory
+abbrev pub kind_bit : FileKind → ℕ
+kind_bit Regular = 0
+kind_bit Symlink = DMSYMLINK
+
+abbrev pub record_of : State → Node → Record
+record_of s (Directory d) = record_with (slice_index_or s.directories d no_rights) DMDIR None
+record_of s (File kind file) =
+    record_with (slice_index_or s.owners file no_rights) (kind_bit kind) (bytes_left s.files file)
+
+-- what is at each path: what is reached from the root, as many names down as there are directories,
+-- and one more
+abbrev pub nodes_left : State → FinMap path_cmp Node
+nodes_left s = paths_in (length s.directories + 1) s.entries
 
 abbrev pub records_of : State → FinMap path_cmp Record
-records_of s = map_values (record_of s.owners s.files) s.paths
+records_of s = map_values (record_of s) (nodes_left s)
 
 -- with fresh numbers, in the order of paths
 abbrev pub tree_of_state : State → Tree

@@ -8,4 +8,4 @@ use Rattle.cs_apm.specs.declared.tables.Tables.{Tables}
 -- the micro-operations and the tables are the trace's
 pub record IsWhole (t : Trace) (m : Micros) (tables : Tables) : Type 0 where
   pub broken : m ≡ micros_in t
-  pub atlas : IsAtlas t m.ops (atlas_in tables)
+  pub atlas : IsAtlas t m (atlas_in tables)

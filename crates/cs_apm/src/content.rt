@@ -7,7 +7,7 @@ ghost use Rattle.cs_apm.specs.Contents.{content_left};
 ghost use Rattle.cs_apm.specs.States.{overwritten, padded, bytes_over, content_with_size, visible};
 
 use cs_micro::MicroOp;
-use cs_names::limits::FILE_BYTES;
+use cs_trace::LARGE_FILE_BYTES;
 use std::alloc::AllocError;
 use std::marker::Model;
 
@@ -54,7 +54,7 @@ impl FileContent {
     /// Writes the piece at the offset `at`. The size stays, so what is past it is hidden. If the
     /// bytes end before `at`, those between are zero. After an error the content must not be used.
     fn overwrite(&mut self, at: usize, piece: &[u8]) -> Result<(), AllocError>
-        requires { at + length piece.now ≤ FILE_BYTES }
+        requires { at + length piece.now ≤ LARGE_FILE_BYTES }
         ensures { OnOk result (self.new ≡ overwritten at piece.now self.old) }
     {
         pad(&mut self.bytes, at + piece.len())?;

@@ -1,75 +1,73 @@
-//! What is found once for each micro-operation: the latest creates of the directories of the paths
-//! that it names, and the first sync after it that covers it. The place of a sync point is how many
-//! micro-operations come before it.
+//! What is found once for each micro-operation: the latest makings of the directories in which it
+//! touches an entry, and the first sync after it that covers it. The place of a sync point is how
+//! many micro-operations come before it.
 ghost use Rattle.std.specs.Prelude.{◌≡◌, ◌<◌, ◌≤◌, ℕ, length, IfOk};
-ghost use Rattle.cs_tree_model.specs.Tree.{parent_path};
-ghost use Rattle.cs_apm.specs.Finding.{AreSynced, is_at, is_before, is_by, is_parent_create};
+ghost use Rattle.cs_entries.specs.Rules.{is_latest};
+ghost use Rattle.cs_apm.specs.Finding.{AreSynced, is_at, is_before, is_by, is_parent_making};
 ghost use Rattle.cs_apm.specs.Rules as rules;
 
-use crate::rules::{creates_parent, is_covered, op_at};
+use crate::rules::{is_covered, op_at};
+use crate::touching::makes;
 use cs_micro::{MicroOp, SyncPoint};
-use cs_names::Path;
-use cs_trace::Target;
 use std::alloc::{AllocError, Global};
 
-/// The latest creates of the parent directories of the paths that a micro-operation names. There
-/// are at most two.
+/// The latest makings of the directories in which a micro-operation touches an entry. There are at
+/// most two.
 #[derive(Clone, Copy, Debug)]
-pub struct ParentCreates {
-    /// The one for the named path, or for the path that a move is from; None if there is none.
+pub struct ParentMakings {
+    /// That of the directory of the entry, or of the one that a move is from; None if there is
+    /// none.
     first: Option<usize>,
-    /// The one for the path that a move is to; None if there is none, and if it is no move.
+    /// That of the directory that a move is to; None if there is none, and if it is no move.
     second: Option<usize>,
 }
 
-/// The place of the last micro-operation before place `j` that creates the path's parent directory.
-/// None if none does.
-fn latest_create(ops: &[MicroOp], j: usize, path: &Path) -> Option<usize>
+/// The place of the last micro-operation before place `j` that makes the directory. None if none
+/// does.
+fn latest_making(ops: &[MicroOp], j: usize, directory: u32) -> Option<usize>
     requires { j ≤ length ops.now }
     ensures { (i : ℕ) → i < j
-        → is_at result i ≡ rules.is_latest ops.now i j (parent_path path.now) }
+        → is_at result i ≡ is_latest (rules.entry_op_at ops.now) i j directory }
 {
     let mut latest = None;
     for k in 0..j {
-        if creates_parent(op_at(ops, k), path) {
+        if makes(op_at(ops, k), directory) {
             latest = Some(k);
         }
     }
     latest
 }
 
-impl ParentCreates {
-    /// The latest creates, before micro-operation `j`, of the parent directories of the paths that
-    /// it names (those of `names_path`); none if it names no path.
-    pub fn of(ops: &[MicroOp], j: usize) -> ParentCreates
+impl ParentMakings {
+    /// The latest makings, before micro-operation `j`, of the directories in which it touches an
+    /// entry; none if it touches none.
+    pub fn of(ops: &[MicroOp], j: usize) -> ParentMakings
         requires { j < length ops.now }
-        ensures { (i : ℕ) → i < j → is_parent_create result i ≡ rules.makes_parent ops.now i j }
+        ensures { (i : ℕ) → i < j → is_parent_making result i ≡ rules.makes_parent ops.now i j }
     {
         let (first, second) = match op_at(ops, j) {
-            MicroOp::CreateDirEntry { path, .. } => (latest_create(ops, j, path), None),
-            MicroOp::DeleteDirEntry { path, .. } => (latest_create(ops, j, path), None),
-            MicroOp::MoveDirEntry { from, to } => {
-                (latest_create(ops, j, from), latest_create(ops, j, to))
+            MicroOp::CreateDirEntry { entry, .. } => {
+                (latest_making(ops, j, entry.directory), None)
             }
-            MicroOp::LinkDirEntry { path, .. } => (latest_create(ops, j, path), None),
-            MicroOp::SetAttr {
-                target: Target::Directory(path),
-                ..
-            } => (latest_create(ops, j, path), None),
-            MicroOp::SetAttr {
-                target: Target::File(_),
-                ..
+            MicroOp::DeleteDirEntry { entry, .. } => {
+                (latest_making(ops, j, entry.directory), None)
             }
+            MicroOp::LinkDirEntry { entry, .. } => (latest_making(ops, j, entry.directory), None),
+            MicroOp::MoveDirEntry { from, to, .. } => (
+                latest_making(ops, j, from.directory),
+                latest_making(ops, j, to.directory),
+            ),
+            MicroOp::SetAttr { .. }
             | MicroOp::ChangeFileSize { .. }
             | MicroOp::WriteBlock { .. }
             | MicroOp::Say => (None, None),
         };
-        ParentCreates { first, second }
+        ParentMakings { first, second }
     }
 
-    /// Whether the micro-operation at this place is one of these creates.
-    pub fn has_create_at(&self, place: usize) -> bool
-        ensures { result ≡ is_parent_create self.now place }
+    /// Whether the micro-operation at this place is one of these makings.
+    pub fn has_making_at(&self, place: usize) -> bool
+        ensures { result ≡ is_parent_making self.now place }
     {
         is_at(self.first, place) || is_at(self.second, place)
     }
@@ -100,7 +98,7 @@ fn first_sync(syncs: &[SyncPoint], i: usize, op: &MicroOp) -> Option<usize>
 }
 
 /// Whether the place is before the one that was found; true if none was found.
-fn is_before(place: usize, found: Option<usize>) -> bool
+pub fn is_before(place: usize, found: Option<usize>) -> bool
     ensures { result ≡ is_before place found }
 {
     match found {

@@ -1,30 +1,32 @@
-//! A plain store of a state, made from what is in the slots of its paths.
-ghost use Rattle.std.specs.Prelude.{◌≡◌, ◌<◌, ◌≤◌, length, map, IfOk};
+//! A plain store of a state, made from what is in the slots of its entries.
+ghost use Rattle.std.specs.Prelude.{◌≡◌, ◌<◌, ◌≤◌, Some, length, IfOk};
 ghost use Rattle.std.specs.List.{All};
-ghost use Rattle.std.specs.Option.{option_map};
-ghost use Rattle.cs_tree_model.specs.Fresh.{IsNested, fresh, fresh_record, with_numbers_from};
-ghost use Rattle.cs_tree_model.specs.Maps.Values.{map_entries, map_values};
-ghost use Rattle.cs_apm.specs.Atlases.{files_left, owners_left};
+ghost use Rattle.cs_tree_model.specs.Fresh.{IsNested, fresh_record, with_numbers_from};
+ghost use Rattle.cs_tree_model.specs.Maps.Values.{map_entries};
 ghost use Rattle.cs_apm.specs.Files.{AreFiles};
 ghost use Rattle.cs_apm.specs.Contents.{IsSmall};
-ghost use Rattle.cs_apm.specs.Slots.{AreAscending, AreKnown, IsKnown, entry_of, entries_of_slots};
-ghost use Rattle.cs_apm.specs.Slots.{entries_in_slots};
-ghost use Rattle.cs_apm.specs.States.{record_of, record_with};
+ghost use Rattle.cs_apm.specs.Slots.{AreAscending, AreKnown, IsKnown, table_of_slots};
+ghost use Rattle.cs_apm.specs.States.{kind_bit, record_of, record_with, records_of, start_state};
+ghost use Rattle.cs_apm.specs.States.{state_of, tree_of_state};
 
 use crate::files::bytes_left;
-use crate::owners::owner_left;
-use crate::slot::Slot;
+use crate::owners::{directory_left, owner_left};
 use crate::tables::Tables;
+use crate::walk::nodes_at_paths;
+use cs_entries::{FileKind, Node};
 use cs_micro::MicroOp;
 use cs_names::Path;
+use cs_names::laws::know;
 use cs_trace::{Rights, Trace};
 use cs_tree::PlainTree;
-use cs_tree_model::{Content, DMDIR, Record};
+use cs_tree_model::{Content, DMDIR, DMSYMLINK, Record};
 use std::alloc::{AllocError, Global};
+use std::collections::BTreeMap;
 
 /// A record that was never changed: version and times are 0, and the owner is also the user who
-/// changed it last. `bit` is DMDIR for a directory, 0 for a file; of the permissions, the lowest
-/// nine bits count. `unchanged_metadata` of cs_state is the metadata of such a record.
+/// changed it last. `bit` is DMDIR for a directory, DMSYMLINK for a symbolic link, 0 for a file; of
+/// the permissions, the lowest nine bits count. `unchanged_metadata` of cs_state is the metadata of
+/// such a record.
 fn record_with(
     number: u64,
     rights: &Rights,
@@ -48,8 +50,18 @@ fn record_with(
     })
 }
 
-/// The record, with this number, of what is in a slot after the members of a set, which are at
-/// these places. None if the slot is empty.
+/// The bit of the mode of a file of this kind.
+fn kind_bit(kind: FileKind) -> u32
+    ensures { result ≡ kind_bit kind }
+{
+    match kind {
+        FileKind::Regular => 0,
+        FileKind::Symlink => DMSYMLINK,
+    }
+}
+
+/// The record, with this number, of what an entry holds after the members of a set, which are at
+/// these places.
 fn record_at(
     alloc: Global,
     number: u64,
@@ -57,106 +69,100 @@ fn record_at(
     ops: &[MicroOp],
     tables: &Tables,
     places: &[u32],
-    slot: Slot,
-) -> Result<Option<Record>, AllocError>
+    node: Node,
+) -> Result<Record, AllocError>
     requires files { AreFiles trace.now ops.now tables.now }
-    requires known { IsKnown (length tables.now.rights.items)
-        (length tables.now.owners.items) slot }
+    requires known { IsKnown (length tables.now.directories.items)
+        (length tables.now.owners.items) (Some node) }
     requires small { All IsSmall ops.now }
     requires inside { All (λ place. place < length ops.now) places.now }
     ensures { IfOk result (λ made. made
-        ≡ option_map
-        (λ e. fresh_record number
-        (record_of (owners_left trace.now ops.now places.now)
-        (files_left trace.now ops.now places.now) e)) (entry_of tables.now.rights.items slot)) }
+        ≡ fresh_record number
+        (record_of (state_of (start_state trace.now) ops.now places.now) node)) }
 {
-    match slot {
-        Slot::Nothing => Ok(None),
-        Slot::Directory(k) => {
-            let rights = &tables.rights[k as usize];
-            let record = record_with(number, rights, DMDIR, Content::directory())?;
-            Ok(Some(record))
+    match node {
+        Node::Directory(directory) => {
+            let rights = directory_left(&tables.directories, ops, places, directory);
+            record_with(number, rights, DMDIR, Content::directory())
         }
-        Slot::File(n) => {
+        Node::File(kind, file) => {
             let bytes = bytes_left(
                 alloc,
                 trace,
                 ops,
                 &tables.starts,
+                &tables.makings,
                 &tables.changed,
                 places,
-                n,
+                file,
             )?;
-            let owner = owner_left(&tables.owners, ops, places, n);
-            let record = record_with(number, owner, 0, Content::file(bytes))?;
-            Ok(Some(record))
+            let owner = owner_left(&tables.owners, ops, places, file);
+            record_with(number, owner, kind_bit(kind), Content::file(bytes))
         }
     }
 }
 
-/// The records of what is in the slots, one for each path, after the members of a set, which are at
-/// these places. They are in the order of paths and numbered from 0; an empty slot has none.
-fn records_of_slots(
+/// The records of what is at the paths after the members of a set, which are at these places. They
+/// are in the order of paths and numbered from 0.
+fn records_of_nodes(
     alloc: Global,
     trace: &Trace,
     ops: &[MicroOp],
     tables: &Tables,
     places: &[u32],
-    slots: &[Slot],
+    nodes: BTreeMap<Path, Node>,
 ) -> Result<Vec<(Path, Record)>, AllocError>
     requires files { AreFiles trace.now ops.now tables.now }
-    requires long { length slots.now ≡ length tables.now.paths.items }
-    requires known { AreKnown (length tables.now.rights.items)
-        (length tables.now.owners.items) slots.now }
+    requires known { All (λ x. IsKnown (length tables.now.directories.items)
+        (length tables.now.owners.items) (Some x.1)) nodes.entries }
     requires small { All IsSmall ops.now }
     requires inside { All (λ place. place < length ops.now) places.now }
     ensures { IfOk result (λ records. records.items
         ≡ with_numbers_from 0
-        (map_entries
-        (record_of (owners_left trace.now ops.now places.now)
-        (files_left trace.now ops.now places.now))
-        (entries_in_slots tables.now.rights.items tables.now.paths.items slots.now))) }
+        (map_entries (record_of (state_of (start_state trace.now) ops.now places.now))
+        nodes.entries)) }
 {
     let mut records = Vec::new(alloc);
-    for (i, slot) in slots.iter().enumerate() {
+    for (path, node) in nodes {
         let number = records.len() as u64;
-        match record_at(alloc, number, trace, ops, tables, places, *slot)? {
-            None => {}
-            Some(record) => records.push((tables.paths[i].try_clone(alloc)?, record))?,
-        }
+        let record = record_at(alloc, number, trace, ops, tables, places, node)?;
+        records.push((path, record))?;
     }
     Ok(records)
 }
 
-/// The store of what is in the slots, one for each path, after the members of a set, which are at
-/// these places. The caller has made the members' steps in the slots; files get their bytes and
-/// owners here.
+/// The store of what is in the slots, one for each entry, after the members of a set, which are at
+/// these places. The caller has made the members' steps in the slots; files get their bytes, and
+/// all their owners here.
 pub fn store_of(
     alloc: Global,
     trace: &Trace,
     ops: &[MicroOp],
     tables: &Tables,
     places: &[u32],
-    slots: &[Slot],
+    slots: &[Option<Node>],
 ) -> Result<PlainTree, AllocError>
     requires files { AreFiles trace.now ops.now tables.now }
-    requires long { length slots.now ≡ length tables.now.paths.items }
-    requires known { AreKnown (length tables.now.rights.items)
+    requires long { length slots.now ≡ length tables.now.entries.items }
+    requires known { AreKnown (length tables.now.directories.items)
         (length tables.now.owners.items) slots.now }
+    requires root { 0 < length tables.now.directories.items }
     requires small { All IsSmall ops.now }
     requires inside { All (λ place. place < length ops.now) places.now }
-    requires ascending { AreAscending tables.now.paths.items }
+    requires ascending { AreAscending tables.now.entries.items }
+    requires same { (state_of (start_state trace.now) ops.now places.now).entries
+        ≡ table_of_slots tables.now.entries.items slots.now }
+    requires deep { length (state_of (start_state trace.now) ops.now places.now).directories
+        ≡ length tables.now.directories.items }
     requires nested { IsNested
-        (map_values
-        (record_of (owners_left trace.now ops.now places.now)
-        (files_left trace.now ops.now places.now))
-        (entries_of_slots tables.now.rights.items tables.now.paths.items slots.now)) }
+        (records_of (state_of (start_state trace.now) ops.now places.now)) }
     ensures { IfOk result (λ tree. tree
-        ≡ fresh (map_values
-        (record_of (owners_left trace.now ops.now places.now)
-        (files_left trace.now ops.now places.now))
-        (entries_of_slots tables.now.rights.items tables.now.paths.items slots.now))) }
+        ≡ tree_of_state (state_of (start_state trace.now) ops.now places.now)) }
 {
-    let records = records_of_slots(alloc, trace, ops, tables, places, slots)?;
+    let deep = tables.directories.len() + 1;
+    let nodes = nodes_at_paths(alloc, &tables.entries, slots, deep)?;
+    // By the contract of `len`, the map's paths ascend.
+    know(nodes.len());
+    let records = records_of_nodes(alloc, trace, ops, tables, places, nodes)?;
     PlainTree::from_records(alloc, records)
 }

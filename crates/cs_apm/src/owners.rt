@@ -1,9 +1,11 @@
-//! Owner, group and permissions of the files of a crash state. A file's `owner` is all three here.
+//! Owner, group and permissions of the files and directories of a crash state. `owner` is all three
+//! here.
 ghost use Rattle.std.specs.Prelude.{◌≡◌, ◌<◌, length, slice_index_or};
 ghost use Rattle.std.specs.List.{All};
-ghost use Rattle.cs_apm.specs.Owners.{owner_after, owner_left};
+ghost use Rattle.cs_apm.specs.Owners.{directory_after, directory_left, owner_after, owner_left};
 ghost use Rattle.cs_apm.specs.States.{no_rights};
 
+use cs_entries::Node;
 use cs_micro::MicroOp;
 use cs_trace::{Rights, Target};
 
@@ -38,6 +40,46 @@ pub fn owner_left<'a>(
     let mut owner = &owners[file as usize];
     for place in places {
         owner = owner_after(file, owner, &ops[*place as usize]);
+    }
+    owner
+}
+
+/// Owner, group and permissions of the directory after the micro-operation: those that it makes it
+/// with or sets, if it does so; if not, `owner`, those before it.
+pub fn directory_after<'a>(directory: u32, owner: &'a Rights, op: &'a MicroOp) -> &'a Rights
+    ensures { result.now ≡ directory_after directory owner.now op.now }
+{
+    match op {
+        MicroOp::CreateDirEntry {
+            node: Node::Directory(number),
+            rights,
+            ..
+        } => { if *number == directory { rights } else { owner } }
+        MicroOp::SetAttr {
+            target: Target::Directory { number, .. },
+            rights,
+        } => { if *number == directory { rights } else { owner } }
+        _ => owner,
+    }
+}
+
+/// Owner, group and permissions of the directory after the members of a set, which are at these
+/// places. `directories` has those of each directory as it is made, by its number.
+pub fn directory_left<'a>(
+    directories: &'a [Rights],
+    ops: &'a [MicroOp],
+    places: &[u32],
+    directory: u32,
+) -> &'a Rights
+    requires known { directory < length directories.now }
+    requires inside { All (λ place. place < length ops.now) places.now }
+    ensures { result.now
+        ≡ directory_left directory (slice_index_or directories.now directory no_rights) ops.now
+        places.now }
+{
+    let mut owner = &directories[directory as usize];
+    for place in places {
+        owner = directory_after(directory, owner, &ops[*place as usize]);
     }
     owner
 }

@@ -1,18 +1,15 @@
-//! Rights (owner, group and permissions) as they are set in the course of a trace, in two tables:
-//! those of directories, which slots refer to by place, and those of each file as it is made. In
-//! `owners_of`, as in `owners`, all three are meant. An error is that memory ran out; then the
-//! tables are dropped.
-ghost use Rattle.std.specs.Prelude.{◌≡◌, [], ◌∷◌, ◌+◌, ◌<◌, ◌≤◌, ◌++◌, ◌^◌, Some, length, map};
-ghost use Rattle.std.specs.Prelude.{IfOk, OnOk, slice_index_or};
+//! Owner, group and permissions of the files and directories as they are made. Here `rights` means
+//! all three. An error is that memory ran out; then the tables are dropped.
+ghost use Rattle.std.specs.Prelude.{◌≡◌, [], ◌∷◌, ◌<◌, ◌++◌, length, map, IfOk, OnOk};
+ghost use Rattle.std.specs.Prelude.{slice_index_or};
 ghost use Rattle.std.specs.List.{All};
 ghost use Rattle.cs_tree_model.specs.Record.{metadata_of_ref};
-ghost use Rattle.cs_apm.specs.Atlases.{no_record};
-ghost use Rattle.cs_apm.specs.Slots.{Grows, HasRights, entry_of, rights_at};
-ghost use Rattle.cs_apm.specs.States.{entry_made, owners_made, rights_in, rights_of};
+ghost use Rattle.cs_apm.specs.States.{directories_made, no_record, owners_made, rights_in};
+ghost use Rattle.cs_apm.specs.States.{rights_of};
 
-use crate::slot::Slot;
+use cs_entries::Node;
 use cs_micro::MicroOp;
-use cs_trace::{Node, Rights, Start};
+use cs_trace::{Rights, Start};
 use cs_tree_model::Metadata;
 use std::alloc::{AllocError, Global};
 
@@ -28,66 +25,6 @@ fn rights_of(start: &Metadata<'_>) -> Result<Rights, AllocError>
     })
 }
 
-/// Appends the rights to the table, and returns their place in it.
-fn push_rights(table: &mut Vec<Rights>, rights: Rights) -> Result<u32, AllocError>
-    requires { length table.old.items < 2 ^ 32 }
-    ensures value { IfOk result (λ place. rights_at table.new.items place ≡ rights) }
-    ensures there { IfOk result (λ place. place < length table.new.items) }
-    ensures grows { OnOk result (Grows table.old.items table.new.items) }
-    ensures few { OnOk result (length table.new.items ≤ length table.old.items + 1) }
-{
-    let place = table.len() as u32;
-    table.push(rights)?;
-    Ok(place)
-}
-
-/// Appends a copy of the rights to the table, and returns the copy's place in it.
-pub fn push_copy(table: &mut Vec<Rights>, rights: &Rights) -> Result<u32, AllocError>
-    requires { length table.old.items < 2 ^ 32 }
-    ensures value { IfOk result (λ place. rights_at table.new.items place ≡ rights.now) }
-    ensures there { IfOk result (λ place. place < length table.new.items) }
-    ensures grows { OnOk result (Grows table.old.items table.new.items) }
-    ensures few { OnOk result (length table.new.items ≤ length table.old.items + 1) }
-{
-    push_rights(table, rights.try_clone()?)
-}
-
-/// The slot of a record at the start. A directory's rights are appended to the table; a file's are
-/// in the table of `owners_of`.
-pub fn start_slot(
-    table: &mut Vec<Rights>,
-    node: Node,
-    start: &Metadata<'_>,
-) -> Result<Slot, AllocError>
-    requires { length table.old.items < 2 ^ 32 }
-    ensures entry { IfOk result (λ slot. entry_of table.new.items slot
-        ≡ Some (entry_made node (rights_in (metadata_of_ref start.now)))) }
-    ensures there { IfOk result (HasRights (length table.new.items)) }
-    ensures grows { OnOk result (Grows table.old.items table.new.items) }
-    ensures few { OnOk result (length table.new.items ≤ length table.old.items + 1) }
-{
-    match node {
-        Node::File(file) => Ok(Slot::File(file)),
-        Node::Directory => Ok(Slot::Directory(push_rights(table, rights_of(start)?)?)),
-    }
-}
-
-/// The slot of an entry that a micro-operation makes. A directory's rights are appended to the
-/// table; a file's are in the table of `owners_of`.
-pub fn made_slot(table: &mut Vec<Rights>, node: Node, rights: &Rights) -> Result<Slot, AllocError>
-    requires { length table.old.items < 2 ^ 32 }
-    ensures entry { IfOk result (λ slot. entry_of table.new.items slot
-        ≡ Some (entry_made node rights.now)) }
-    ensures there { IfOk result (HasRights (length table.new.items)) }
-    ensures grows { OnOk result (Grows table.old.items table.new.items) }
-    ensures few { OnOk result (length table.new.items ≤ length table.old.items + 1) }
-{
-    match node {
-        Node::File(file) => Ok(Slot::File(file)),
-        Node::Directory => Ok(Slot::Directory(push_copy(table, rights)?)),
-    }
-}
-
 /// Appends the rights of the records at these places, in their order.
 fn push_starts(table: &mut Vec<Rights>, records: &Start, places: &[u32]) -> Result<(), AllocError>
     requires { All (λ place. place < length records.now) places.now }
@@ -101,12 +38,13 @@ fn push_starts(table: &mut Vec<Rights>, records: &Start, places: &[u32]) -> Resu
     Ok(())
 }
 
-/// Appends the rights of the file that the micro-operation makes; nothing if it makes none.
+/// Appends the rights of the file or symbolic link that the micro-operation makes; nothing if it
+/// makes none.
 fn push_made_rights(table: &mut Vec<Rights>, op: &MicroOp) -> Result<(), AllocError>
     ensures { OnOk result (table.new.items ≡ table.old.items ++ owners_made (op.now ∷ [])) }
 {
     if let MicroOp::CreateDirEntry {
-        node: Node::File(_),
+        node: Node::File(..),
         rights,
         ..
     } = op
@@ -135,4 +73,41 @@ pub fn owners_of(
         push_made_rights(&mut owners, op)?;
     }
     Ok(owners)
+}
+
+/// Appends the rights with which the micro-operation makes a directory; nothing if it makes none.
+fn push_directory_rights(table: &mut Vec<Rights>, op: &MicroOp) -> Result<(), AllocError>
+    ensures { OnOk result (table.new.items
+        ≡ table.old.items ++ directories_made (op.now ∷ [])) }
+{
+    if let MicroOp::CreateDirEntry {
+        node: Node::Directory(_),
+        rights,
+        ..
+    } = op
+    {
+        table.push(rights.try_clone()?)?;
+    }
+    Ok(())
+}
+
+/// The rights of each directory at the start, whose records are at these places, and then one for
+/// each making of a directory.
+pub fn directories_of(
+    alloc: Global,
+    records: &Start,
+    places: &[u32],
+    ops: &[MicroOp],
+) -> Result<Vec<Rights>, AllocError>
+    requires { All (λ place. place < length records.now) places.now }
+    ensures { IfOk result (λ directories. directories.items
+        ≡ map (λ place. rights_of (slice_index_or records.now place no_record).1) places.now
+        ++ directories_made ops.now) }
+{
+    let mut directories = Vec::new(alloc);
+    push_starts(&mut directories, records, places)?;
+    for op in ops {
+        push_directory_rights(&mut directories, op)?;
+    }
+    Ok(directories)
 }

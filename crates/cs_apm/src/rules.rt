@@ -1,79 +1,18 @@
 //! The rules by which one micro-operation needs another, as tests of the two: `a` is the first in
-//! the trace, and `b` the second, which may need it. Tests of a single micro-operation are here
-//! too. The searches of the other rules are in `found`.
+//! the trace, and `b` the second, which may need it. What a single micro-operation does to entries
+//! and directories is in `touching`, and the searches of the other rules are in `found`.
 ghost use Rattle.std.specs.Prelude.{◌≡◌, ◌<◌, length};
 ghost use Rattle.std.specs.List.{list_any};
-ghost use Rattle.cs_names.specs.Paths.{path_eq};
-ghost use Rattle.cs_tree_model.specs.Tree.{parent_path};
+ghost use Rattle.cs_entries.specs.Rules.{shares_entry};
+ghost use Rattle.cs_micro.specs.Legal.{entry_op};
 ghost use Rattle.cs_apm.specs.Rules as rules;
 
-use cs_micro::{EntryKind, MicroOp};
-use cs_names::Path;
-use cs_trace::{Covers, Node, Profile, Target, Version};
-
-/// Whether the directory is the parent of the path. The root's parent is the root.
-pub fn is_parent(directory: &Path, path: &Path) -> bool
-    ensures { result ≡ path_eq directory.now (parent_path path.now) }
-{
-    directory.names() == path.names().parent()
-}
-
-/// Whether the micro-operation makes, deletes or links an entry at the path, or moves one from or
-/// to it.
-fn touches(op: &MicroOp, path: &Path) -> bool
-    ensures { result ≡ rules.touches op.now path.now }
-{
-    match op {
-        MicroOp::CreateDirEntry { path: made, .. } => made == path,
-        MicroOp::DeleteDirEntry { path: gone, .. } => gone == path,
-        MicroOp::MoveDirEntry { from, to } => from == path || to == path,
-        MicroOp::LinkDirEntry { path: linked, .. } => linked == path,
-        MicroOp::ChangeFileSize { .. }
-        | MicroOp::WriteBlock { .. }
-        | MicroOp::SetAttr { .. }
-        | MicroOp::Say => false,
-    }
-}
-
-/// Whether the micro-operation sets owner, group and permissions of the directory.
-fn sets_directory(op: &MicroOp, directory: &Path) -> bool
-    ensures { result ≡ rules.sets_directory op.now directory.now }
-{
-    match op {
-        MicroOp::SetAttr {
-            target: Target::Directory(path),
-            ..
-        } => path == directory,
-        _ => false,
-    }
-}
-
-/// Whether the micro-operation touches the path, or sets owner, group and permissions of the
-/// directory there. `shares_path`, `ParentCreates::of`, `add_named` and `step_of` list the paths
-/// that one names too, by kinds.
-fn names_path(op: &MicroOp, path: &Path) -> bool
-    ensures { result ≡ rules.names_path op.now path.now }
-{
-    touches(op, path) || sets_directory(op, path)
-}
-
-/// Whether the micro-operation touches (as in `touches`) a path whose parent is the directory.
-fn touches_entry_of(op: &MicroOp, directory: &Path) -> bool
-    ensures { result ≡ rules.touches_entry_of op.now directory.now }
-{
-    match op {
-        MicroOp::CreateDirEntry { path, .. }
-        | MicroOp::DeleteDirEntry { path, .. }
-        | MicroOp::LinkDirEntry { path, .. } => is_parent(directory, path),
-        MicroOp::MoveDirEntry { from, to } => {
-            is_parent(directory, from) || is_parent(directory, to)
-        }
-        MicroOp::ChangeFileSize { .. }
-        | MicroOp::WriteBlock { .. }
-        | MicroOp::SetAttr { .. }
-        | MicroOp::Say => false,
-    }
-}
+use crate::touching::{
+    moves_directory, removes, sets_directory, settles, touches, touches_entry_of,
+};
+use cs_entries::Node;
+use cs_micro::MicroOp;
+use cs_trace::{Covers, Profile, Target, Version};
 
 /// Whether both write the same block of the same file, or both change the size of the same file.
 fn same_block_or_size(a: &MicroOp, b: &MicroOp) -> bool
@@ -96,39 +35,62 @@ fn same_block_or_size(a: &MicroOp, b: &MicroOp) -> bool
     }
 }
 
-/// Whether there is a path that both name, as `names_path` has it.
-fn shares_path(a: &MicroOp, b: &MicroOp) -> bool
-    ensures { result ≡ rules.shares_path a.now b.now }
+/// Whether there is an entry that both touch.
+fn shares_entry(a: &MicroOp, b: &MicroOp) -> bool
+    ensures { result ≡ shares_entry (entry_op a.now) (entry_op b.now) }
 {
     match b {
-        MicroOp::CreateDirEntry { path, .. }
-        | MicroOp::DeleteDirEntry { path, .. }
-        | MicroOp::LinkDirEntry { path, .. }
-        | MicroOp::SetAttr {
-            target: Target::Directory(path),
-            ..
-        } => names_path(a, path),
-        MicroOp::MoveDirEntry { from, to } => names_path(a, from) || names_path(a, to),
+        MicroOp::CreateDirEntry { entry, .. } => touches(a, entry),
+        MicroOp::DeleteDirEntry { entry, .. } => touches(a, entry),
+        MicroOp::LinkDirEntry { entry, .. } => touches(a, entry),
+        MicroOp::MoveDirEntry { from, to, .. } => touches(a, from) || touches(a, to),
         MicroOp::ChangeFileSize { .. }
         | MicroOp::WriteBlock { .. }
-        | MicroOp::SetAttr {
-            target: Target::File(_),
-            ..
-        }
+        | MicroOp::SetAttr { .. }
         | MicroOp::Say => false,
     }
 }
 
-/// Whether the second deletes a directory, and the first touches an entry in it.
-fn touches_deleted_directory(a: &MicroOp, b: &MicroOp) -> bool
-    ensures { result ≡ rules.touches_deleted_directory a.now b.now }
+/// Whether there is a directory that both make, remove, or set owner, group and permissions of.
+fn shares_directory(a: &MicroOp, b: &MicroOp) -> bool
+    ensures { result ≡ list_any (rules.settles a.now) (rules.directories_settled b.now) }
 {
     match b {
+        MicroOp::CreateDirEntry {
+            node: Node::Directory(number),
+            ..
+        } => settles(a, *number),
         MicroOp::DeleteDirEntry {
-            path,
-            kind: EntryKind::Directory,
-        } => touches_entry_of(a, path),
+            node: Node::Directory(number),
+            ..
+        } => settles(a, *number),
+        MicroOp::MoveDirEntry {
+            replaced: Some(Node::Directory(number)),
+            ..
+        } => settles(a, *number),
+        MicroOp::SetAttr {
+            target: Target::Directory { number, .. },
+            ..
+        } => settles(a, *number),
         _ => false,
+    }
+}
+
+/// Whether the second removes a directory, and the first touches an entry in it.
+fn touches_removed_directory(a: &MicroOp, b: &MicroOp) -> bool
+    ensures { result ≡ rules.touches_removed_directory a.now b.now }
+{
+    match a {
+        MicroOp::CreateDirEntry { entry, .. } => removes(b, entry.directory),
+        MicroOp::DeleteDirEntry { entry, .. } => removes(b, entry.directory),
+        MicroOp::LinkDirEntry { entry, .. } => removes(b, entry.directory),
+        MicroOp::MoveDirEntry { from, to, .. } => {
+            removes(b, from.directory) || removes(b, to.directory)
+        }
+        MicroOp::ChangeFileSize { .. }
+        | MicroOp::WriteBlock { .. }
+        | MicroOp::SetAttr { .. }
+        | MicroOp::Say => false,
     }
 }
 
@@ -165,7 +127,7 @@ fn sets_same_file(a: &MicroOp, b: &MicroOp) -> bool
 }
 
 /// Whether the micro-operation makes, deletes, moves or links an entry.
-fn is_entry_operation(op: &MicroOp) -> bool
+pub fn is_entry_operation(op: &MicroOp) -> bool
     ensures { result ≡ rules.is_entry_operation op.now }
 {
     match op {
@@ -188,6 +150,7 @@ fn keeps_order(profile: Profile, a: &MicroOp, b: &MicroOp) -> bool
     match profile {
         Profile::Blocks => false,
         Profile::Ordered => is_entry_operation(a) && is_entry_operation(b),
+        Profile::Journal => is_entry_operation(a) && is_entry_operation(b),
     }
 }
 
@@ -202,13 +165,13 @@ fn says_before(version: Version, a: &MicroOp) -> bool
     }
 }
 
-/// Whether the first makes the file that the second links.
+/// Whether the first makes the file or the symbolic link that the second links.
 fn creates_linked(a: &MicroOp, b: &MicroOp) -> bool
     ensures { result ≡ rules.creates_linked a.now b.now }
 {
     match a {
         MicroOp::CreateDirEntry {
-            node: Node::File(file),
+            node: Node::File(_, file),
             ..
         } => match b {
             MicroOp::LinkDirEntry { file: other, .. } => file == other,
@@ -218,25 +181,46 @@ fn creates_linked(a: &MicroOp, b: &MicroOp) -> bool
     }
 }
 
-/// Whether the second needs the first by a rule that all versions have and that looks at these two
-/// only.
-fn common_pair_needs(profile: Profile, a: &MicroOp, b: &MicroOp) -> bool
-    ensures { result ≡ rules.common_pair_needs profile a.now b.now }
+/// Whether both move directories.
+fn both_move_directories(a: &MicroOp, b: &MicroOp) -> bool
+    ensures { result ≡ rules.both_move_directories a.now b.now }
 {
-    same_block_or_size(a, b)
-        || shares_path(a, b)
-        || touches_deleted_directory(a, b)
-        || both_say(a, b)
-        || sets_same_file(a, b)
-        || keeps_order(profile, a, b)
+    moves_directory(a) && moves_directory(b)
+}
+
+/// Whether the second needs the first by a rule that looks at the entries and directories of these
+/// two only.
+fn shares_name(a: &MicroOp, b: &MicroOp) -> bool
+    ensures { result ≡ rules.shares_name a.now b.now }
+{
+    shares_entry(a, b) || shares_directory(a, b)
 }
 
 /// Whether the second needs the first by a rule that the version has and that looks at these two
-/// only.
-pub fn pair_needs(version: Version, a: &MicroOp, b: &MicroOp) -> bool
-    ensures { result ≡ rules.pair_needs version a.now b.now }
+/// only, on a file system of the profile.
+pub fn pair_needs(version: Version, profile: Profile, a: &MicroOp, b: &MicroOp) -> bool
+    ensures { result ≡ rules.pair_needs version profile a.now b.now }
 {
-    common_pair_needs(version.profile(), a, b) || says_before(version, a) || creates_linked(a, b)
+    same_block_or_size(a, b)
+        || shares_name(a, b)
+        || touches_removed_directory(a, b)
+        || both_say(a, b)
+        || sets_same_file(a, b)
+        || keeps_order(profile, a, b)
+        || says_before(version, a)
+        || creates_linked(a, b)
+        || both_move_directories(a, b)
+}
+
+/// Whether the micro-operation is the first half of a rename into another directory. The second is
+/// the one behind it.
+pub fn is_first_half(op: &MicroOp) -> bool
+    ensures { result ≡ rules.is_first_half op.now }
+{
+    match op {
+        MicroOp::LinkDirEntry { is_half, .. } => *is_half,
+        _ => false,
+    }
 }
 
 /// Whether the bytes of a file from `begin` up to `end`, which isn't one of them, are all in the
@@ -271,8 +255,20 @@ fn is_in_range(file: u32, offset: u64, count: u64, op: &MicroOp) -> bool
     }
 }
 
+/// Whether the micro-operation writes to the file, or changes its size.
+fn is_of_data(file: u32, op: &MicroOp) -> bool
+    ensures { result ≡ rules.is_covered (Covers.Data file) op.now }
+{
+    match op {
+        MicroOp::WriteBlock { file: other, .. } => file == *other,
+        MicroOp::ChangeFileSize { file: other, .. } => file == *other,
+        _ => false,
+    }
+}
+
 /// Whether a sync waits for the micro-operation. `covers` is what it syncs: everything, a file (its
-/// bytes, size and rights), a range of a file, or the entries of a directory and its rights.
+/// bytes, size and rights), the data of a file, a range of it, or the entries of a directory and
+/// its rights.
 pub fn is_covered(covers: &Covers, op: &MicroOp) -> bool
     ensures { result ≡ rules.is_covered covers.now op.now }
 {
@@ -287,25 +283,15 @@ pub fn is_covered(covers: &Covers, op: &MicroOp) -> bool
             } => file == owned,
             _ => false,
         },
+        Covers::Data(file) => is_of_data(*file, op),
         Covers::Range {
             file,
             offset,
             length,
         } => is_in_range(*file, *offset, *length, op),
-        Covers::Directory(directory) => {
-            touches_entry_of(op, directory) || sets_directory(op, directory)
+        Covers::Directory { number, .. } => {
+            touches_entry_of(op, *number) || sets_directory(op, *number)
         }
-    }
-}
-
-/// Whether the micro-operation makes an entry at the path's parent path. (For a new entry at the
-/// path itself, see `touches`.)
-pub fn creates_parent(op: &MicroOp, path: &Path) -> bool
-    ensures { result ≡ rules.creates op.now (parent_path path.now) }
-{
-    match op {
-        MicroOp::CreateDirEntry { path: made, .. } => is_parent(made, path),
-        _ => false,
     }
 }
 

@@ -1,46 +1,27 @@
-//! What is at each path at the start of a trace, and where the records of its files are. An error
-//! is that memory ran out; the table of rights is then dropped, with what was appended so far.
-ghost use Rattle.std.specs.Prelude.{◌≡◌, ◌+◌, ◌<◌, ◌≤◌, ◌^◌, length, IfOk, OnOk};
-ghost use Rattle.cs_apm.specs.Making.{FindsFiles, HasFirst, with_file_noted};
-ghost use Rattle.cs_apm.specs.Slots.{AreAscending, HaveRights, Mirror};
-ghost use Rattle.cs_apm.specs.States.{start_entries};
+//! Where the records of the start's files and directories are.
+ghost use Rattle.std.specs.Prelude.{◌≡◌, ◌<◌, ◌≤◌, ◌^◌, ℕ, length, slice_index_or, IfOk};
+ghost use Rattle.cs_trace.specs.Traces.{directory_count, is_directory};
+ghost use Rattle.cs_apm.specs.Making.{FindsFiles, with_directory_noted, with_file_noted};
+ghost use Rattle.cs_apm.specs.States.{directory_place};
 
-use crate::places::place_of_path;
-use crate::rights::start_slot;
-use crate::slot::Slot;
-use cs_names::Path;
-use cs_trace::{Node, Rights, Start};
+use cs_entries::Node;
 use std::alloc::{AllocError, Global};
 
-/// The slot of each path at the start, empty if nothing is there. The rights of the directories are
-/// appended to the table.
-pub fn start_slots(
-    alloc: Global,
-    records: &Start,
-    nodes: &[Node],
-    paths: &[Path],
-    table: &mut Vec<Rights>,
-) -> Result<Vec<Slot>, AllocError>
-    requires each { length nodes.now ≡ length records.now }
-    requires few { length table.old.items + length records.now < 2 ^ 32 }
-    requires ascending { AreAscending paths.now }
-    requires there { HasFirst paths.now records.now (length records.now) }
-    ensures long { IfOk result (λ slots. length slots.items ≡ length paths.now) }
-    ensures mirror { IfOk result
-        (λ slots. Mirror table.new.items paths.now slots.items
-        (start_entries records.now nodes.now)) }
-    ensures there { IfOk result (λ slots. HaveRights (length table.new.items) slots.items) }
-    ensures few { OnOk result (length table.new.items
-        ≤ length table.old.items + length records.now) }
+/// Whether it is a directory.
+fn is_directory(node: Node) -> bool
+    ensures { result ≡ is_directory node }
 {
-    let mut slots = vec![in alloc; Slot::Nothing; paths.len()]?;
-    // From the last record on: of two at one path, the first would count, as in `start_entries`.
-    for k in (0..records.len()).rev() {
-        let path = records.path_of(alloc, k)?;
-        let place = place_of_path(paths, &path);
-        slots[place] = start_slot(table, nodes[k], &records.metadata(k))?;
+    match node {
+        Node::Directory(_) => true,
+        Node::File(..) => false,
     }
-    Ok(slots)
+}
+
+/// How many of the nodes are directories.
+pub fn count_directories(nodes: &[Node]) -> usize
+    ensures { result ≡ directory_count nodes.now }
+{
+    nodes.iter().filter(|node| is_directory(**node)).count()
 }
 
 /// Notes the place as that of the node's record, if the node is a file with a number in range. If
@@ -48,7 +29,7 @@ pub fn start_slots(
 fn note_start(starts: &mut [u32], node: Node, place: u32)
     ensures { starts.new ≡ with_file_noted starts.old node place }
 {
-    if let Node::File(file) = node {
+    if let Node::File(_, file) = node {
         if (file as usize) < starts.len() {
             starts[file as usize] = place;
         }
@@ -68,4 +49,32 @@ pub fn starts_of(alloc: Global, nodes: &[Node], count: usize) -> Result<Vec<u32>
         note_start(&mut starts, *node, place as u32);
     }
     Ok(starts)
+}
+
+/// Notes the place as that of the node's record, if the node is a directory with a number in range.
+/// If not, nothing changes.
+fn note_directory(places: &mut [u32], node: Node, place: u32)
+    ensures { places.new ≡ with_directory_noted places.old node place }
+{
+    if let Node::Directory(number) = node {
+        if (number as usize) < places.len() {
+            places[number as usize] = place;
+        }
+    }
+}
+
+/// The places of the records of the first `count` directories, by the directories' numbers; 0, that
+/// of the root, for a number that no directory has.
+pub fn directory_places(alloc: Global, nodes: &[Node], count: usize) -> Result<Vec<u32>, AllocError>
+    requires { length nodes.now ≤ 2 ^ 32 }
+    ensures long { IfOk result (λ places. length places.items ≡ count) }
+    ensures each { IfOk result (λ places. (d : ℕ) → d < count
+        → slice_index_or places.items d 0 ≡ directory_place nodes.now d) }
+{
+    let mut places = vec![in alloc; 0; count]?;
+    // From the last record on: of two of one directory, the first counts.
+    for k in (0..nodes.len()).rev() {
+        note_directory(&mut places, nodes[k], k as u32);
+    }
+    Ok(places)
 }

@@ -2,25 +2,28 @@
 ghost use Rattle.std.specs.Prelude.{◌≡◌, ◌<◌, length, map, fold, IfOk};
 ghost use Rattle.std.specs.List.{All};
 ghost use Rattle.cs_tree_model.specs.Tree.{IsTree};
-ghost use Rattle.cs_trace.specs.Traces.{start_paths};
-ghost use Rattle.cs_micro.specs.Legal.{AreLegal};
-ghost use Rattle.cs_micro.specs.Micros.{block_of_version, micros_in};
+ghost use Rattle.cs_micro.specs.Micros.{AreLegalFromStart, micros_in};
 ghost use Rattle.cs_apm.specs.Atlases.{IsAtlas, atlas_in};
 ghost use Rattle.cs_apm.specs.Orders.{needs_of};
-ghost use Rattle.cs_apm.specs.Sets.{IsAllowed};
+ghost use Rattle.cs_sets.specs.Sets.{IsAllowed};
 ghost use Rattle.cs_apm.specs.Slots.{FitsIn, slots_after, step_at};
 ghost use Rattle.cs_apm.specs.States.{crash_state_of};
 
 use crate::making::store_of;
-use crate::slot::{Slot, make_steps};
+use crate::slot::make_steps;
 use crate::tables::Tables;
+use cs_entries::Node;
 use cs_micro::Micros;
 use cs_trace::Trace;
 use cs_tree::PlainTree;
 use std::alloc::{AllocError, Global};
 
 /// What is in each slot after the steps of the members of a set, which are at these places.
-pub fn slots_of_set(alloc: Global, tables: &Tables, places: &[u32]) -> Result<Vec<Slot>, AllocError>
+pub fn slots_of_set(
+    alloc: Global,
+    tables: &Tables,
+    places: &[u32],
+) -> Result<Vec<Option<Node>>, AllocError>
     requires fit { All (FitsIn (length tables.now.slots.items)) tables.now.steps.items }
     requires inside { All (λ place. place < length tables.now.steps.items) places.now }
     ensures { IfOk result (λ left. left.items
@@ -41,7 +44,7 @@ pub fn state_of(
     tables: &Tables,
     places: &[u32],
 ) -> Result<PlainTree, AllocError>
-    requires atlas { IsAtlas trace.now micros.now.ops (atlas_in tables.now) }
+    requires atlas { IsAtlas trace.now micros.now (atlas_in tables.now) }
     requires allowed { IsAllowed (needs_of micros.now) (length micros.now.ops) places.now }
     ensures state { IfOk result (λ tree. tree ≡ crash_state_of trace.now micros.now places.now) }
     ensures tree { IfOk result IsTree }
@@ -59,8 +62,7 @@ pub fn build(
     places: &[u32],
 ) -> Result<PlainTree, AllocError>
     requires broken { micros.now ≡ micros_in trace.now }
-    requires legal { AreLegal (block_of_version trace.now.version) (start_paths trace.now)
-        (length micros.now.starts) micros.now.ops }
+    requires legal { AreLegalFromStart trace.now micros.now }
     requires allowed { IsAllowed (needs_of micros.now) (length micros.now.ops) places.now }
     ensures state { IfOk result (λ tree. tree ≡ crash_state_of trace.now micros.now places.now) }
     ensures tree { IfOk result IsTree }

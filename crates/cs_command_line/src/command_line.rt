@@ -3,7 +3,8 @@ use crate::commands::{command, tar_command};
 use clap::error::ErrorKind;
 use clap::{ArgMatches, Error};
 use cs_options::{
-    Ask, Client, Job, ListOptions, PicksOptions, Sample, Serving, StateRange, States, Wanted,
+    Ask, Client, Job, ListOptions, PicksOptions, Sample, Serving, StateRange, States, TarOptions,
+    Wanted,
 };
 use std::alloc::{AllocError, Global};
 
@@ -149,7 +150,10 @@ fn job_of<'a>(
     Ok(match name {
         "list" => Some(Job::List(options_of(matches))),
         "tar" => match states_of(alloc, matches)? {
-            Some(states) => Some(Job::Tar(states)),
+            Some(states) => Some(Job::Tar(TarOptions {
+                states,
+                sparse: matches.get_flag("sparse"),
+            })),
             None => None,
         },
         "picks" => Some(Job::Picks(picks_of(matches))),

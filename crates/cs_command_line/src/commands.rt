@@ -101,12 +101,15 @@ pub fn tar_command<'a>(alloc: Global) -> Result<Command<'a>, AllocError> {
     let one_of = one_of(alloc, "which", "state", "states")?;
     let changes =
         "Only what differs from the start tree: new and changed files below N/, and a file N.missing of the paths that are gone, each with a NUL after it";
+    let sparse =
+        "Write files of at least 65,536 bytes, half of whose pages are zeros, without the zeros";
     let tar = Command::new(alloc, "tar")
         .about("Writes the files of crash states as a tar archive")
         .after_help("Example: crashfs tar store.trace --holes --state 18 | tar -x -C dir")
         .arg(state)?
         .arg(states)?
         .arg(flag(alloc, "changes", changes))?
+        .arg(flag(alloc, "sparse", sparse))?
         .group(one_of)?;
     with_states(alloc, tar)
 }

@@ -58,10 +58,10 @@ op_same : (limit : ℕ) (o : MicroOp) (f g : Content) → AreSameBelow limit f g
     → AreSameBelow limit (content_after_op f o) (content_after_op g o)
 op_same limit (ChangeFileSize file to) f g same = sized limit to f g same
 op_same limit (WriteBlock file block start at bytes) f g same = written limit (start + at) bytes f g same
-op_same limit (CreateDirEntry p node rights) f g same = same
-op_same limit (DeleteDirEntry p kind) f g same = same
-op_same limit (MoveDirEntry p q) f g same = same
-op_same limit (LinkDirEntry p file) f g same = same
+op_same limit (CreateDirEntry e node rights bytes) f g same = same
+op_same limit (DeleteDirEntry e node) f g same = same
+op_same limit (MoveDirEntry a b node old) f g same = same
+op_same limit (LinkDirEntry e kind file old half) f g same = same
 op_same limit (SetAttr target rights) f g same = same
 op_same limit Say f g same = same
 

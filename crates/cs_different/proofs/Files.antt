@@ -3,7 +3,7 @@ use Rattle.std.proofs.Common.{◌≡◌, ◌≢◌, ℕ, ◌<◌, ◌≤◌, ◌
 use Rattle.std.proofs.lemmas.Bool.{cases_eq, eq-eqb, ne_eqb}
 use Rattle.std.proofs.lemmas.List.{get_or_past, get_or-set_same, get_or-set_other, length-set}
 use Rattle.std.specs.Prelude.{slice_set}
-use Rattle.cs_trace.specs.declared.operation.Rights.{Rights}
+use Rattle.cs_start.specs.declared.rights.Rights.{Rights}
 use Rattle.cs_trace.specs.declared.operation.Target.TheVariants as targets
 use Rattle.cs_micro.specs.declared.micro_op.MicroOp.{MicroOp}
 use Rattle.cs_micro.specs.declared.micro_op.MicroOp.TheVariants.{CreateDirEntry, DeleteDirEntry, MoveDirEntry, LinkDirEntry, ChangeFileSize}
@@ -11,12 +11,16 @@ use Rattle.cs_micro.specs.declared.micro_op.MicroOp.TheVariants.{WriteBlock, Set
 use Rattle.cs_apm.specs.Contents.{content_after, content_left}
 use Rattle.cs_apm.specs.Owners.{owner_after}
 use Rattle.cs_apm.specs.Rules.{op_at}
-use Rattle.cs_apm.specs.States.{Content, State, entries_after, files_after, no_content, no_rights, owners_after, state_after}
+use Rattle.cs_apm.specs.States.{Content, State, directories_after, entries_after, files_after, no_content, no_rights, owners_after, state_after}
 use Rattle.cs_apm.proofs.Contents.{file_left}
 
-pub paths_at : (s : State) (os : List MicroOp) → (fold state_after s os).paths ≡ fold entries_after s.paths os
-paths_at s [] = refl
-paths_at s (o ∷ os) = paths_at (state_after s o) os
+pub entries_at : (s : State) (os : List MicroOp) → (fold state_after s os).entries ≡ fold entries_after s.entries os
+entries_at s [] = refl
+entries_at s (o ∷ os) = entries_at (state_after s o) os
+
+pub directories_at : (s : State) (os : List MicroOp) → (fold state_after s os).directories ≡ fold directories_after s.directories os
+directories_at s [] = refl
+directories_at s (o ∷ os) = directories_at (state_after s o) os
 
 pub file_at : (s : State) (ops : List MicroOp) (places : List ℕ) (n : ℕ) → n < length s.files
     → get_or (fold state_after s (map (op_at ops) places)).files n no_content
@@ -27,10 +31,10 @@ file_at s ops places n low = file_left s ops places n low
 one_long : (files : List Content) (o : MicroOp) → length (files_after files o) ≡ length files
 one_long files (ChangeFileSize file size) = length-set files file _
 one_long files (WriteBlock file block start at bytes) = length-set files file _
-one_long files (CreateDirEntry p node rights) = refl
-one_long files (DeleteDirEntry p kind) = refl
-one_long files (MoveDirEntry p q) = refl
-one_long files (LinkDirEntry p file) = refl
+one_long files (CreateDirEntry e node rights bytes) = refl
+one_long files (DeleteDirEntry e node) = refl
+one_long files (MoveDirEntry a b node old) = refl
+one_long files (LinkDirEntry e kind file old half) = refl
 one_long files (SetAttr target rights) = refl
 one_long files Say = refl
 
@@ -44,13 +48,13 @@ no_file s os n high = get_or_past (fold state_after s os).files n no_content (le
 
 own_long : (owners : List Rights) (o : MicroOp) → length (owners_after owners o) ≡ length owners
 own_long owners (SetAttr (targets.File file) rights) = length-set owners file rights
-own_long owners (SetAttr (targets.Directory p) rights) = refl
+own_long owners (SetAttr (targets.Directory d path) rights) = refl
 own_long owners (ChangeFileSize file size) = refl
 own_long owners (WriteBlock file block start at bytes) = refl
-own_long owners (CreateDirEntry p node rights) = refl
-own_long owners (DeleteDirEntry p kind) = refl
-own_long owners (MoveDirEntry p q) = refl
-own_long owners (LinkDirEntry p file) = refl
+own_long owners (CreateDirEntry e node rights bytes) = refl
+own_long owners (DeleteDirEntry e node) = refl
+own_long owners (MoveDirEntry a b node old) = refl
+own_long owners (LinkDirEntry e kind file old half) = refl
 own_long owners Say = refl
 
 long_owners : (s : State) (os : List MicroOp) → length (fold state_after s os).owners ≡ length s.owners
@@ -72,13 +76,13 @@ set_at owners file n rights low = ⊎_elim
 one_owner : (owners : List Rights) (n : ℕ) (o : MicroOp) → n < length owners
     → get_or (owners_after owners o) n no_rights ≡ owner_after n (get_or owners n no_rights) o
 one_owner owners n (SetAttr (targets.File file) rights) low = set_at owners file n rights low
-one_owner owners n (SetAttr (targets.Directory p) rights) low = refl
+one_owner owners n (SetAttr (targets.Directory d path) rights) low = refl
 one_owner owners n (ChangeFileSize file size) low = refl
 one_owner owners n (WriteBlock file block start at bytes) low = refl
-one_owner owners n (CreateDirEntry p node rights) low = refl
-one_owner owners n (DeleteDirEntry p kind) low = refl
-one_owner owners n (MoveDirEntry p q) low = refl
-one_owner owners n (LinkDirEntry p file) low = refl
+one_owner owners n (CreateDirEntry e node rights bytes) low = refl
+one_owner owners n (DeleteDirEntry e node) low = refl
+one_owner owners n (MoveDirEntry a b node old) low = refl
+one_owner owners n (LinkDirEntry e kind file old half) low = refl
 one_owner owners n Say low = refl
 
 pub owner_at : (s : State) (os : List MicroOp) (n : ℕ) → n < length s.owners

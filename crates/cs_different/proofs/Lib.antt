@@ -18,5 +18,6 @@ pub mod Dropping
 pub mod Sizes
 pub mod Counting
 pub mod Files
+pub mod Named
 pub mod SeenLeaves
 pub mod Makers

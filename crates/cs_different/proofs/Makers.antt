@@ -4,21 +4,19 @@ use Rattle.std.proofs.Common.{refl, sym, ap, ◌∙◌, subst, ⊎_elim, length,
 use Rattle.std.proofs.lemmas.Bool.{cases_Bool, cases_lt, eq-eqb, false≢true}
 use Rattle.std.proofs.lemmas.List.{get_or_past}
 use Rattle.std.specs.List.{list_any}
-use Rattle.cs_names.specs.Paths.{path_eq}
-use Rattle.cs_tree_model.specs.Tree.{Path}
-use Rattle.cs_trace.specs.declared.operation.Rights.{Rights}
+use Rattle.cs_entries.specs.declared.entry.Entry.{Entry}
+use Rattle.cs_entries.specs.declared.node.Node.TheVariants.{Directory, File}
+use Rattle.cs_entries.specs.Entries.{entry_eq}
 use Rattle.cs_trace.specs.Traces.{Trace}
+use Rattle.cs_micro.specs.Micros.{Micros}
 use Rattle.cs_micro.specs.declared.micro_op.MicroOp.{MicroOp}
 use Rattle.cs_micro.specs.declared.micro_op.MicroOp.TheVariants.{Say}
 use Rattle.cs_apm.specs.Atlases.{Atlas, IsAtlas}
 use Rattle.cs_apm.specs.Rules.{op_at}
-use Rattle.cs_apm.specs.Slots.{entry_of, slot_entry}
-use Rattle.cs_apm.specs.States as states
+use Rattle.cs_apm.specs.Slots.{Slot, slot_of}
 use Rattle.cs_apm.specs.States.{start_state}
-use Rattle.cs_apm.specs.declared.slot.Slot.{Slot}
-use Rattle.cs_apm.specs.declared.slot.Slot.TheVariants.{Nothing, Directory, File}
+use Rattle.cs_same_states.specs.Slots.{file_in}
 use Rattle.cs_different.specs.Wants.{IsMaker, holds, links, makes}
-use Rattle.cs_different.proofs.Unnamed.{file_is, some_is}
 
 pub some_weaker : {A : Type 0} {P Q : A → Type 0} (o : Option A) → ((a : A) → P a → Q a) → IfSome o P → IfSome o Q
 some_weaker None f h = tt
@@ -37,42 +35,42 @@ none_of p (x ∷ xs) d none last (suc i) = none_of p xs d (later (p x) (list_any
     later true b e = absurd (false≢true (sym e))
     later false b e = e
 
-module _ (n : ℕ) (rights : List Rights) where
-  no_entry : (s : Slot) → holds n s ≡ false → entry_of rights s ≢ Some (states.File n)
-  no_entry Nothing none e = cc e
-  no_entry (Directory k) none e = (let q = some_is e in cc q)
-  no_entry (File k) none e = false≢true (sym none ∙ eq-eqb k n (file_is k n (some_is e)))
+module _ (n : ℕ) where
+  no_file : (s : Slot) → holds n s ≡ false → file_in s ≢ Some n
+  no_file None none e = cc e
+  no_file (Some (Directory d)) none e = cc e
+  no_file (Some (File kind k)) none e = (let same : k ≡ n = cc e in false≢true (sym none ∙ eq-eqb k n same))
 
-  no_slot : (paths : List Path) (slots : List Slot) → list_any (holds n) slots ≡ false → (p : Path)
-      → slot_entry rights paths slots p ≢ Some (states.File n)
-  no_slot [] slots none p e = cc e
-  no_slot (q ∷ qs) [] none p e = cc e
-  no_slot (q ∷ qs) (s ∷ ss) none p e = ⊎_elim
-      (λ (t : path_eq q p ≡ true).
-      no_entry s (parts (holds n s) (list_any (holds n) ss) none).0
-      (sym (ap (λ b. cond b (entry_of rights s) (slot_entry rights qs ss p)) t) ∙ e))
-      (λ (f : path_eq q p ≡ false).
-      no_slot qs ss (parts (holds n s) (list_any (holds n) ss) none).1 p
-      (sym (ap (λ b. cond b (entry_of rights s) (slot_entry rights qs ss p)) f) ∙ e))
-      (cases_Bool (path_eq q p))
+  no_slot : (es : List Entry) (slots : List Slot) → list_any (holds n) slots ≡ false → (e : Entry)
+      → file_in (slot_of es slots e) ≢ Some n
+  no_slot [] slots none e is = cc is
+  no_slot (f ∷ fs) [] none e is = cc is
+  no_slot (f ∷ fs) (s ∷ ss) none e is = ⊎_elim
+      (λ (t : entry_eq f e ≡ true).
+      no_file s (parts (holds n s) (list_any (holds n) ss) none).0
+      (ap file_in (sym (ap (λ b. cond b s (slot_of fs ss e)) t)) ∙ is))
+      (λ (g : entry_eq f e ≡ false).
+      no_slot fs ss (parts (holds n s) (list_any (holds n) ss) none).1 e
+      (ap file_in (sym (ap (λ b. cond b s (slot_of fs ss e)) g)) ∙ is))
+      (cases_Bool (entry_eq f e))
     where
       parts : (a b : Bool) → (a || b) ≡ false → (a ≡ false) × (b ≡ false)
       parts true b e = absurd (false≢true (sym e))
       parts false b e = (refl, e)
 
-pub maker_is : (t : Trace) (ops known : List MicroOp) (a : Atlas) (n z : ℕ) → known ≡ ops → IsAtlas t ops a
+pub maker_is : (t : Trace) (m : Micros) (known : List MicroOp) (a : Atlas) (n z : ℕ) → known ≡ m.ops → IsAtlas t m a
     → list_any (links n) known ≡ false → list_any (holds n) a.slots ≡ false
     → (z < length known) × (makes n (op_at known z) ≡ true)
     → ((i : ℕ) → i < length known → makes n (op_at known i) ≡ true → i ≡ z)
-    → IsMaker (start_state t).paths ops n z
-maker_is t ops known a n z e is unlinked unheld made only =
-    let from : IsMaker (start_state t).paths known n z = record {
+    → IsMaker (start_state t).entries m.ops n z
+maker_is t m known a n z e is unlinked unheld made only =
+    let from : IsMaker (start_state t).entries known n z = record {
       made = made.1;
       alone = λ i yes. ⊎_elim
           (λ (low : i < length known). only i low yes)
           (λ (high : length known ≤ i). absurd (false≢true (sym (ap (makes n) (get_or_past known i Say high)) ∙ yes)))
           (cases_lt i (length known));
       linkless = λ i. none_of (links n) known Say unlinked refl i;
-      absent = λ p q. no_slot n a.rights a.paths a.slots unheld p (sym (is.start p) ∙ q);
+      absent = λ f q. no_slot n a.entries a.slots unheld f (ap file_in (sym (is.start f)) ∙ q);
     } in
-    subst (λ os. IsMaker (start_state t).paths os n z) e from
+    subst (λ os. IsMaker (start_state t).entries os n z) e from

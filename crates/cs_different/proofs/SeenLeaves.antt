@@ -4,11 +4,16 @@ use Rattle.std.proofs.Common.{List, refl, sym, ap, ◌∙◌, subst, arith, ⊎_
 use Rattle.std.proofs.lemmas.Bool.{cases_Bool, cases_lt, false≢true}
 use Rattle.std.specs.FinMap.{get, same_map}
 use Rattle.std.specs.Option.{option_map}
+use Rattle.cs_tree_model.specs.declared.mode.TheConstants.{DMDIR}
 use Rattle.cs_tree_model.specs.Fresh.{fresh}
 use Rattle.cs_tree_model.specs.Laws.Paths.{path_exact, path_total}
 use Rattle.cs_tree_model.specs.Maps.Values.{get-map_values}
 use Rattle.cs_tree_model.specs.Tree.{Path, path_cmp}
-use Rattle.cs_trace.specs.declared.operation.Rights.{Rights}
+use Rattle.cs_entries.specs.declared.entry.Entry.{Entry}
+use Rattle.cs_entries.specs.declared.node.Node.{Node}
+use Rattle.cs_entries.specs.declared.node.Node.TheVariants.{Directory, File}
+use Rattle.cs_entries.specs.Tables.{Table, paths_in}
+use Rattle.cs_start.specs.declared.rights.Rights.{Rights}
 use Rattle.cs_micro.specs.declared.micro_op.MicroOp.{MicroOp}
 use Rattle.cs_micro.specs.declared.micro_op.MicroOp.TheVariants.{ChangeFileSize}
 use Rattle.cs_micro.specs.declared.micro_op.MicroOp.TheVariants.{WriteBlock}
@@ -16,20 +21,22 @@ use Rattle.cs_apm.specs.Atlases.{content_before}
 use Rattle.cs_apm.specs.Contents.{changes_file, content_after, content_after_op}
 use Rattle.cs_apm.specs.Owners.{owner_after}
 use Rattle.cs_apm.specs.Rules.{op_at}
-use Rattle.cs_apm.specs.Sets.{is_member}
-use Rattle.cs_apm.specs.States.{Content, Directory, Entry, File, State, entries_after, no_content, no_rights, record_of}
+use Rattle.cs_sets.specs.Sets.{is_member}
+use Rattle.cs_apm.specs.States.{Content, State, directories_after, entries_after, kind_bit, no_content, no_rights, nodes_left, record_of}
 use Rattle.cs_apm.specs.States.{records_of, start_state, state_after, state_of, visible, with_created, record_with}
 use Rattle.cs_apm.specs.Laws.Members.{run}
 use Rattle.cs_plan.specs.Scenes.{Scene, is_say, micros_of, says_of}
 use Rattle.cs_same_states.specs.Reaching.{changed_file}
+use Rattle.cs_same_states.specs.Slots.{file_in}
 use Rattle.cs_same_states.proofs.Bytes.{same_visible}
 use Rattle.cs_sets.specs.Following.{chosen}
 use Rattle.cs_different.specs.Sets.{IsLeavable, LeaveSame, says_left, tree_left}
 use Rattle.cs_different.specs.Wants.{IsGrower, IsMaker, Wants, WantsGrower, WantsMaker}
 use Rattle.cs_different.proofs.Bytes.{AreSameBelow, after_same, past_same, same_itself}
 use Rattle.cs_different.proofs.Counting.{count_less}
-use Rattle.cs_different.proofs.Dropping.{changes_changed, idle_entries, idle_owner, idle_say, maker_idle, number_is}
-use Rattle.cs_different.proofs.Files.{file_at, no_file, no_owner, owner_at, paths_at}
+use Rattle.cs_different.proofs.Dropping.{changes_changed, idle_directories, idle_entries, idle_owner, idle_say, maker_idle, number_is}
+use Rattle.cs_different.proofs.Files.{directories_at, entries_at, file_at, no_file, no_owner, owner_at}
+use Rattle.cs_different.proofs.Named.{held_somewhere}
 use Rattle.cs_different.proofs.Running.{chosen_run, run_less, seen_by, seen_has, unseen_lacks}
 use Rattle.cs_different.proofs.Sizes.{sizes_small}
 use Rattle.cs_different.proofs.Unnamed.{unnamed_run}
@@ -68,26 +75,31 @@ module _ (s : Scene) (wants : ℕ → ℕ → Bool) (are : (z k : ℕ) → wants
   changes_something k low t f = (let d = dropped k low t f in wants_file d.0 k d.3)
 
   -- what makes a file is seen
-  maker_seen : (f z : ℕ) → z < n → IsMaker (start_state s.trace).paths ops f z → has z ≡ true → seen z ≡ true
+  maker_seen : (f z : ℕ) → z < n → IsMaker (start_state s.trace).entries ops f z → has z ≡ true → seen z ≡ true
   maker_seen f z low maker t = ⊎_elim
       (λ (yes : seen z ≡ true). yes)
       (λ (none : seen z ≡ false). (let c = changes_something z low t none in absurd (maker_idle (op_at ops z) f c.0 maker.made c.1)))
       (cases_Bool (seen z))
 
-  -- ---- paths
+  -- ---- entries and directories
 
-  pub paths_same : run entries_after seen start.paths ops n ≡ run entries_after has start.paths ops n
-  paths_same =
-      run_less entries_after seen has start.paths ops n (λ i low t. seen_has wants has n i low t)
+  pub entries_same : run entries_after seen start.entries ops n ≡ run entries_after has start.entries ops n
+  entries_same =
+      run_less entries_after seen has start.entries ops n (λ i low t. seen_has wants has n i low t)
       (λ i low t f m. (let c = changes_something i low t f in idle_entries (op_at ops i) c.0 c.1 m))
 
-  -- ---- a file that has a path
+  pub directories_same : run directories_after seen start.directories ops n ≡ run directories_after has start.directories ops n
+  directories_same =
+      run_less directories_after seen has start.directories ops n (λ i low t. seen_has wants has n i low t)
+      (λ i low t f all. (let c = changes_something i low t f in idle_directories (op_at ops i) c.0 c.1 all))
 
-  module _ (f : ℕ) (path : Path) (named : get (run entries_after has start.paths ops n) path ≡ Some (File f)) where
-    maker_there : (z : ℕ) → IsMaker (start_state s.trace).paths ops f z → has z ≡ true
+  -- ---- a file that an entry holds
+
+  module _ (f : ℕ) (entry : Entry) (named : file_in (get (run entries_after has start.entries ops n) entry) ≡ Some f) where
+    maker_there : (z : ℕ) → IsMaker (start_state s.trace).entries ops f z → has z ≡ true
     maker_there z maker = ⊎_elim
         (λ (yes : has z ≡ true). yes)
-        (λ (lacks : has z ≡ false). absurd (unnamed_run f has start.paths ops z maker lacks n path named))
+        (λ (lacks : has z ≡ false). absurd (unnamed_run f has start.entries ops z maker lacks n entry named))
         (cases_Bool (has z))
 
     -- a place of the file that isn't seen writes past every size
@@ -104,8 +116,8 @@ module _ (s : Scene) (wants : ℕ → ℕ → Bool) (are : (z k : ℕ) → wants
     past_maker : (k z : ℕ) → z < n → seen z ≡ false → changed_file (op_at ops k) ≡ Some f → WantsMaker s z k → ⊥
     past_maker k z low none changes w =
         let same : w.file ≡ f = number_is w.file f (sym w.changes ∙ changes) in
-        let maker : IsMaker (start_state s.trace).paths ops f z =
-        subst (λ v. IsMaker (start_state s.trace).paths ops v z) same w.maker in
+        let maker : IsMaker (start_state s.trace).entries ops f z =
+        subst (λ v. IsMaker (start_state s.trace).entries ops v z) same w.maker in
         false≢true (sym none ∙ maker_seen f z low maker (maker_there z maker))
 
     past : (k : ℕ) → k < n → has k ≡ true → seen k ≡ false → changed_file (op_at ops k) ≡ Some f → IsPast k
@@ -214,53 +226,68 @@ module _ (s : Scene) (wants : ℕ → ℕ → Bool) (are : (z k : ℕ) → wants
     abbrev few_left : State
     few_left = fold state_after start (map (op_at ops) few)
 
-    all_paths : all_left.paths ≡ run entries_after has start.paths ops n
-    all_paths =
-        paths_at start (map (op_at ops) places) ∙ ap (λ v. fold entries_after start.paths (map (op_at ops) v)) listed
-        ∙ chosen_run entries_after has start.paths ops n
+    all_entries : all_left.entries ≡ run entries_after has start.entries ops n
+    all_entries =
+        entries_at start (map (op_at ops) places) ∙ ap (λ v. fold entries_after start.entries (map (op_at ops) v)) listed
+        ∙ chosen_run entries_after has start.entries ops n
 
-    few_paths : few_left.paths ≡ run entries_after has start.paths ops n
-    few_paths = paths_at start (map (op_at ops) few) ∙ chosen_run entries_after seen start.paths ops n ∙ paths_same
+    few_entries : few_left.entries ≡ run entries_after has start.entries ops n
+    few_entries = entries_at start (map (op_at ops) few) ∙ chosen_run entries_after seen start.entries ops n ∙ entries_same
 
-    visible_same : (f : ℕ) (path : Path) → get (run entries_after has start.paths ops n) path ≡ Some (File f)
+    same_entries : all_left.entries ≡ few_left.entries
+    same_entries = all_entries ∙ sym few_entries
+
+    same_directories : all_left.directories ≡ few_left.directories
+    same_directories =
+        directories_at start (map (op_at ops) places) ∙ ap (λ v. fold directories_after start.directories (map (op_at ops) v)) listed
+        ∙ chosen_run directories_after has start.directories ops n
+        ∙ sym (directories_at start (map (op_at ops) few) ∙ chosen_run directories_after seen start.directories ops n ∙ directories_same)
+
+    visible_same : (f : ℕ) (entry : Entry) → file_in (get (run entries_after has start.entries ops n) entry) ≡ Some f
         → visible (get_or all_left.files f no_content) ≡ visible (get_or few_left.files f no_content)
-    visible_same f path named = ⊎_elim
+    visible_same f entry named = ⊎_elim
         (λ (low : f < length start.files).
         (let c = get_or start.files f no_content in
         ap visible (file_at start ops places f low ∙ ap (λ v. fold (content_after f) c (map (op_at ops) v)) listed
         ∙ chosen_run (content_after f) has c ops n)
-        ∙ content_same f path named c refl
+        ∙ content_same f entry named c refl
         ∙ sym (ap visible (file_at start ops few f low ∙ chosen_run (content_after f) seen c ops n))))
         (λ (high : length start.files ≤ f).
         ap visible (no_file start (map (op_at ops) places) f high ∙ sym (no_file start (map (op_at ops) few) f high)))
         (cases_lt f (length start.files))
 
-    owners_same : (f : ℕ) (path : Path) → get (run entries_after has start.paths ops n) path ≡ Some (File f)
+    owners_same : (f : ℕ) (entry : Entry) → file_in (get (run entries_after has start.entries ops n) entry) ≡ Some f
         → get_or all_left.owners f no_rights ≡ get_or few_left.owners f no_rights
-    owners_same f path named = ⊎_elim
+    owners_same f entry named = ⊎_elim
         (λ (low : f < length start.owners).
         (let r = get_or start.owners f no_rights in
         owner_at start (map (op_at ops) places) f low ∙ ap (λ v. fold (owner_after f) r (map (op_at ops) v)) listed
         ∙ chosen_run (owner_after f) has r ops n
-        ∙ sym (owner_same f path named r)
+        ∙ sym (owner_same f entry named r)
         ∙ sym (owner_at start (map (op_at ops) few) f low ∙ chosen_run (owner_after f) seen r ops n)))
         (λ (high : length start.owners ≤ f).
         no_owner start (map (op_at ops) places) f high ∙ sym (no_owner start (map (op_at ops) few) f high))
         (cases_lt f (length start.owners))
 
-    entry_same : (path : Path) (o : Option Entry) → get (run entries_after has start.paths ops n) path ≡ o
-        → option_map (record_of all_left.owners all_left.files) o ≡ option_map (record_of few_left.owners few_left.files) o
-    entry_same path None at = refl
-    entry_same path (Some (Directory rights)) at = refl
-    entry_same path (Some (File f)) at = λ i. Some (record_with (owners_same f path at i) 0 (Some (visible_same f path at i)))
+    node_same : (path : Path) (o : Option Node) → get (nodes_left all_left) path ≡ o
+        → option_map (record_of all_left) o ≡ option_map (record_of few_left) o
+    node_same path None at = refl
+    node_same path (Some (Directory d)) at = λ i. Some (record_with (get_or (same_directories i) d no_rights) DMDIR None)
+    node_same path (Some (File kind f)) at =
+        (let held = held_somewhere all_left.entries (length all_left.directories + 1) path kind f at in
+        let named : file_in (get (run entries_after has start.entries ops n) held.0) ≡ Some f =
+        ap (λ (m : Table). file_in (get m held.0)) (sym all_entries) ∙ ap file_in held.1 in
+        λ i. Some (record_with (owners_same f held.0 named i) (kind_bit kind) (Some (visible_same f held.0 named i))))
+
+    same_nodes : nodes_left all_left ≡ nodes_left few_left
+    same_nodes = λ i. paths_in (length (same_directories i) + 1) (same_entries i)
 
     records_same : records_of all_left ≡ records_of few_left
     records_same = same_map path_total path_exact _ _ (λ q.
-        get-map_values path_cmp (record_of all_left.owners all_left.files) all_left.paths q
-        ∙ ap (λ m. option_map (record_of all_left.owners all_left.files) (get m q)) all_paths
-        ∙ entry_same q (get (run entries_after has start.paths ops n) q) refl
-        ∙ sym (ap (λ m. option_map (record_of few_left.owners few_left.files) (get m q)) few_paths)
-        ∙ sym (get-map_values path_cmp (record_of few_left.owners few_left.files) few_left.paths q))
+        get-map_values path_cmp (record_of all_left) (nodes_left all_left) q
+        ∙ node_same q (get (nodes_left all_left) q) refl
+        ∙ ap (λ m. option_map (record_of few_left) (get m q)) same_nodes
+        ∙ sym (get-map_values path_cmp (record_of few_left) (nodes_left few_left) q))
 
     trees_same : tree_left s places ≡ tree_left s few
     unfolding state_of

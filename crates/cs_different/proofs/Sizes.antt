@@ -1,6 +1,7 @@
 -- A set without the first size above an offset leaves no size above it.
 use Rattle.std.proofs.Common.{◌≡◌, ◌≢◌, ℕ, zero, suc, ◌<◌, ◌≤◌, ◌==◌, Bool, true, false, cond, List, refl, sym, ap, ◌∙◌, subst, arith, ⊎_elim}
 use Rattle.std.proofs.lemmas.Bool.{cases_Bool, cases_eq, cases_lt, eqb-true, false≢true}
+use Rattle.cs_trace_lines.specs.Versions.{profile_of}
 use Rattle.cs_micro.specs.Micros.{Micros}
 use Rattle.cs_micro.specs.declared.micro_op.MicroOp.{MicroOp}
 use Rattle.cs_micro.specs.declared.micro_op.MicroOp.TheVariants.{CreateDirEntry, DeleteDirEntry, MoveDirEntry, LinkDirEntry, ChangeFileSize}
@@ -9,7 +10,7 @@ use Rattle.cs_apm.specs.Contents.{content_after, content_after_op}
 use Rattle.cs_apm.specs.Orders.{needs_of}
 use Rattle.cs_apm.specs.Reasons.{resizes_one_file}
 use Rattle.cs_apm.specs.Rules.{op_at}
-use Rattle.cs_apm.specs.Sets.{IsAllowed, is_member}
+use Rattle.cs_sets.specs.Sets.{IsAllowed, is_member}
 use Rattle.cs_apm.specs.States.{Content}
 use Rattle.cs_apm.specs.Laws.Members.{contains_has, found_has, run}
 use Rattle.cs_apm.specs.Laws.Reasons.{says_needs}
@@ -24,7 +25,7 @@ module _ (m : Micros) (n : ℕ) (places : List ℕ) (allowed : IsAllowed (needs_
       contains_has places z
       (allowed.closed at.0 z at.1
       (ap (needs_of m z) at.2
-      ∙ says_needs m.ops m.syncs m.version z j (record { before = low; reason = resizes_one_file f (to, first) (more, second) })))
+      ∙ says_needs m.ops m.syncs m.version (profile_of m.version) z j (record { before = low; reason = resizes_one_file f (to, first) (more, second) })))
 
   module _ (f offset z size : ℕ) (grower : IsGrower size m.ops f offset z) (lacks : is_member places z ≡ false) where
     small_size : (j to : ℕ) → op_at m.ops j ≡ ChangeFileSize f to → is_member places j ≡ true → to ≤ offset
@@ -48,10 +49,10 @@ module _ (m : Micros) (n : ℕ) (places : List ℕ) (allowed : IsAllowed (needs_
         by : (b : Bool) → (cond b (content_after_op c (WriteBlock file block start at bytes)) c).size ≤ offset
         by true = low
         by false = low
-    one_size (CreateDirEntry p node rights) c low small = low
-    one_size (DeleteDirEntry p kind) c low small = low
-    one_size (MoveDirEntry p q) c low small = low
-    one_size (LinkDirEntry p file) c low small = low
+    one_size (CreateDirEntry e node rights bytes) c low small = low
+    one_size (DeleteDirEntry e node) c low small = low
+    one_size (MoveDirEntry a b node old) c low small = low
+    one_size (LinkDirEntry e kind file old half) c low small = low
     one_size (SetAttr target rights) c low small = low
     one_size Say c low small = low
 

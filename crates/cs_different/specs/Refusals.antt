@@ -1,6 +1,6 @@
 -- When the sets that differ aren't found.
 use Rattle.std.specs.Prelude.{◌≡◌, ◌⊎◌, ◌<◌, ℕ, List, length}
-use Rattle.cs_apm.specs.Orders.{needs_in}
+use Rattle.cs_sets.specs.Orders.{needs_in}
 use Rattle.cs_plan.specs.Scenes.{Scene, order_in}
 use Rattle.cs_sets.specs.Every.{every}
 use Rattle.cs_different.specs.Sets.{AreDifferent}

@@ -4,9 +4,10 @@ use Rattle.std.specs.BTreeMap.{is_at}
 use Rattle.std.specs.List.{list_any}
 use Rattle.std.specs.Ordering.{nat_cmp}
 use Rattle.cs_tree_model.specs.Tree.{Tree}
-use Rattle.cs_apm.specs.Orders.{needs_in, needs_of}
+use Rattle.cs_sets.specs.Orders.{needs_in}
+use Rattle.cs_apm.specs.Orders.{needs_of}
 use Rattle.cs_apm.specs.States.{crash_state_of}
-use Rattle.cs_apm.specs.Sets as micros
+use Rattle.cs_sets.specs.Sets as micros
 use Rattle.cs_plan.specs.Scenes.{Scene, micros_of, order_in, says_of}
 use Rattle.cs_sets.specs.Places.{places_of}
 use Rattle.cs_different.specs.Digests.{digest_of, with_part}

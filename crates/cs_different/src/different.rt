@@ -1,6 +1,5 @@
 //! Those sets of a scene's micro-operations that differ in what they leave.
 ghost use Rattle.std.specs.Prelude.{◌≡◌, ◌≤◌, length, map, IfErr, IfOk};
-ghost use Rattle.cs_apm.specs.Orders as micros;
 ghost use Rattle.cs_plan.specs.Scenes.{order_in};
 ghost use Rattle.cs_sets.specs.Orders.{needs_in};
 ghost use Rattle.cs_sets.specs.Places.{places_of};
@@ -29,7 +28,7 @@ pub fn different_sets(
     most: u32,
 ) -> Result<Vec<Row>, DifferentFault>
     requires long { length order.now ≡ length (order_in scene.now) }
-    requires needs { needs_in order.now ≡ micros.needs_in (order_in scene.now) }
+    requires needs { needs_in order.now ≡ needs_in (order_in scene.now) }
     ensures different { IfOk result (λ sets. AreDifferent scene.now (map places_of sets.items)) }
     ensures few { IfOk result (λ sets. length sets.items ≤ most) }
     ensures refused { IfErr result (IsRefused scene.now most) }

@@ -2,29 +2,11 @@
 ghost use Rattle.std.specs.Prelude.{◌≡◌, ◌<◌, ℕ, false, true, length, IfSome};
 ghost use Rattle.std.specs.List.{list_any};
 ghost use Rattle.cs_apm.specs.Rules.{op_at};
-ghost use Rattle.cs_same_states.specs.Reaching as reaching;
 ghost use Rattle.cs_different.specs.Wants as model;
 ghost use Rattle.cs_different.specs.Wants.{grows_above, holds};
 
-use cs_apm::slot::Slot;
+use cs_entries::Node;
 use cs_micro::MicroOp;
-use cs_trace::{Node, Target};
-
-/// The file whose size, bytes, owner, group or permissions the micro-operation changes, if it
-/// changes a file.
-pub fn changed_file(op: &MicroOp) -> Option<u32>
-    ensures { result ≡ reaching.changed_file op.now }
-{
-    match op {
-        MicroOp::ChangeFileSize { file, .. }
-        | MicroOp::WriteBlock { file, .. }
-        | MicroOp::SetAttr {
-            target: Target::File(file),
-            ..
-        } => Some(*file),
-        _ => None,
-    }
-}
 
 /// Whether the micro-operation makes the file.
 fn makes(op: &MicroOp, file: u32) -> bool
@@ -32,7 +14,7 @@ fn makes(op: &MicroOp, file: u32) -> bool
 {
     match op {
         MicroOp::CreateDirEntry {
-            node: Node::File(made),
+            node: Node::File(_, made),
             ..
         } => *made == file,
         _ => false,
@@ -63,11 +45,11 @@ fn grows(op: &MicroOp, file: u32, offset: u64) -> bool
 }
 
 /// Whether the file is in the slot.
-fn is_held(slot: Slot, file: u32) -> bool
+fn is_held(slot: Option<Node>, file: u32) -> bool
     ensures { result ≡ holds file slot }
 {
     match slot {
-        Slot::File(held) => held == file,
+        Some(Node::File(_, held)) => held == file,
         _ => false,
     }
 }
@@ -85,7 +67,7 @@ pub fn is_linked(ops: &[MicroOp], file: u32) -> bool
 }
 
 /// Whether the file is in one of the slots.
-pub fn is_in_slot(slots: &[Slot], file: u32) -> bool
+pub fn is_in_slot(slots: &[Option<Node>], file: u32) -> bool
     ensures { result ≡ list_any (holds file) slots.now }
 {
     for slot in slots {

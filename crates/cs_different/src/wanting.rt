@@ -1,49 +1,30 @@
 //! What the micro-operations of a scene want: each wants earlier ones without which nothing shows
 //! what it does.
-ghost use Rattle.std.specs.Prelude.{◌≡◌, ◌⊎◌, ◌<◌, ◌≤◌, ◌+◌, ◌^◌, ℕ, true, length, Some, IfOk, IfSome};
-ghost use Rattle.cs_apm.specs.Atlases.{AreStarts, content_before};
+ghost use Rattle.std.specs.Prelude.{◌≡◌, ◌⊎◌, ◌<◌, ◌≤◌, ◌+◌, ◌^◌, ℕ, true, length, Some, IfOk};
+ghost use Rattle.std.specs.Prelude.{IfSome};
+ghost use Rattle.cs_apm.specs.Atlases.{content_before};
 ghost use Rattle.cs_apm.specs.States.{start_state};
 ghost use Rattle.cs_plan.specs.Scenes.{micros_of};
 ghost use Rattle.cs_same_states.specs.Parts.{AreParts};
 ghost use Rattle.cs_sets.specs.Bits.{has_place};
 ghost use Rattle.cs_sets.specs.Rows.{bit_in};
-ghost use Rattle.cs_state.specs.Windows.{whole_content};
 ghost use Rattle.cs_different.specs.Wants.{IsGrower, IsMaker, Wants, WantsGrower, WantsMaker};
 
-use crate::searching::{
-    changed_file, first_grower, first_maker, is_in_slot, is_linked, is_made_twice,
-};
-use cs_apm::tables::Tables;
+use crate::searching::{first_grower, first_maker, is_in_slot, is_linked, is_made_twice};
 use cs_micro::MicroOp;
 use cs_names::laws::know;
 use cs_names::limits::MICRO_OPERATIONS;
 use cs_plan::Scene;
-use cs_same_states::Parts;
+use cs_same_states::starts::start_bytes;
+use cs_same_states::{Parts, changed_file};
 use cs_sets::Row;
-use cs_trace::Trace;
 use std::alloc::{AllocError, Global};
-
-/// The bytes of the file at the start; no bytes if a micro-operation makes the file. Only the
-/// contract uses `_ops`, to speak of such files too. A file's record has bytes, so the last `&[]`
-/// isn't reached. `start_bytes` of cs_state and of cs_same_states have the same body: change all
-/// three.
-fn start_bytes<'a>(trace: &'a Trace, _ops: &[MicroOp], tables: &Tables, file: usize) -> &'a [u8]
-    requires { AreStarts trace.now tables.now.starts.items }
-    ensures { whole_content result.now ≡ content_before trace.now _ops.now file }
-{
-    let starts = &tables.starts;
-    if file >= starts.len() {
-        return &[];
-    }
-    let content = trace.records().content(starts[file] as usize);
-    content.bytes().unwrap_or(&[])
-}
 
 /// The place of the micro-operation that makes the file, if nothing else gives the file a path.
 fn maker_of(scene: &Scene, parts: &Parts, file: u32) -> Option<usize>
     requires { AreParts scene.now.trace parts.now }
     ensures { IfSome result
-        (IsMaker (start_state scene.now.trace).paths (micros_of scene.now).ops file) }
+        (IsMaker (start_state scene.now.trace).entries (micros_of scene.now).ops file) }
 {
     let ops = scene.micros().ops();
     if is_linked(ops, file) {

@@ -1,12 +1,13 @@
 -- The objects of a list as JSON, one more at a time.
-use Rattle.std.proofs.Common.{◌≡◌, ℕ, ◌+◌, List, [], ◌∷◌, ◌++◌, length, Option, refl, sym, ap, ◌∙◌, append_assoc, arith}
+use Rattle.std.proofs.Common.{◌≡◌, ℕ, ◌+◌, List, [], ◌∷◌, ◌++◌, length, Option, refl, sym, ap, ◌∙◌, arith, subst}
 use Rattle.std.proofs.Common.{length-append}
 use Rattle.std.proofs.lemmas.Grind.{flat_map-append}
 use Rattle.std.proofs.lemmas.List.{append-nil}
-use Rattle.std.specs.List.{enumerate_from, flat_map, range_with_len}
-use Rattle.cs_micro.proofs.Ranges.{flat_map-range_more}
+use Rattle.std.proofs.lemmas.List.Elements.{All-push}
+use Rattle.std.specs.List.{All, enumerate_from, flat_map}
 use Rattle.cs_plan.specs.Scenes.{Scene}
-use Rattle.cs_list.specs.Listings.{AreObjects, op_object, state_object}
+use Rattle.cs_list.specs.declared.profiles.Profiles.{Profiles}
+use Rattle.cs_list.specs.Listings.{AreObjects, AreProfilesOf, AreStateObjects, op_object, state_object}
 
 enumerated_more : {X : Type 0} (n : ℕ) (xs : List X) (x : X)
     → enumerate_from n (xs ++ x ∷ []) ≡ enumerate_from n xs ++ (n + length xs, x) ∷ []
@@ -14,6 +15,16 @@ enumerated_more n [] x = (let here : n ≡ n + 0 = omega arith in ap (λ k. (k, 
 enumerated_more n (y ∷ ys) x =
     let further : n + 1 + length ys ≡ n + length (y ∷ ys) = omega arith in
     ap (λ t. (n, y) ∷ t) (enumerated_more (n + 1) ys x ∙ ap (λ k. enumerate_from (n + 1) ys ++ (k, x) ∷ []) further)
+
+flat_more : {X : Type 0} (f : ℕ × X → List ℕ) (xs : List X) (count : ℕ) (x : X) → length xs ≡ count
+    → flat_map f (enumerate_from 0 xs) ++ f (count, x) ≡ flat_map f (enumerate_from 0 (xs ++ x ∷ []))
+flat_more f xs count x long =
+    let before = enumerate_from 0 xs in
+    let here : count ≡ 0 + length xs = omega (arith, long) in
+    ap (λ k. flat_map f before ++ f (k, x)) here
+    ∙ ap (λ v. flat_map f before ++ v) (sym (append-nil (f (0 + length xs, x))))
+    ∙ sym (flat_map-append f before ((0 + length xs, x) ∷ []))
+    ∙ ap (flat_map f) (sym (enumerated_more 0 xs x))
 
 pub no_objects : (s : Scene) (lines : List ℕ) → AreObjects s lines 0 []
 no_objects s lines = record { paths = []; long = refl; spelled = refl }
@@ -23,25 +34,32 @@ pub objects_more : (s : Scene) (lines : List ℕ) (count : ℕ) (text grown : Li
     → AreObjects s lines count text → grown ≡ text ++ op_object s lines (count, path) → AreObjects s lines (count + 1) grown
 objects_more s lines count text grown path so e =
     let f = op_object s lines in
-    let before = enumerate_from 0 so.paths in
     let long = so.long in
-    let here : count ≡ 0 + length so.paths = omega (arith, long) in
     let more = length-append so.paths (path ∷ []) in
     record {
       paths = so.paths ++ path ∷ [];
       long = omega (arith, long, more);
-      spelled = e ∙ ap (λ t. t ++ f (count, path)) so.spelled ∙ ap (λ k. flat_map f before ++ f (k, path)) here
-          ∙ ap (λ v. flat_map f before ++ v) (sym (append-nil (f (0 + length so.paths, path))))
-          ∙ sym (flat_map-append f before ((0 + length so.paths, path) ∷ []))
-          ∙ ap (flat_map f) (sym (enumerated_more 0 so.paths path));
+      spelled = e ∙ ap (λ t. t ++ f (count, path)) so.spelled ∙ flat_more f so.paths count path long;
     }
 
+pub no_states : (s : Scene) (firsts : List ℕ) → AreStateObjects s firsts 0 []
+no_states s firsts = record { profiles = []; long = refl; each = tt; spelled = refl }
+
 -- one state more
-pub states_more : (s : Scene) (firsts : List ℕ) (number : ℕ) (old text grown : List ℕ)
-    → text ≡ old ++ flat_map (state_object s firsts) (range_with_len 0 number) → grown ≡ text ++ state_object s firsts number
-    → grown ≡ old ++ flat_map (state_object s firsts) (range_with_len 0 (number + 1))
-states_more s firsts number old text grown before e =
+pub states_more : (s : Scene) (firsts : List ℕ) (count : ℕ) (text grown : List ℕ) (profiles : Profiles)
+    → AreStateObjects s firsts count text → AreProfilesOf s count profiles → grown ≡ text ++ state_object s firsts (count, profiles)
+    → AreStateObjects s firsts (count + 1) grown
+states_more s firsts count text grown profiles so has e =
     let f = state_object s firsts in
-    let here : 0 + number ≡ number = omega arith in
-    e ∙ ap (λ t. t ++ f number) before ∙ append_assoc old (flat_map f (range_with_len 0 number)) (f number)
-    ∙ ap (λ t. old ++ t) (sym (flat_map-range_more f 0 number number here))
+    let long = so.long in
+    let more = length-append so.profiles (profiles ∷ []) in
+    let here : count ≡ 0 + length so.profiles = omega (arith, long) in
+    let Has : ℕ × Profiles → Type 0 = λ p. AreProfilesOf s p.0 p.1 in
+    let there : AreProfilesOf s (0 + length so.profiles) profiles = subst (λ k. AreProfilesOf s k profiles) here has in
+    record {
+      profiles = so.profiles ++ profiles ∷ [];
+      long = omega (arith, long, more);
+      each = subst (All Has) (sym (enumerated_more 0 so.profiles profiles))
+          (All-push Has (enumerate_from 0 so.profiles) (0 + length so.profiles, profiles) so.each there);
+      spelled = e ∙ ap (λ t. t ++ f (count, profiles)) so.spelled ∙ flat_more f so.profiles count profiles long;
+    }

@@ -6,7 +6,7 @@ use Rattle.cs_trace.specs.States.{lines_in}
 use Rattle.cs_trace.specs.Traces.{Trace}
 use Rattle.cs_trace.specs.declared.operation.Operation.{Operation}
 use Rattle.cs_micro.specs.MicroOperations.{micros_of}
-use Rattle.cs_micro.specs.Micros.{block_of_version}
+use Rattle.cs_trace_lines.specs.declared.version.Version.{Version}
 
 -- the number of the line at a place, unless it is blank; lines count from 1
 abbrev pub number_unless_blank : ℕ × List ℕ → List ℕ
@@ -16,19 +16,19 @@ number_unless_blank e = cond (is_blank e.1) [] ((e.0 + 1) ∷ [])
 abbrev pub numbers_not_blank : List (List ℕ) → List ℕ
 numbers_not_blank lines = flat_map number_unless_blank (enumerate_from 0 lines)
 
--- an operation's line for each of its micro-operations, for a block size in bytes; so many lines
--- come before those of operations
-abbrev pub line_of : ℕ → List ℕ → ℕ → ℕ × Operation → List ℕ
-line_of block lines first e =
-    replicate (length (micros_of block e.1)) (slice_index lines (first + e.0))
+-- an operation's line for each of its micro-operations, in a trace of the version; so many lines come
+-- before those of operations
+abbrev pub line_of : Version → List ℕ → ℕ → ℕ × Operation → List ℕ
+line_of version lines first e =
+    replicate (length (micros_of version e.1)) (slice_index lines (first + e.0))
 
-abbrev pub lines_of_operations : ℕ → List ℕ → ℕ → List Operation → List ℕ
-lines_of_operations block lines first operations =
-    flat_map (line_of block lines first) (enumerate_from 0 operations)
+abbrev pub lines_of_operations : Version → List ℕ → ℕ → List Operation → List ℕ
+lines_of_operations version lines first operations =
+    flat_map (line_of version lines first) (enumerate_from 0 operations)
 
 -- the line of each micro-operation: the header and the lines of the start, which make one record
 -- each, come before those of the operations
 abbrev pub lines_of : List ℕ → Trace → List ℕ
 lines_of text trace =
-    lines_of_operations (block_of_version trace.version) (numbers_not_blank (lines_in text))
-    (length trace.records) trace.operations
+    lines_of_operations trace.version (numbers_not_blank (lines_in text)) (length trace.records)
+    trace.operations

@@ -2,19 +2,21 @@
 //! `json_listing`; the lines without JSON are in `printed`.
 ghost use Rattle.std.specs.Prelude.{◌≡◌, IfOk, Some, string_bytes};
 ghost use Rattle.std.specs.Option.{option_copied};
-ghost use Rattle.cs_micro.specs.Texts.{mode_text};
+ghost use Rattle.cs_micro.specs.Texts.{kind_text, mode_text};
 ghost use Rattle.cs_names.specs.Paths.{path_text};
 ghost use Rattle.cs_list.specs.Json.{block_fields, create_fields, delete_fields, fields_text};
-ghost use Rattle.cs_list.specs.Json.{file_fields, kind_of_entry, link_fields, move_fields};
-ghost use Rattle.cs_list.specs.Json.{node_fields};
+ghost use Rattle.cs_list.specs.Json.{file_fields, link_fields, move_fields, moved_fields};
+ghost use Rattle.cs_list.specs.Json.{node_fields, quoted_text};
 ghost use Rattle.cs_list.specs.Json.{op_line, places_array, quoted, quoted_or_null};
 ghost use Rattle.cs_list.specs.Json.{recipe_fields, rights_fields, set_attr_fields};
 ghost use Rattle.cs_list.specs.Json.{size_fields, state_line, target_fields};
 
-use cs_micro::{EntryKind, MicroOp};
+use crate::profiles::Profiles;
+use cs_entries::{FileKind, Node};
+use cs_micro::MicroOp;
 use cs_names::Path;
 use cs_plan::{Places, Recipe};
-use cs_trace::{Node, Rights, Target};
+use cs_trace::{Rights, Target, Version};
 use serde_json::Value;
 use std::alloc::{AllocError, Global};
 use std::fmt;
@@ -44,59 +46,94 @@ fn quoted_name(alloc: Global, name: &str) -> Result<String, AllocError>
     Value::String(String::from_str(alloc, name)?).to_string(alloc)
 }
 
-/// What a new entry is of: a directory, or the file of a number.
-#[derive(Clone, Copy)]
-struct NodeFields {
-    node: Node,
+/// Bytes as a JSON string, with its quotation marks; `null` if they are no text.
+fn quoted_text(alloc: Global, bytes: &[u8]) -> Result<String, AllocError>
+    ensures { IfOk result (λ text. string_bytes text ≡ quoted_text bytes.now) }
+{
+    match std::str::from_utf8(bytes) {
+        Ok(text) => quoted_name(alloc, text),
+        Err(_) => String::from_str(alloc, "null"),
+    }
 }
 
-impl fmt::Display for NodeFields {
-    ghost output = { λ fields. Some (node_fields fields.node) };
-
-    /// Writes JSON fields without braces: `node`, and of a file `file`, its number.
-    fn fmt<W: fmt::Write>(&self, f: &mut fmt::Formatter<W>) -> fmt::Result {
-        match self.node {
-            Node::Directory => f.write_str("\"node\":\"dir\""),
-            Node::File(file) => write!(f, "\"node\":\"file\",\"file\":{file}"),
+/// JSON fields without braces: `node`, what a new entry is of; of a file and of a symbolic link
+/// `file`, its number; and of a symbolic link `target`, which is `bytes`.
+fn fields_of_node(alloc: Global, node: Node, bytes: &[u8]) -> Result<String, AllocError>
+    ensures { IfOk result (λ text. string_bytes text ≡ node_fields node bytes.now) }
+{
+    match node {
+        Node::Directory(_) => String::from_str(alloc, "\"node\":\"dir\""),
+        Node::File(FileKind::Regular, file) => {
+            format!(in alloc; "\"node\":\"file\",\"file\":{file}")
+        }
+        Node::File(FileKind::Symlink, file) => {
+            let target = quoted_text(alloc, bytes)?;
+            format!(in alloc; "\"node\":\"symlink\",\"file\":{file},\"target\":{target}")
         }
     }
 }
 
 /// JSON fields without braces: the kind, the path of a new entry, and what the entry is of.
-fn fields_of_create(alloc: Global, path: &Path, node: Node) -> Result<String, AllocError>
-    ensures { IfOk result (λ text. string_bytes text ≡ create_fields path.now node) }
+fn fields_of_create(
+    alloc: Global,
+    path: &Path,
+    node: Node,
+    bytes: &[u8],
+) -> Result<String, AllocError>
+    ensures { IfOk result (λ text. string_bytes text ≡ create_fields path.now node bytes.now) }
 {
     let quoted = quoted_path(alloc, path)?;
-    let fields = NodeFields { node };
+    let fields = fields_of_node(alloc, node, bytes)?;
     format!(in alloc; "\"kind\":\"create_dir_entry\",\"path\":{quoted},{fields}")
 }
 
-/// The word for what a deleted entry was of: `dir` or `file`.
-fn kind_word(kind: EntryKind) -> &'static str
-    ensures { result.now ≡ kind_of_entry kind }
+/// The word for what an entry holds or held: `dir`, `file` or `symlink`.
+fn kind_word(node: Node) -> &'static str
+    ensures { result.now ≡ kind_text node }
 {
-    match kind {
-        EntryKind::Directory => "dir",
-        EntryKind::File => "file",
+    match node {
+        Node::Directory(_) => "dir",
+        Node::File(FileKind::Regular, _) => "file",
+        Node::File(FileKind::Symlink, _) => "symlink",
     }
 }
 
 /// JSON fields without braces: the kind, the path of a deleted entry, and what the entry was of.
-fn fields_of_delete(alloc: Global, path: &Path, kind: EntryKind) -> Result<String, AllocError>
-    ensures { IfOk result (λ text. string_bytes text ≡ delete_fields path.now kind) }
+fn fields_of_delete(alloc: Global, path: &Path, node: Node) -> Result<String, AllocError>
+    ensures { IfOk result (λ text. string_bytes text ≡ delete_fields path.now node) }
 {
     let quoted = quoted_path(alloc, path)?;
-    let node = kind_word(kind);
-    format!(in alloc; "\"kind\":\"delete_dir_entry\",\"path\":{quoted},\"node\":\"{node}\"")
+    let word = kind_word(node);
+    format!(in alloc; "\"kind\":\"delete_dir_entry\",\"path\":{quoted},\"node\":\"{word}\"")
 }
 
 /// JSON fields without braces: the kind, the path that an entry had, and its new path.
-fn fields_of_move(alloc: Global, from: &Path, to: &Path) -> Result<String, AllocError>
-    ensures { IfOk result (λ text. string_bytes text ≡ move_fields from.now to.now) }
+fn fields_of_paths(alloc: Global, from: &Path, to: &Path) -> Result<String, AllocError>
+    ensures { IfOk result (λ text. string_bytes text ≡ moved_fields from.now to.now) }
 {
     let quoted_from = quoted_path(alloc, from)?;
     let quoted_to = quoted_path(alloc, to)?;
     format!(in alloc; "\"kind\":\"move_dir_entry\",\"path\":{quoted_from},\"to\":{quoted_to}")
+}
+
+/// JSON fields without braces: those of `fields_of_paths`, and in a trace of the fourth version
+/// `node`, what is moved. In earlier versions only files are.
+fn fields_of_move(
+    alloc: Global,
+    version: Version,
+    from: &Path,
+    to: &Path,
+    node: Node,
+) -> Result<String, AllocError>
+    ensures { IfOk result
+        (λ text. string_bytes text ≡ move_fields version from.now to.now node) }
+{
+    let fields = fields_of_paths(alloc, from, to)?;
+    if !version.is_fourth() {
+        return Ok(fields);
+    }
+    let word = kind_word(node);
+    format!(in alloc; "{fields},\"node\":\"{word}\"")
 }
 
 /// JSON fields without braces: the kind, the new path of a file that exists, and the file's number.
@@ -161,8 +198,8 @@ fn fields_of_target(
 {
     match target {
         Target::File(file) => fields_of_file(alloc, path, *file),
-        Target::Directory(directory) => {
-            let quoted = quoted_path(alloc, directory)?;
+        Target::Directory { path: own, .. } => {
+            let quoted = quoted_path(alloc, own)?;
             format!(in alloc; "\"path\":{quoted}")
         }
     }
@@ -212,18 +249,27 @@ fn fields_of_set_attr(
     format!(in alloc; "\"kind\":\"set_attr\",{target_fields},{rights_fields}")
 }
 
-/// JSON fields without braces: the kind of a micro-operation, and the fields of that kind. `path`
-/// is one path of the file whose size, block or rights it changes, and counts only if it changes
-/// one.
-fn fields_of(alloc: Global, op: &MicroOp, path: Option<&Path>) -> Result<String, AllocError>
+/// JSON fields without braces: the kind of a micro-operation of a trace of this version, and the
+/// fields of that kind. `path` is one path of the file whose size, block or rights it changes, and
+/// counts only if it changes one.
+fn fields_of(
+    alloc: Global,
+    version: Version,
+    op: &MicroOp,
+    path: Option<&Path>,
+) -> Result<String, AllocError>
     ensures { IfOk result
-        (λ text. string_bytes text ≡ fields_text (option_copied path.entry) op.now) }
+        (λ text. string_bytes text ≡ fields_text version (option_copied path.entry) op.now) }
 {
     match op {
-        MicroOp::CreateDirEntry { path, node, .. } => fields_of_create(alloc, path, *node),
-        MicroOp::DeleteDirEntry { path, kind } => fields_of_delete(alloc, path, *kind),
-        MicroOp::MoveDirEntry { from, to } => fields_of_move(alloc, from, to),
-        MicroOp::LinkDirEntry { path, file } => fields_of_link(alloc, path, *file),
+        MicroOp::CreateDirEntry {
+            entry, node, bytes, ..
+        } => fields_of_create(alloc, &entry.path, *node, bytes.as_slice()),
+        MicroOp::DeleteDirEntry { entry, node } => fields_of_delete(alloc, &entry.path, *node),
+        MicroOp::MoveDirEntry { from, to, node, .. } => {
+            fields_of_move(alloc, version, &from.path, &to.path, *node)
+        }
+        MicroOp::LinkDirEntry { entry, file, .. } => fields_of_link(alloc, &entry.path, *file),
         MicroOp::ChangeFileSize { file, length } => fields_of_size(alloc, path, *file, *length),
         MicroOp::WriteBlock {
             file,
@@ -260,6 +306,7 @@ impl fmt::Display for PlacesArray<'_> {
 /// it needs by any chain and its own. `path` is as in `fields_of`.
 pub fn op_line(
     alloc: Global,
+    version: Version,
     place: usize,
     op: &MicroOp,
     path: Option<&Path>,
@@ -267,9 +314,9 @@ pub fn op_line(
     needs: &Places,
 ) -> Result<String, AllocError>
     ensures { IfOk result (λ text. string_bytes text
-        ≡ op_line place op.now (option_copied path.entry) line needs.now) }
+        ≡ op_line version place op.now (option_copied path.entry) line needs.now) }
 {
-    let fields = fields_of(alloc, op, path)?;
+    let fields = fields_of(alloc, version, op, path)?;
     let array = PlacesArray { places: needs };
     format!(in alloc; "{{\"op\":{place},{fields},\"line\":{line},\"needs\":{array}}}\n")
 }
@@ -299,17 +346,22 @@ impl fmt::Display for RecipeFields<'_> {
 }
 
 /// A JSON object and a line feed: the number of a state, the kind and fields of its recipe, how
-/// many acknowledged lines it has, and `first`, the number of the first state with an equal tree,
-/// which may be its own.
+/// many acknowledged lines it has, `first`, the number of the first state with an equal tree, which
+/// may be its own, and the profiles whose file systems may leave it.
 pub fn state_line(
     alloc: Global,
     number: usize,
     recipe: &Recipe,
     says: u32,
     first: u32,
+    profiles: Profiles,
 ) -> Result<String, AllocError>
-    ensures { IfOk result (λ text. string_bytes text ≡ state_line number recipe.now says first) }
+    ensures { IfOk result (λ text. string_bytes text
+        ≡ state_line number recipe.now says first profiles) }
 {
     let fields = RecipeFields { recipe };
-    format!(in alloc; "{{\"state\":{number},{fields},\"says\":{says},\"same\":{first}}}\n")
+    let array = profiles.array();
+    format!(in alloc;
+        "{{\"state\":{number},{fields},\"says\":{says},\"same\":{first},\"profiles\":{array}}}\n"
+    )
 }

@@ -3,18 +3,23 @@
 ghost use Rattle.std.specs.Prelude.{◌≡◌, ◌<◌, ◌++◌, ℕ, IfOk, List, OnOk, Option, length};
 ghost use Rattle.std.specs.Prelude.{string_bytes};
 ghost use Rattle.std.specs.Option.{option_copied};
-ghost use Rattle.cs_apm.specs.Orders.{needs_in};
+ghost use Rattle.cs_sets.specs.Orders.{needs_in};
 ghost use Rattle.cs_apm.specs.Rules.{op_at};
 ghost use Rattle.cs_picks.specs.Families.{least_with};
 ghost use Rattle.cs_plan.specs.Scenes.{micros_of, order_in};
 ghost use Rattle.cs_list.specs.Json as spec;
-ghost use Rattle.cs_list.specs.Listings.{AreObjects, op_object, state_object, state_objects};
+ghost use Rattle.cs_list.specs.Listings.{AreObjects, AreProfilesOf, AreStateObjects, op_object};
+ghost use Rattle.cs_list.specs.Listings.{state_object};
+ghost use Rattle.cs_list.specs.Profiles.{AreOrders};
+ghost use Rattle.cs_list.specs.declared.profiles.Profiles.{Profiles};
 
 use crate::json::{op_line, state_line};
 use crate::lines::number_at;
 use crate::paths::FilePaths;
+use crate::profiles::{Orders, Profiles, profiles_of};
 use cs_names::Path;
 use cs_picks::least_with;
+use cs_plan::members::places_of;
 use cs_plan::{Places, Scene};
 use std::alloc::{AllocError, Global};
 
@@ -29,12 +34,14 @@ fn op_line_at(
 ) -> Result<String, AllocError>
     requires { place < length (micros_of scene.now).ops }
     ensures { IfOk result (λ text. string_bytes text
-        ≡ spec.op_line place (op_at (micros_of scene.now).ops place) (option_copied path.entry) line
+        ≡ spec.op_line scene.now.trace.version place (op_at (micros_of scene.now).ops place)
+        (option_copied path.entry) line
         (least_with (needs_in (order_in scene.now)) place)) }
 {
     let needs = Places::of(least_with(alloc, scene.order(), place)?);
     op_line(
         alloc,
+        scene.trace().version(),
         place,
         &scene.micros().ops()[place],
         path,
@@ -79,6 +86,22 @@ pub fn op_objects(alloc: Global, scene: &Scene, lines: &[usize]) -> Result<Vec<u
     Ok(text)
 }
 
+/// The profiles of the state of a number. `orders` has the orders of the scene's trace.
+fn profiles_at(
+    alloc: Global,
+    scene: &Scene,
+    orders: &Orders,
+    number: usize,
+) -> Result<Profiles, AllocError>
+    requires orders { AreOrders (micros_of scene.now) orders.now }
+    requires there { number < length scene.now.plan }
+    ensures { IfOk result (λ profiles. AreProfilesOf scene.now number profiles) }
+{
+    let recipe = &scene.plan().recipes()[number];
+    let places = places_of(alloc, scene.order(), recipe)?;
+    Ok(profiles_of(scene.micros(), orders, &places))
+}
+
 /// The object of the state of a number. `firsts` has for each state the number of the first one
 /// with an equal tree.
 fn state_object(
@@ -86,30 +109,49 @@ fn state_object(
     scene: &Scene,
     firsts: &[u32],
     number: usize,
+    profiles: Profiles,
 ) -> Result<String, AllocError>
     requires { number < length scene.now.plan }
-    ensures { IfOk result (λ text. string_bytes text ≡ state_object scene.now firsts.now number) }
+    ensures { IfOk result (λ text. string_bytes text
+        ≡ state_object scene.now firsts.now (number, profiles)) }
 {
     let recipe = &scene.plan().recipes()[number];
     // the plan has the number
     let says = scene.says(number as u32).unwrap_or(0);
     let first = firsts.get(number).copied().unwrap_or(0);
-    state_line(alloc, number, recipe, says, first)
+    state_line(alloc, number, recipe, says, first, profiles)
 }
 
-/// Appends the objects of all states to the text. `firsts` is as in `state_object`. The error is
-/// out of memory; the text may have some of the objects then.
-pub fn push_state_objects(
+/// Appends the object of the state of a number to the text. The error is out of memory; the text
+/// may have the object then.
+fn push_state_object(
     alloc: Global,
     scene: &Scene,
+    orders: &Orders,
     firsts: &[u32],
+    number: usize,
     text: &mut Vec<u8>,
 ) -> Result<(), AllocError>
-    ensures { OnOk result (text.new.items ≡ text.old.items ++ state_objects scene.now firsts.now) }
+    requires orders { AreOrders (micros_of scene.now) orders.now }
+    requires there { number < length scene.now.plan }
+    ensures { OnOk result ((profiles : Profiles) × AreProfilesOf scene.now number profiles
+        × (text.new.items
+        ≡ text.old.items ++ state_object scene.now firsts.now (number, profiles))) }
 {
+    let profiles = profiles_at(alloc, scene, orders, number)?;
+    let object = state_object(alloc, scene, firsts, number, profiles)?;
+    text.extend_from_slice(object.as_bytes())
+}
+
+/// The objects of all states. `firsts` is as in `state_object`. The error is out of memory.
+pub fn state_objects(alloc: Global, scene: &Scene, firsts: &[u32]) -> Result<Vec<u8>, AllocError>
+    ensures { IfOk result (λ text.
+        AreStateObjects scene.now firsts.now (length scene.now.plan) text.items) }
+{
+    let orders = Orders::of(alloc, scene.micros())?;
+    let mut text = Vec::new(alloc);
     for number in 0..scene.plan().len() {
-        let object = state_object(alloc, scene, firsts, number)?;
-        text.extend_from_slice(object.as_bytes())?;
+        push_state_object(alloc, scene, &orders, firsts, number, &mut text)?;
     }
-    Ok(())
+    Ok(text)
 }

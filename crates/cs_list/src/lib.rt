@@ -11,6 +11,7 @@ mod listing;
 mod marked_listing;
 mod paths;
 mod printed;
+mod profiles;
 mod text;
 
 pub use cs_options::ListOptions;

@@ -2,7 +2,6 @@
 ghost use Rattle.std.specs.Prelude.{◌≡◌, ◌≤◌, ◌++◌, ◌^◌, IfOk, OnOk, length, replicate};
 ghost use Rattle.std.specs.Prelude.{slice_index};
 ghost use Rattle.std.specs.List.{All};
-ghost use Rattle.cs_trace_lines.specs.Versions.{block_bytes};
 ghost use Rattle.cs_trace.specs.States.{lines_in};
 ghost use Rattle.cs_micro.specs.MicroOperations.{IsWithinLimit};
 ghost use Rattle.cs_list.specs.Lines.{lines_of, lines_of_operations, number_unless_blank};
@@ -10,7 +9,7 @@ ghost use Rattle.cs_list.specs.Lines.{numbers_not_blank};
 
 use cs_micro::micro_count;
 use cs_names::limits::TREE_RECORDS;
-use cs_trace::{BlockSize, Operation, Trace};
+use cs_trace::{Operation, Trace, Version};
 use cs_trace_lines::is_blank;
 use std::alloc::{AllocError, Global};
 
@@ -62,20 +61,20 @@ fn push_repeated(
 /// has those of all lines that aren't blank; the one at the place `first` is the first operation's.
 fn lines_of_operations(
     alloc: Global,
-    block: BlockSize,
+    version: Version,
     numbers: &[usize],
     first: usize,
     operations: &[Operation],
 ) -> Result<Vec<usize>, AllocError>
-    requires within { All IsWithinLimit operations.now }
+    requires within { All (IsWithinLimit version) operations.now }
     requires few { first ≤ TREE_RECORDS }
     ensures { IfOk result (λ lines. lines.items
-        ≡ lines_of_operations (block_bytes block) numbers.now first operations.now) }
+        ≡ lines_of_operations version numbers.now first operations.now) }
 {
     let mut lines = Vec::new(alloc);
     for (place, operation) in operations.iter().enumerate() {
         let line = number_at(numbers, first + place);
-        push_repeated(alloc, &mut lines, line, micro_count(block, operation))?;
+        push_repeated(alloc, &mut lines, line, micro_count(version, operation))?;
     }
     Ok(lines)
 }
@@ -88,6 +87,5 @@ pub fn lines_of(alloc: Global, text: &str, trace: &Trace) -> Result<Vec<usize>, 
 {
     let numbers = numbers_not_blank(alloc, text)?;
     let first = trace.records().len();
-    let block = trace.version().block_size();
-    lines_of_operations(alloc, block, &numbers, first, trace.operations())
+    lines_of_operations(alloc, trace.version(), &numbers, first, trace.operations())
 }

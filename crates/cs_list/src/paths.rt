@@ -1,22 +1,68 @@
 //! The paths that each file has after the first micro-operations of a trace.
+use cs_entries::{Node, entry::copy_name};
 use cs_micro::{MicroOp, Micros};
 use cs_names::Path;
-use cs_trace::{Node, Target};
+use cs_same_states::changed_file;
 use std::alloc::{AllocError, Global};
+
+/// A path of a file: one of the trace's own, or one that the file has since a directory above it
+/// was moved.
+#[derive(Drop)]
+enum FilePath<'a> {
+    Named(&'a Path),
+    Moved(Path),
+}
 
 /// The paths of each file, by its number, the oldest first. A file that was deleted has none.
 #[derive(Drop)]
 pub struct FilePaths<'a> {
-    files: Vec<Vec<&'a Path>>,
+    files: Vec<Vec<FilePath<'a>>>,
+}
+
+impl<'a> FilePath<'a> {
+    fn path(&self) -> &Path {
+        match self {
+            FilePath::Named(path) => path,
+            FilePath::Moved(path) => path,
+        }
+    }
 }
 
 /// Replaces each path that is equal to `old` by `new`, in the same place; does nothing if none is.
-fn replace<'a>(paths: &mut [&'a Path], old: &Path, new: &'a Path) {
+fn replace<'a>(paths: &mut [FilePath<'a>], old: &Path, new: &'a Path) {
     for path in paths.iter_mut() {
-        if *path == old {
-            *path = new;
+        if path.path() == old {
+            *path = FilePath::Named(new);
         }
     }
+}
+
+/// The path with the names of `to` in place of its first names, which are those of `from`.
+fn path_below(alloc: Global, path: &Path, from: &Path, to: &Path) -> Result<Path, AllocError> {
+    let mut names = Vec::new(alloc);
+    for name in to.names() {
+        names.push(copy_name(alloc, name)?)?;
+    }
+    for name in path.names().skip(from.names().count()) {
+        names.push(copy_name(alloc, name)?)?;
+    }
+    Path::from_names(alloc, &names)
+}
+
+/// Gives each path that begins with `from` the names of `to` in place of these. After an error some
+/// have them.
+fn move_below(
+    alloc: Global,
+    paths: &mut [FilePath<'_>],
+    from: &Path,
+    to: &Path,
+) -> Result<(), AllocError> {
+    for path in paths.iter_mut() {
+        if path.path().begins_with(from) {
+            *path = FilePath::Moved(path_below(alloc, path.path(), from, to)?);
+        }
+    }
+    Ok(())
 }
 
 impl<'a> FilePaths<'a> {
@@ -35,7 +81,7 @@ impl<'a> FilePaths<'a> {
     fn push_start(&mut self, alloc: Global, paths: &'a [Path]) -> Result<(), AllocError> {
         let mut own = Vec::new(alloc);
         for path in paths {
-            own.push(path)?;
+            own.push(FilePath::Named(path))?;
         }
         self.files.push(own)?;
         Ok(())
@@ -45,34 +91,35 @@ impl<'a> FilePaths<'a> {
     /// After an error it isn't added.
     fn push_made(&mut self, alloc: Global, path: &'a Path) -> Result<(), AllocError> {
         let mut own = Vec::new(alloc);
-        own.push(path)?;
+        own.push(FilePath::Named(path))?;
         self.files.push(own)?;
         Ok(())
     }
 
     /// The oldest path of the file whose size, block or rights the micro-operation changes. None if
-    /// it changes no file, or one that has no path any more. `file_changed` of cs_picks and
-    /// `changed_file` of cs_same_states have the same cases: change all three.
-    pub fn path_of_changed_file(&self, op: &MicroOp) -> Option<&'a Path> {
-        let file = match op {
-            MicroOp::ChangeFileSize { file, .. }
-            | MicroOp::WriteBlock { file, .. }
-            | MicroOp::SetAttr {
-                target: Target::File(file),
-                ..
-            } => *file,
-            // no other operation changes a file
-            _ => return None,
-        };
+    /// it changes no file, or one that has no path any more.
+    pub fn path_of_changed_file(&self, op: &MicroOp) -> Option<&Path> {
+        let file = changed_file(op)?;
         let paths = self.files.get(file as usize)?;
-        paths.first().copied()
+        let first = paths.first()?;
+        Some(first.path())
     }
 
     /// Removes the path from the file that has it; does nothing if no file has it.
     fn remove_path(&mut self, gone: &Path) {
         for paths in self.files.iter_mut() {
-            paths.retain(|path| *path != gone);
+            paths.retain(|path| path.path() != gone);
         }
+    }
+
+    /// Adds a path of a file. What was there before loses it.
+    fn link_path(&mut self, path: &'a Path, file: u32) -> Result<(), AllocError> {
+        self.remove_path(path);
+        // a link is of a file that is there already
+        if let Some(paths) = self.files.get_mut(file as usize) {
+            paths.push(FilePath::Named(path))?;
+        }
+        Ok(())
     }
 
     /// Gives the file at `from` the path `to` instead. A file that was at `to` loses that path,
@@ -84,25 +131,44 @@ impl<'a> FilePaths<'a> {
         }
     }
 
-    /// Changes the paths as the next micro-operation does. After an error they are unchanged.
+    /// Moves all files below the directory at `from` to the same places below `to`.
+    fn move_directory(
+        &mut self,
+        alloc: Global,
+        from: &Path,
+        to: &Path,
+    ) -> Result<(), AllocError> {
+        for paths in self.files.iter_mut() {
+            move_below(alloc, paths, from, to)?;
+        }
+        Ok(())
+    }
+
+    /// Changes the paths as the next micro-operation does. After an error they must not be used.
     pub fn apply(&mut self, alloc: Global, op: &'a MicroOp) -> Result<(), AllocError> {
         match op {
             MicroOp::CreateDirEntry {
-                path,
-                node: Node::File(_),
+                entry,
+                node: Node::File(..),
                 ..
-            } => self.push_made(alloc, path)?,
-            MicroOp::LinkDirEntry { path, file } => {
-                // a link is of a file that is there already
-                if let Some(paths) = self.files.get_mut(*file as usize) {
-                    paths.push(path)?;
-                }
+            } => self.push_made(alloc, &entry.path),
+            MicroOp::LinkDirEntry { entry, file, .. } => self.link_path(&entry.path, *file),
+            MicroOp::DeleteDirEntry { entry, .. } => {
+                self.remove_path(&entry.path);
+                Ok(())
             }
-            MicroOp::DeleteDirEntry { path, .. } => self.remove_path(path),
-            MicroOp::MoveDirEntry { from, to } => self.move_path(from, to),
+            MicroOp::MoveDirEntry {
+                from,
+                to,
+                node: Node::Directory(_),
+                ..
+            } => self.move_directory(alloc, &from.path, &to.path),
+            MicroOp::MoveDirEntry { from, to, .. } => {
+                self.move_path(&from.path, &to.path);
+                Ok(())
+            }
             // no other operation changes a file's paths
-            _ => {}
+            _ => Ok(()),
         }
-        Ok(())
     }
 }

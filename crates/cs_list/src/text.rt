@@ -5,9 +5,9 @@ ghost use Rattle.cs_inputs.specs.Written.{IsOfNoStream};
 ghost use Rattle.cs_plan.specs.Lists.{list_text};
 ghost use Rattle.cs_plan.specs.Scenes.{micros_of};
 ghost use Rattle.cs_list.specs.Lines.{lines_of};
-ghost use Rattle.cs_list.specs.Listings.{AreObjects, IsJson, IsText, state_objects};
+ghost use Rattle.cs_list.specs.Listings.{AreObjects, AreStateObjects, IsJson, IsText};
 
-use crate::json_listing::{op_objects, push_state_objects};
+use crate::json_listing::{op_objects, state_objects};
 use crate::lines::lines_of;
 use crate::marked_listing::{push_op_lines, push_state_lines};
 use cs_inputs::ProgramFault;
@@ -65,12 +65,14 @@ fn json_objects(
     lines: &[usize],
     firsts: &[u32],
 ) -> Result<Vec<u8>, AllocError>
-    ensures { IfOk result (λ text. (objects : List ℕ)
+    ensures { IfOk result (λ text. (objects : List ℕ) × (states : List ℕ)
         × AreObjects scene.now lines.now (length (micros_of scene.now).ops) objects
-        × (text.items ≡ objects ++ state_objects scene.now firsts.now)) }
+        × AreStateObjects scene.now firsts.now (length scene.now.plan) states
+        × (text.items ≡ objects ++ states)) }
 {
     let mut text = op_objects(alloc, scene, lines)?;
-    push_state_objects(alloc, scene, firsts, &mut text)?;
+    let states = state_objects(alloc, scene, firsts)?;
+    text.extend_from_slice(&states)?;
     Ok(text)
 }
 

@@ -1,231 +1,566 @@
 -- The micro-operations of legal operations are legal.
-use Rattle.std.proofs.Common.{◌≡◌, ◌≢◌, ℕ, zero, suc, ◌+◌, ◌-◌, ◌<◌, ◌≤◌, ◌==◌, nat_lt, Bool, true, false, List, [], ◌∷◌, ◌++◌, None, Some}
-use Rattle.std.proofs.Common.{cond, fold, map, max, min, length, drop, refl, sym, ap, ◌∙◌, subst, arith, ⊎_elim, length-append, length-take}
-use Rattle.std.proofs.Common.{length-drop, length-set, eq-eqb}
-use Rattle.std.proofs.lemmas.Bool.{false≢true}
+use Rattle.std.proofs.Common.{◌≡◌, ◌≢◌, ℕ, zero, suc, ◌+◌, ◌-◌, ◌*◌, ◌/◌, ◌<◌, ◌≤◌, ◌==◌, ◌&&◌, nat_lt, Bool, true, false, List, [], ◌∷◌}
+use Rattle.std.proofs.Common.{◌++◌, Option, None, Some, cond, fold, map, max, min, length, drop, replicate, refl, sym, ap, ◌∙◌, subst}
+use Rattle.std.proofs.Common.{arith, ⊎_elim, ◌⊎◌, inl, inr, length-append, length-take, length-drop, length-set, eq-eqb}
+use Rattle.std.proofs.lemmas.Bool.{and_parts, cases_Bool, false≢true, leb-true, ltb-true}
+use Rattle.std.proofs.lemmas.List.{length-map, length-replicate}
 use Rattle.std.proofs.lemmas.List.Sums.{fold-append}
-use Rattle.std.proofs.lemmas.Option.{slice_get_within}
-use Rattle.std.specs.FinMap.{get, get-insert, get-remove, insert, nat_cmp-IsAntisymmetric, remove, same_map, slice_cmp-IsAntisymmetric}
-use Rattle.std.specs.List.{flat_map, range_with_len, slice_range, slice_set}
+use Rattle.std.proofs.lemmas.Option.{get_or_from_slice_get, same_Some, slice_get_within}
+use Rattle.std.specs.FinMap.{get, get-insert, get-remove, insert, remove, same_map}
+use Rattle.std.specs.List.{All, flat_map, range_with_len, slice_get, slice_range, slice_set}
 use Rattle.std.specs.Option.{option_map_or}
-use Rattle.std.specs.Ordering.{eq_by_cmp}
-use Rattle.cs_names.specs.Paths.{path_eq, path_ties}
+use Rattle.std.specs.Ordering.{eq_by_cmp, is_eq}
+use Rattle.std.specs.Prelude.{if◌then◌else◌, nat_le}
+use Rattle.cs_entries.specs.declared.entry.DirEntry.{DirEntry}
+use Rattle.cs_entries.specs.declared.node.FileKind.{FileKind}
+use Rattle.cs_entries.specs.declared.node.FileKind.TheVariants.{Regular, Symlink}
+use Rattle.cs_entries.specs.declared.node.Node.{Node}
+use Rattle.cs_entries.specs.declared.node.Node.TheVariants.{Directory, File}
+use Rattle.cs_entries.specs.DirEntries.{IsNamed, entry_of}
+use Rattle.cs_entries.specs.declared.entry.Entry.{Entry}
+use Rattle.cs_entries.specs.Entries.{Entries, entry_eq, put}
+use Rattle.cs_entries.specs.Entries as entries
+use Rattle.cs_entries.specs.Legal.{Any, IsReached, IsLegal as IsLegalEntryOp}
+use Rattle.cs_entries.specs.Paths.{at_path, down, entry_in, in_node}
+use Rattle.cs_entries.specs.Tables.{Table, entry_cmp, held_in, table_after}
+use Rattle.cs_entries.specs.Laws.One.{entry_cases, entry_from, no_directory, put_other}
+use Rattle.cs_entries.specs.Laws.Trees.{way_kept}
+use Rattle.cs_entries.specs.Laws.Listed.{down_nothing}
+use Rattle.cs_entries.specs.Laws.Records.{entry_exact, entry_total, table_step}
+use Rattle.cs_tree_model.specs.Maps.Changes.{key_cases}
+use Rattle.cs_tree_model.specs.Tree.{Path, parent_path}
 use Rattle.cs_names.specs.declared.limits.TheConstants.{FILE_BYTES}
-use Rattle.cs_tree_model.specs.Tree.{Path, path_cmp}
-use Rattle.cs_tree_model.specs.Laws.Paths.{path_cases, path_total}
-use Rattle.cs_trace.specs.Operations as trace
-use Rattle.cs_trace.specs.Operations.{Paths}
-use Rattle.cs_trace.specs.declared.operation.Node.{Node}
-use Rattle.cs_trace.specs.declared.operation.Node.TheVariants.{File}
-use Rattle.cs_trace.specs.declared.operation.Operation.{Operation}
-use Rattle.cs_trace.specs.declared.operation.Operation.TheVariants.{Creat, Mkdir, Unlink, Rmdir, Rename, Link, Write, Truncate, SetAttr}
-use Rattle.cs_trace.specs.declared.operation.Operation.TheVariants.{Sync, Say}
-use Rattle.cs_trace.specs.declared.operation.Target.TheVariants as targets
-use Rattle.cs_trace_lines.specs.Versions.{block_bytes}
+use Rattle.cs_trace_lines.specs.Lines.{is_target, is_without_nul}
+use Rattle.cs_trace_lines.specs.declared.values.TheConstants.{TARGET_BYTES}
+use Rattle.cs_trace_lines.specs.Versions.{block_bytes, block_size_of, is_fourth}
 use Rattle.cs_trace_lines.specs.declared.version.BlockSize.{BlockSize}
+use Rattle.cs_trace_lines.specs.declared.version.Version.{Version}
+use Rattle.cs_trace.specs.Limits.{most_bytes}
+use Rattle.cs_trace.specs.declared.limits.TheConstants.{LARGE_FILE_BYTES}
+use Rattle.cs_trace.specs.Operations as trace
+use Rattle.cs_trace.specs.Operations.{FileSystem, Stands, system_after}
+use Rattle.cs_trace.specs.declared.operation.Operation.{Operation}
+use Rattle.cs_trace.specs.declared.operation.Operation.TheVariants.{Creat, Mkdir, Symlink as MakeLink, Unlink, Rmdir, Rename, Link, Write}
+use Rattle.cs_trace.specs.declared.operation.Operation.TheVariants.{Truncate, SetAttr, Sync, Say}
+use Rattle.cs_trace.specs.declared.operation.Target.TheVariants as targets
+use Rattle.cs_trace.specs.Traces.{AreLegalFromStart as LegalTrace, Trace, size_at, start_sizes, start_table}
 use Rattle.cs_micro.specs.Blocks.{block_of, block_write, block_writes, start_of}
-use Rattle.cs_micro.specs.Legal.{AreLegal, IsLegal, made_after, paths_after}
-use Rattle.cs_micro.specs.MicroOperations.{growth_micros, micro_operations_of, micros_of, rename_micros, truncate_micros, same_rights}
-use Rattle.cs_micro.specs.MicroOperations.{write_micros}
+use Rattle.cs_micro.specs.Legal.{AreLegal, IsLegal, Made, made_after}
+use Rattle.cs_micro.specs.MicroOperations.{block_of_version, bytes_micros, comes_in_halves, growth_micros, micro_operations_of, micros_of}
+use Rattle.cs_micro.specs.MicroOperations.{move_micros, rename_micros, same_rights, truncate_micros, write_micros, zero_micros}
+use Rattle.cs_micro.specs.Micros.{AreLegalFromStart, micros_in}
+use Rattle.cs_micro.specs.Pages.{grows_past_page, page_end, sizes_on_way, zeros_behind}
 use Rattle.cs_micro.specs.declared.micro_op.MicroOp.{MicroOp}
 use Rattle.cs_micro.specs.declared.micro_op.MicroOp.TheVariants.{ChangeFileSize}
 use Rattle.cs_micro.specs.declared.micro_op.MicroOp.TheVariants as micro
 use Rattle.cs_micro.proofs.Divisions.{next_start, some_bytes, starts_after, starts_by}
 
--- some are legal, and they leave these paths, and so many files made
-record Leaves (size : ℕ) (m : Paths) (made : ℕ) (ops : List MicroOp) (after : Paths) (count : ℕ) : Type 0 where
-  legal : AreLegal size m made ops
-  paths : fold paths_after m ops ≡ after
-  files : fold made_after made ops ≡ count
+-- some are legal, and they leave this
+record Leaves (version : Version) (m : Made) (ops : List MicroOp) (after : Made) : Type 0 where
+  legal : AreLegal version m ops
+  made : fold made_after m ops ≡ after
 
 -- those and then others
-both_legal : (size : ℕ) (m : Paths) (made : ℕ) (xs ys : List MicroOp) → AreLegal size m made xs
-    → AreLegal size (fold paths_after m xs) (fold made_after made xs) ys → AreLegal size m made (xs ++ ys)
-both_legal size m made [] ys before after = after
-both_legal size m made (x ∷ xs) ys before after = (before.0, both_legal size (paths_after m x) (made_after made x) xs ys before.1 after)
+both_legal : (version : Version) (m : Made) (xs ys : List MicroOp) → AreLegal version m xs
+    → AreLegal version (fold made_after m xs) ys → AreLegal version m (xs ++ ys)
+both_legal version m [] ys before after = after
+both_legal version m (x ∷ xs) ys before after = (before.0, both_legal version (made_after m x) xs ys before.1 after)
 
--- an operation that leaves paths and files as they were, and is legal there
-record IsQuiet (size : ℕ) (m : Paths) (made : ℕ) (o : MicroOp) : Type 0 where
-  legal : IsLegal size m made o
-  paths : paths_after m o ≡ m
-  files : made_after made o ≡ made
+both_leave : (version : Version) (m : Made) (xs ys : List MicroOp) (after last : Made) → Leaves version m xs after → Leaves version after ys last
+    → Leaves version m (xs ++ ys) last
+both_leave version m xs ys after last one two = record {
+  legal = both_legal version m xs ys one.legal (subst (λ x. AreLegal version x ys) (sym one.made) two.legal);
+  made = fold-append made_after m xs ys ∙ ap (λ x. fold made_after x ys) one.made ∙ two.made;
+}
 
-quiet_leaves : (size : ℕ) (m : Paths) (made : ℕ) (f : ℕ → MicroOp) (a n : ℕ) → ((k : ℕ) → a ≤ k → k < a + n → IsQuiet size m made (f k))
-    → Leaves size m made (map f (range_with_len a n)) m made
-quiet_leaves size m made f a zero quiet = record { legal = tt; paths = refl; files = refl }
-quiet_leaves size m made f a (suc n) quiet =
+nothing_leaves : (version : Version) (m : Made) → Leaves version m [] m
+nothing_leaves version m = record { legal = tt; made = refl }
+
+-- one that is legal and leaves all as it was
+record IsQuiet (version : Version) (m : Made) (o : MicroOp) : Type 0 where
+  legal : IsLegal version m o
+  made : made_after m o ≡ m
+
+quiet_leaves : (version : Version) (m : Made) (f : ℕ → MicroOp) (a n : ℕ) → ((k : ℕ) → a ≤ k → k < a + n → IsQuiet version m (f k))
+    → Leaves version m (map f (range_with_len a n)) m
+quiet_leaves version m f a zero quiet = nothing_leaves version m
+quiet_leaves version m f a (suc n) quiet =
     let one = quiet a (omega arith) (omega arith) in
-    let rest = quiet_leaves size m made f (a + 1) n (λ k low high. quiet k (omega (arith, low)) (omega (arith, high))) in
+    let rest = quiet_leaves version m f (a + 1) n (λ k low high. quiet k (omega (arith, low)) (omega (arith, high))) in
     let ops = map f (range_with_len (a + 1) n) in
     record {
-      legal = (
-        one.legal,
-        subst (λ x. AreLegal size x (made_after made (f a)) ops) (sym one.paths)
-            (subst (λ i. AreLegal size m i ops) (sym one.files) rest.legal),
-      );
-      paths = ap (λ x. fold paths_after x ops) one.paths ∙ rest.paths;
-      files = ap (λ i. fold made_after i ops) one.files ∙ rest.files;
+      legal = (one.legal, subst (λ x. AreLegal version x ops) (sym one.made) rest.legal);
+      made = ap (λ x. fold made_after x ops) one.made ∙ rest.made;
     }
 
--- ---- blocks
+quiet_one : (version : Version) (m : Made) (o : MicroOp) → IsQuiet version m o → Leaves version m (o ∷ []) m
+quiet_one version m o quiet = record { legal = (quiet.legal, tt); made = quiet.made }
 
--- how many of the bytes lie between two places of the file
-length_between : (offset : ℕ) (bytes : List ℕ) (begin end : ℕ) → offset ≤ begin → begin ≤ end → end ≤ offset + length bytes
-    → length (slice_range bytes (begin - offset) (end - offset)) ≡ end - begin
-length_between offset bytes begin end low le high =
-    let from = begin - offset in
-    let dropped = length-drop from bytes in
-    let taken = length-take (end - offset - from) (drop from bytes) in
-    omega (arith, dropped, taken, low, le, high)
+quiet_unless : (version : Version) (m : Made) (o : MicroOp) (b : Bool) → IsQuiet version m o → Leaves version m (cond b [] (o ∷ [])) m
+quiet_unless version m o true quiet = nothing_leaves version m
+quiet_unless version m o false quiet = quiet_one version m o quiet
 
-block_quiet : (b : BlockSize) (m : Paths) (made file offset : ℕ) (bytes : List ℕ) (block : ℕ) → trace.Stands m file → file < made
-    → 0 < length bytes → offset + length bytes ≤ FILE_BYTES
-    → start_of (block_bytes b) block < offset + length bytes → offset < start_of (block_bytes b) (block + 1)
-    → IsQuiet (block_bytes b) m made (block_write (block_bytes b) file offset bytes block)
-block_quiet b m made file offset bytes block stands known some limit begins ends =
-    let next = next_start b block in
-    let positive = some_bytes b in
-    let begin = max offset (start_of (block_bytes b) block) in
-    let end = min (offset + length bytes) (start_of (block_bytes b) (block + 1)) in
-    let long = length_between offset bytes begin end (omega arith) (omega (arith, some, begins, ends, next)) (omega arith) in
-    record {
+-- ---- files
+
+module _ (version : Version) (m : Made) (file : ℕ) (stands : Stands (held_in m.entries) Regular file) (known : file < m.files) where
+  abbrev b : BlockSize
+  b = block_size_of version
+
+  size_quiet : (to : ℕ) → to ≤ most_bytes version → IsQuiet version m (ChangeFileSize file to)
+  size_quiet to limit = record {
+    legal = record { named = tt; entry = tt; fitting = (known, limit, stands) };
+    made = refl;
+  }
+
+  -- how many of the bytes lie between two places of the file
+  length_between : (offset : ℕ) (bytes : List ℕ) (begin end : ℕ) → offset ≤ begin → begin ≤ end → end ≤ offset + length bytes
+      → length (slice_range bytes (begin - offset) (end - offset)) ≡ end - begin
+  length_between offset bytes begin end low le high =
+      let from = begin - offset in
+      let dropped = length-drop from bytes in
+      let taken = length-take (end - offset - from) (drop from bytes) in
+      omega (arith, dropped, taken, low, le, high)
+
+  block_quiet : (offset : ℕ) (bytes : List ℕ) (block : ℕ) → 0 < length bytes → offset + length bytes ≤ most_bytes version
+      → start_of (block_bytes b) block < offset + length bytes → offset < start_of (block_bytes b) (block + 1)
+      → IsQuiet version m (block_write (block_bytes b) file offset bytes block)
+  block_quiet offset bytes block some limit begins ends =
+      let next = next_start b block in
+      let positive = some_bytes b in
+      let begin = max offset (start_of (block_bytes b) block) in
+      let end = min (offset + length bytes) (start_of (block_bytes b) (block + 1)) in
+      let long = length_between offset bytes begin end (omega arith) (omega (arith, some, begins, ends, next)) (omega arith) in
+      record {
+        legal = record {
+          named = tt;
+          entry = tt;
+          fitting = (
+            known,
+            omega (arith, some, long, begins, ends, next, positive),
+            omega (arith, long, begins, ends, next),
+            refl,
+            omega (arith, long, begins, ends, next, limit),
+            stands,
+          );
+        };
+        made = refl;
+      }
+
+  blocks_leave : (offset : ℕ) (bytes : List ℕ) → 0 < length bytes → offset + length bytes ≤ most_bytes version
+      → Leaves version m (block_writes (block_of_version version) file offset bytes) m
+  unfolding block_writes
+  blocks_leave offset bytes some limit =
+      quiet_leaves version m (block_write (block_bytes b) file offset bytes) (block_of (block_bytes b) offset) _
+      (λ block low high.
+      let begins = starts_by b block (offset + length bytes - 1) (omega (arith, low, high)) in
+      let ends = starts_after b (block + 1) offset (omega (arith, low)) in
+      block_quiet offset bytes block some limit (omega (arith, some, begins)) ends)
+
+  bytes_leave : (offset : ℕ) (bytes : List ℕ) → (0 < length bytes → offset + length bytes ≤ most_bytes version)
+      → Leaves version m (bytes_micros version file offset bytes) m
+  bytes_leave offset bytes limit = by (length bytes == 0) refl
+    where
+      by : (empty : Bool) → (length bytes == 0) ≡ empty
+          → Leaves version m (cond empty [] (block_writes (block_of_version version) file offset bytes)) m
+      by true e = nothing_leaves version m
+      by false e =
+          let filled : length bytes ≢ 0 = λ none. false≢true (sym e ∙ eq-eqb (length bytes) 0 none) in
+          let some : 0 < length bytes = omega (arith, filled) in
+          blocks_leave offset bytes some (limit some)
+
+  grown_on_way : (size end : ℕ) (past : Bool) → grows_past_page size end ≡ past → end ≤ most_bytes version
+      → Leaves version m (map (ChangeFileSize file) (cond past (page_end size ∷ end ∷ []) (end ∷ []))) m
+  grown_on_way size end true is limit =
+      let parts = and_parts (nat_lt size (page_end size)) (nat_lt (page_end size) end) is in
+      let below : page_end size < end = ltb-true (page_end size) end parts.1 in
+      both_leave version m (ChangeFileSize file (page_end size) ∷ []) (ChangeFileSize file end ∷ []) m m
+      (quiet_one version m _ (size_quiet (page_end size) (omega (arith, below, limit)))) (quiet_one version m _ (size_quiet end limit))
+  grown_on_way size end false is limit = quiet_one version m _ (size_quiet end limit)
+
+  growth_leaves : (size end : ℕ) → end ≤ most_bytes version → Leaves version m (growth_micros version file size end) m
+  growth_leaves size end limit = by (nat_lt size end) (is_fourth version)
+    where
+      by : (grows fourth : Bool)
+          → Leaves version m (map (ChangeFileSize file) (cond grows (cond fourth (sizes_on_way size end) (end ∷ [])) [])) m
+      by false fourth = nothing_leaves version m
+      by true false = quiet_one version m _ (size_quiet end limit)
+      by true true = grown_on_way size end (grows_past_page size end) refl limit
+
+  written_leaves : (size offset : ℕ) (bytes : List ℕ) → (0 < length bytes → offset + length bytes ≤ most_bytes version)
+      → Leaves version m (write_micros version file size offset bytes) m
+  written_leaves size offset bytes limit = by (length bytes == 0) refl
+    where
+      by : (empty : Bool) → (length bytes == 0) ≡ empty
+          → Leaves version m (cond empty [] (growth_micros version file size (offset + length bytes)
+          ++ block_writes (block_of_version version) file offset bytes)) m
+      by true e = nothing_leaves version m
+      by false e =
+          let filled : length bytes ≢ 0 = λ none. false≢true (sym e ∙ eq-eqb (length bytes) 0 none) in
+          let some : 0 < length bytes = omega (arith, filled) in
+          both_leave version m (growth_micros version file size (offset + length bytes))
+          (block_writes (block_of_version version) file offset bytes) m m
+          (growth_leaves size (offset + length bytes) (limit some)) (blocks_leave offset bytes some (limit some))
+
+  -- zeros end at the page's end or the file's, whichever is first
+  zeros_leave : (size to : ℕ) → size ≤ most_bytes version → Leaves version m (zero_micros version file size to) m
+  zeros_leave size to limit = by (is_fourth version)
+    where
+      by : (fourth : Bool) → Leaves version m (cond fourth (bytes_micros version file to (zeros_behind size to)) []) m
+      by false = nothing_leaves version m
+      by true =
+          bytes_leave to (zeros_behind size to)
+          (λ some. (let long = length-replicate {A = ℕ} (min (page_end to) size - to) 0 in omega (arith, long, some, limit)))
+
+  truncated_leaves : (size to : ℕ) → size ≤ most_bytes version → to ≤ most_bytes version
+      → Leaves version m (truncate_micros version file size to) m
+  truncated_leaves size to before limit = by (size == to)
+    where
+      by : (same : Bool) → Leaves version m (cond same [] (zero_micros version file size to ++ ChangeFileSize file to ∷ [])) m
+      by true = nothing_leaves version m
+      by false =
+          both_leave version m (zero_micros version file size to) (ChangeFileSize file to ∷ []) m m (zeros_leave size to before)
+          (quiet_one version m _ (size_quiet to limit))
+
+-- ---- renames
+
+-- what is no directory leads to none
+leads_to_none : (m : Entries) (held : Option Node) → ((d : ℕ) → held ≢ Some (Directory d)) → (path : Path) (d : ℕ)
+    → down m held path ≢ Some (Directory d)
+leads_to_none m held none [] d h = none d h
+leads_to_none m None none (x ∷ path) d h = none d (absurd (nothing (sym (down_nothing m path) ∙ h)))
+  where
+    nothing : None ≡ Some (Directory d) → ⊥
+    nothing h = absurd (cc)
+leads_to_none m (Some (File kind file)) none (x ∷ path) d h = nothing (sym (down_nothing m path) ∙ h)
+  where
+    nothing : None ≡ Some (Directory d) → ⊥
+    nothing h = absurd (cc)
+leads_to_none m (Some (Directory c)) none (x ∷ path) d h = none c refl
+
+-- a path that leads to a directory leads there also if something is put where none is
+keeps_path : (m : Entries) (b : Entry) (node : Node) → ((d : ℕ) → m b ≢ Some (Directory d)) → (path : Path) (held : Option Node) (d : ℕ)
+    → down m held path ≡ Some (Directory d) → down (put m b (Some node)) held path ≡ Some (Directory d)
+keeps_path m b node none [] held d h = h
+keeps_path m b node none (x ∷ path) None d h = keeps_path m b node none path None d h
+keeps_path m b node none (x ∷ path) (Some (File kind file)) d h = keeps_path m b node none path None d h
+keeps_path m b node none (x ∷ path) (Some (Directory c)) d h = ⊎_elim
+    (λ (one : (entry_eq b (entry_in c x) ≡ true) × (b ≡ entry_in c x)).
+    absurd (leads_to_none m (m (entry_in c x)) (λ k is. none k (ap m one.1 ∙ is)) path d h))
+    (λ (two : (entry_eq b (entry_in c x) ≡ false) × (b ≢ entry_in c x)).
+    ap (λ o. down (put m b (Some node)) o path) (put_other m b (entry_in c x) (Some node) two.1)
+    ∙ keeps_path m b node none path (m (entry_in c x)) d h)
+    (entry_cases b (entry_in c x))
+
+same_key : (q e : Entry) → is_eq (entry_cmp q e) ≡ true → q ≡ e
+same_key q e h = ⊎_elim
+    (λ (one : (eq_by_cmp entry_cmp q e ≡ true) × (q ≡ e)). one.1)
+    (λ (two : (eq_by_cmp entry_cmp q e ≡ false) × (q ≢ e)). absurd (false≢true (sym two.0 ∙ h)))
+    (key_cases entry_total entry_exact q e)
+
+abbrev pub made_of : FileSystem → Made
+made_of fs = record { entries = fs.entries; files = length fs.sizes; homes = fs.homes }
+
+module _ (version : Version) (fs : FileSystem) (a b : DirEntry) (named : IsNamed (held_in fs.entries) a × IsNamed (held_in fs.entries) b) where
+  abbrev m : Made
+  m = made_of fs
+
+  abbrev from : Entry
+  from = entry_of a
+
+  abbrev to : Entry
+  to = entry_of b
+
+  -- what a move of the node leaves
+  abbrev moved : Node → Option Node → Made
+  moved node old = record m { entries = table_after fs.entries (entries.Move from to node old) }
+
+  whole_leaves : (node : Node) (old : Option Node) → IsLegalEntryOp (held_in fs.entries) (entries.Move from to node old)
+      → trace.MayReplace version node old → Leaves version m (micro.MoveDirEntry a b node old ∷ []) (moved node old)
+  whole_leaves node old legal may = record {
+    legal = (record { named = named; entry = legal; fitting = may }, tt);
+    made = refl;
+  }
+
+  module _ (kind : FileKind) (file : ℕ) (old : Option Node)
+      (legal : IsLegalEntryOp (held_in fs.entries) (entries.Move from to (File kind file) old))
+      (may : trace.MayReplace version (File kind file) old) (given : file < length fs.sizes) where
+    abbrev linked : Made
+    linked = made_after m (micro.LinkDirEntry b kind file old true)
+
+    no_directory_by : (o : Option Node) → trace.MayReplace version (File kind file) o → (d : ℕ) → o ≢ Some (Directory d)
+    no_directory_by None may d h = absurd (cc)
+    no_directory_by (Some (Directory c)) may d h = absurd may
+    no_directory_by (Some (File k f)) may d h = no_directory k f d h
+
+    none_there : (d : ℕ) → held_in fs.entries to ≢ Some (Directory d)
+    none_there d h = no_directory_by old may d (sym legal.2 ∙ h)
+
+    link_legal : IsLegalEntryOp (held_in fs.entries) (entries.Link to kind file)
+    link_legal = (
+      none_there,
+      (
+        legal.4.0,
+        way_kept (held_in fs.entries) (held_in fs.entries) (λ f. f ≢ from) Any (λ f c held passes. (held, tt)) legal.4.0 to.directory legal.4.1,
+      ),
+    )
+
+    step : (e : Entry) → held_in linked.entries e ≡ put (held_in fs.entries) to (Some (File kind file)) e
+    step e = table_step fs.entries (entries.Link to kind file) link_legal e
+
+    still : held_in linked.entries from ≡ Some (File kind file)
+    still = step from ∙ put_other (held_in fs.entries) to from (Some (File kind file)) (λ same. legal.0 (sym same)) ∙ legal.1
+
+    named_still : IsNamed (held_in linked.entries) a
+    named_still = (
+      named.0.0,
+      ap (λ held. at_path held (parent_path a.path)) (λ i e. step e i)
+          ∙ keeps_path (held_in fs.entries) to (File kind file) none_there (parent_path a.path) (Some (Directory 0)) a.directory named.0.1,
+    )
+
+    same_end : table_after linked.entries (entries.Delete from (File kind file)) ≡ table_after fs.entries (entries.Move from to (File kind file) old)
+    same_end =
+        same_map entry_total entry_exact _ _ (λ q. both q)
+        ∙ ap (λ o. option_map_or (λ held. insert (remove fs.entries from) to held) o fs.entries) (sym legal.1)
+      where
+        both : (q : Entry) → get (remove (insert fs.entries to (File kind file)) from) q
+            ≡ get (insert (remove fs.entries from) to (File kind file)) q
+        both q =
+            get-remove entry_total (insert fs.entries to (File kind file)) from q
+            ∙ ap (cond (is_eq (entry_cmp q from)) None) (get-insert entry_total fs.entries to (File kind file) q)
+            ∙ swapped (is_eq (entry_cmp q from)) (is_eq (entry_cmp q to)) refl refl
+            ∙ ap (cond (is_eq (entry_cmp q to)) (Some (File kind file))) (sym (get-remove entry_total fs.entries from q))
+            ∙ sym (get-insert entry_total (remove fs.entries from) to (File kind file) q)
+          where
+            swapped : (f t : Bool) → is_eq (entry_cmp q from) ≡ f → is_eq (entry_cmp q to) ≡ t
+                → cond f None (cond t (Some (File kind file)) (get fs.entries q))
+                ≡ cond t (Some (File kind file)) (cond f None (get fs.entries q))
+            swapped true true x y = absurd (legal.0 (sym (same_key q from x) ∙ same_key q to y))
+            swapped true false x y = refl
+            swapped false t x y = refl
+
+    halves_leave : Leaves version m (micro.LinkDirEntry b kind file old true ∷ micro.DeleteDirEntry a (File kind file) ∷ [])
+        (moved (File kind file) old)
+    halves_leave = record {
       legal = (
-        known,
-        omega (arith, some, long, begins, ends, next, positive),
-        omega (arith, long, begins, ends, next),
-        refl,
-        omega (arith, long, begins, ends, next, limit),
-        stands,
+        record {
+          named = named.1;
+          entry = link_legal;
+          fitting = (given, (from, legal.1), legal.2, λ whole. absurd (false≢true (sym whole)));
+        },
+        (
+          record {
+            named = named_still;
+            entry = (still, λ d is. absurd (no_directory kind file d is));
+            fitting = tt;
+          },
+          tt,
+        ),
       );
-      paths = refl;
-      files = refl;
+      made = ap (λ t. record m { entries = t }) same_end;
     }
 
-blocks_leave : (b : BlockSize) (m : Paths) (made file offset : ℕ) (bytes : List ℕ) → trace.Stands m file → file < made → 0 < length bytes
-    → offset + length bytes ≤ FILE_BYTES
-    → Leaves (block_bytes b) m made (block_writes (block_bytes b) file offset bytes) m made
-unfolding block_writes
-blocks_leave b m made file offset bytes stands known some limit =
-    quiet_leaves (block_bytes b) m made (block_write (block_bytes b) file offset bytes) (block_of (block_bytes b) offset) _
-    (λ block low high.
-    let begins = starts_by b block (offset + length bytes - 1) (omega (arith, low, high)) in
-    let ends = starts_after b (block + 1) offset (omega (arith, low)) in
-    block_quiet b m made file offset bytes block stands known some limit (omega (arith, some, begins)) ends)
+    file_leaves : Leaves version m (move_micros version a b (File kind file) old) (moved (File kind file) old)
+    file_leaves = by (comes_in_halves version a b)
+      where
+        by : (halved : Bool)
+            → Leaves version m (cond halved
+            (micro.LinkDirEntry b kind file old true ∷ micro.DeleteDirEntry a (File kind file) ∷ [])
+            (micro.MoveDirEntry a b (File kind file) old ∷ [])) (moved (File kind file) old)
+        by true = halves_leave
+        by false = whole_leaves (File kind file) old legal may
+
+  moved_leaves : (node : Node) (old : Option Node) → IsLegalEntryOp (held_in fs.entries) (entries.Move from to node old)
+      → trace.MayReplace version node old → trace.IsGiven fs node
+      → Leaves version m (move_micros version a b node old) (moved node old)
+  moved_leaves (Directory d) old legal may given = whole_leaves (Directory d) old legal may
+  moved_leaves (File kind file) old legal may given = file_leaves kind file old legal may given
+
+  renamed_by : (same : Bool) (node : Node) (old : Option Node)
+      → IsLegalEntryOp (held_in fs.entries) (if same then entries.Other else entries.Move from to node old)
+      → trace.MayReplace version node old → trace.IsGiven fs node
+      → Leaves version m (if same then [] else move_micros version a b node old)
+      (record m { entries = table_after fs.entries (if same then entries.Other else entries.Move from to node old) })
+  renamed_by true node old legal may given = nothing_leaves version m
+  renamed_by false node old legal may given = moved_leaves node old legal may given
 
 -- ---- one operation
 
-both_leave : (size : ℕ) (m : Paths) (made : ℕ) (xs ys : List MicroOp) (after last : Paths) (count n : ℕ) → Leaves size m made xs after count
-    → Leaves size after count ys last n → Leaves size m made (xs ++ ys) last n
-both_leave size m made xs ys after last count n one two = record {
-  legal = both_legal size m made xs ys one.legal
-      (subst (λ x. AreLegal size x (fold made_after made xs) ys) (sym one.paths)
-      (subst (λ i. AreLegal size after i ys) (sym one.files) two.legal));
-  paths = fold-append paths_after m xs ys ∙ ap (λ x. fold paths_after x ys) one.paths ∙ two.paths;
-  files = fold-append made_after made xs ys ∙ ap (λ i. fold made_after i ys) one.files ∙ two.files;
-}
-
-size_leaves : (size : ℕ) (m : Paths) (made file to : ℕ) (b : Bool) → trace.Stands m file → file < made → to ≤ FILE_BYTES
-    → Leaves size m made (cond b (ChangeFileSize file to ∷ []) []) m made
-size_leaves size m made file to true stands known limit = record { legal = ((known, limit, stands), tt); paths = refl; files = refl }
-size_leaves size m made file to false stands known limit = record { legal = tt; paths = refl; files = refl }
-
-resized_leaves : (size : ℕ) (m : Paths) (made file to : ℕ) (b : Bool) → trace.Stands m file → file < made → to ≤ FILE_BYTES
-    → Leaves size m made (cond b [] (ChangeFileSize file to ∷ [])) m made
-resized_leaves size m made file to true stands known limit = record { legal = tt; paths = refl; files = refl }
-resized_leaves size m made file to false stands known limit = record { legal = ((known, limit, stands), tt); paths = refl; files = refl }
-
--- one that is quiet, or none
-quiet_unless : (size : ℕ) (m : Paths) (made : ℕ) (o : MicroOp) (b : Bool) → IsQuiet size m made o
-    → Leaves size m made (cond b [] (o ∷ [])) m made
-quiet_unless size m made o true quiet = record { legal = tt; paths = refl; files = refl }
-quiet_unless size m made o false quiet = record { legal = (quiet.legal, tt); paths = quiet.paths; files = quiet.files }
-
-written_leaves : (b : BlockSize) (m : Paths) (made file size offset : ℕ) (bytes : List ℕ) → trace.Stands m file → file < made
-    → (0 < length bytes → offset + length bytes ≤ FILE_BYTES)
-    → Leaves (block_bytes b) m made (write_micros (block_bytes b) file size offset bytes) m made
-written_leaves b m made file size offset bytes stands known limit = by (length bytes == 0) refl
-  where
-    by : (empty : Bool) → (length bytes == 0) ≡ empty
-        → Leaves (block_bytes b) m made
-        (cond empty [] (growth_micros file size (offset + length bytes) ++ block_writes (block_bytes b) file offset bytes)) m made
-    by true e = record { legal = tt; paths = refl; files = refl }
-    by false e =
-        let filled : length bytes ≢ 0 = λ none. false≢true (sym e ∙ eq-eqb (length bytes) 0 none) in
-        let some : 0 < length bytes = omega (arith, filled) in
-        both_leave (block_bytes b) m made (growth_micros file size (offset + length bytes)) (block_writes (block_bytes b) file offset bytes)
-        m m made made
-        (size_leaves (block_bytes b) m made file (offset + length bytes) (nat_lt size (offset + length bytes)) stands known (limit some))
-        (blocks_leave b m made file offset bytes stands known some (limit some))
-
--- a file that moves to its own path
-moved_itself : (m : Paths) (p : Path) (node : Node) → get m p ≡ Some node → trace.moved p p m ≡ m
-moved_itself m p node is =
-    ap (λ o. option_map_or (λ x. insert (remove m p) p x) o m) is
-    ∙ same_map path_total (slice_cmp-IsAntisymmetric (slice_cmp-IsAntisymmetric nat_cmp-IsAntisymmetric)) (insert (remove m p) p node) m
-    (λ r.
-    get-insert path_total (remove m p) p node r
-    ∙ ⊎_elim
-    (λ (one : (eq_by_cmp path_cmp r p ≡ true) × (r ≡ p)). ap (λ b. cond b (Some node) (get (remove m p) r)) one.0 ∙ sym is ∙ ap (get m)
-    (sym one.1))
-    (λ (two : (eq_by_cmp path_cmp r p ≡ false) × (r ≢ p)). ap (λ b. cond b (Some node) (get (remove m p) r)) two.0 ∙ get-remove path_total m
-    p r ∙ ap (λ b. cond b None (get m r)) two.0)
-    (path_cases r p))
-
-renamed_leaves : (size : ℕ) (m : Paths) (made : ℕ) (p q : Path) → trace.IsFileAt m p → trace.MayTake m q
-    → Leaves size m made (rename_micros p q) (trace.moved p q m) made
-renamed_leaves size m made p q there free = ⊎_elim
-    (λ (one : (eq_by_cmp path_cmp p q ≡ true) × (p ≡ q)).
-    let e : path_eq p q ≡ true = path_ties p q ∙ one.0 in
-    let same : m ≡ trace.moved p q m = sym (moved_itself m p (File there.0) there.1) ∙ ap (λ r. trace.moved p r m) one.1 in
-    rw e (record { legal = tt; paths = same; files = refl }))
-    (λ (two : (eq_by_cmp path_cmp p q ≡ false) × (p ≢ q)).
-    let e : path_eq p q ≡ false = path_ties p q ∙ two.0 in
-    rw e (record { legal = ((two.1, there, free), tt); paths = refl; files = refl }))
-    (path_cases p q)
+longer : (sizes : List ℕ) (n : ℕ) → length sizes + 1 ≡ length (sizes ++ n ∷ [])
+longer sizes n = sym (length-append sizes (n ∷ []))
 
 -- a list of sizes is as long after a change of one
-same_count : (size : ℕ) (m : Paths) (sizes : List ℕ) (file to : ℕ) (ops : List MicroOp) → Leaves size m (length sizes) ops m (length sizes)
-    → Leaves size m (length sizes) ops m (length (slice_set sizes file to))
-same_count size m sizes file to ops = subst (λ n. Leaves size m (length sizes) ops m n) (sym (length-set sizes file to))
+same_count : (version : Version) (fs : FileSystem) (file to : ℕ) (ops : List MicroOp) → Leaves version (made_of fs) ops (made_of fs)
+    → Leaves version (made_of fs) ops (made_of (record fs { sizes = slice_set fs.sizes file to }))
+same_count version fs file to ops =
+    subst (λ n. Leaves version (made_of fs) ops (record (made_of fs) { files = n })) (sym (length-set fs.sizes file to))
 
-operation_leaves : (b : BlockSize) (m : Paths) (sizes : List ℕ) (o : Operation) → trace.IsLegal m sizes o
-    → Leaves (block_bytes b) m (length sizes) (micros_of (block_bytes b) o) (trace.paths_after m o) (length (trace.sizes_after sizes o))
-operation_leaves b m sizes (Creat p file rights) legal = record {
-  legal = (legal, tt);
-  paths = refl;
-  files = sym (length-append sizes (0 ∷ []));
+-- no file is larger than the version allows
+abbrev pub AreSmall : Version → FileSystem → Type 0
+AreSmall version fs = (file size : ℕ) → trace.HasSize fs.sizes file size → size ≤ most_bytes version
+
+operation_leaves : (version : Version) (fs : FileSystem) (o : Operation) → AreSmall version fs → trace.IsLegal version fs o
+    → Leaves version (made_of fs) (micros_of version o) (made_of (system_after fs o))
+operation_leaves version fs (Creat e file rights) small l = record {
+  legal = (record { named = l.named; entry = l.entry; fitting = ((l.fitting.0, refl), l.fitting.1) }, tt);
+  made = ap (λ n. record (made_of (system_after fs (Creat e file rights))) { files = n }) (longer fs.sizes 0);
 }
-operation_leaves b m sizes (Mkdir p rights) legal = record { legal = (legal, tt); paths = refl; files = refl }
-operation_leaves b m sizes (Unlink p) legal = record { legal = (legal, tt); paths = refl; files = refl }
-operation_leaves b m sizes (Rmdir p) legal = record { legal = (legal, tt); paths = refl; files = refl }
-operation_leaves b m sizes (Rename p q) legal = renamed_leaves (block_bytes b) m (length sizes) p q legal.0 legal.1
-operation_leaves b m sizes (Link p file) legal = record { legal = ((legal.0, legal.2, legal.1), tt); paths = refl; files = refl }
-operation_leaves b m sizes (Write file size offset bytes) legal =
-    same_count (block_bytes b) m sizes file (trace.written_size size offset bytes) (write_micros (block_bytes b) file size offset bytes)
-    (written_leaves b m (length sizes) file size offset bytes legal.0 (slice_get_within sizes file size legal.1) legal.2)
-operation_leaves b m sizes (Truncate file size to) legal =
-    same_count (block_bytes b) m sizes file to (truncate_micros file size to)
-    (resized_leaves (block_bytes b) m (length sizes) file to (size == to) legal.0 (slice_get_within sizes file size legal.1) legal.2)
-operation_leaves b m sizes (SetAttr (targets.File file) before after) legal =
-    quiet_unless (block_bytes b) m (length sizes) (micro.SetAttr (targets.File file) after) (same_rights before after)
-    (record { legal = (legal.1, legal.0, legal.2); paths = refl; files = refl })
-operation_leaves b m sizes (SetAttr (targets.Directory p) before after) legal =
-    quiet_unless (block_bytes b) m (length sizes) (micro.SetAttr (targets.Directory p) after) (same_rights before after)
-    (record { legal = legal; paths = refl; files = refl })
-operation_leaves b m sizes (Sync covers) legal = record { legal = tt; paths = refl; files = refl }
-operation_leaves b m sizes Say legal = record { legal = (tt, tt); paths = refl; files = refl }
+operation_leaves version fs (Mkdir e directory rights) small l = record {
+  legal = (record { named = l.named; entry = l.entry; fitting = ((l.fitting.0, refl), l.fitting.1) }, tt);
+  made = refl;
+}
+operation_leaves version fs (MakeLink e file rights target) small l = record {
+  legal = (
+    record { named = l.named; entry = l.entry; fitting = ((l.fitting.0, l.fitting.1, l.fitting.3), l.fitting.2) },
+    tt,
+  );
+  made = ap (λ n. record (made_of (system_after fs (MakeLink e file rights target))) { files = n }) (longer fs.sizes (length target));
+}
+operation_leaves version fs (Link e file) small l = record {
+  legal = (
+    record {
+      named = l.named;
+      entry = l.entry;
+      fitting = (l.fitting.2, l.fitting.1, l.fitting.0, λ _. (refl, refl));
+    },
+    tt,
+  );
+  made = refl;
+}
+operation_leaves version fs (Unlink e kind file) small l = record {
+  legal = (record { named = l.named; entry = l.entry; fitting = tt }, tt);
+  made = refl;
+}
+operation_leaves version fs (Rmdir e directory) small l = record {
+  legal = (record { named = l.named; entry = l.entry; fitting = tt }, tt);
+  made = refl;
+}
+operation_leaves version fs (Rename a b node old) small l =
+    renamed_by version fs a b l.named (entry_eq (entry_of a) (entry_of b)) node old l.entry l.fitting.0 l.fitting.1
+operation_leaves version fs (Write file size offset bytes) small l =
+    same_count version fs file (trace.written_size size offset bytes) (write_micros version file size offset bytes)
+    (written_leaves version (made_of fs) file l.fitting.0 (slice_get_within fs.sizes file size l.fitting.1) size offset bytes l.fitting.2)
+operation_leaves version fs (Truncate file size to) small l =
+    same_count version fs file to (truncate_micros version file size to)
+    (truncated_leaves version (made_of fs) file l.fitting.0 (slice_get_within fs.sizes file size l.fitting.1) size to
+    (small file size l.fitting.1) l.fitting.2)
+operation_leaves version fs (SetAttr (targets.File file) before after) small l =
+    quiet_unless version (made_of fs) (micro.SetAttr (targets.File file) after) (same_rights before after)
+    (record {
+      legal = record { named = tt; entry = tt; fitting = (l.fitting.1, l.fitting.0, l.fitting.2) };
+      made = refl;
+    })
+operation_leaves version fs (SetAttr (targets.Directory d path) before after) small l =
+    quiet_unless version (made_of fs) (micro.SetAttr (targets.Directory d path) after) (same_rights before after)
+    (record { legal = record { named = l.named; entry = tt; fitting = l.fitting }; made = refl })
+operation_leaves version fs (Sync covers) small l = nothing_leaves version (made_of fs)
+operation_leaves version fs Say small l = record {
+  legal = (record { named = tt; entry = tt; fitting = tt }, tt);
+  made = refl;
+}
+
+-- ---- no file becomes too large
+
+appended : (xs : List ℕ) (y k s : ℕ) → slice_get (xs ++ y ∷ []) k ≡ Some s → (slice_get xs k ≡ Some s) ⊎ (s ≡ y)
+appended [] y zero s h = inr (sym (same_Some y s h))
+appended [] y (suc k) s h = absurd (let low = slice_get_within [] k s h in omega (arith, low))
+appended (x ∷ xs) y zero s h = inl h
+appended (x ∷ xs) y (suc k) s h = appended xs y k s h
+
+placed : (xs : List ℕ) (k v j s : ℕ) → slice_get (slice_set xs k v) j ≡ Some s → (slice_get xs j ≡ Some s) ⊎ (s ≡ v)
+placed [] k v j s h = inl h
+placed (x ∷ xs) zero v zero s h = inr (sym (same_Some v s h))
+placed (x ∷ xs) zero v (suc j) s h = inl h
+placed (x ∷ xs) (suc k) v zero s h = inl h
+placed (x ∷ xs) (suc k) v (suc j) s h = placed xs k v j s h
+
+with_more : (version : Version) (sizes : List ℕ) (n : ℕ) → ((f s : ℕ) → trace.HasSize sizes f s → s ≤ most_bytes version)
+    → n ≤ most_bytes version → (f s : ℕ) → trace.HasSize (sizes ++ n ∷ []) f s → s ≤ most_bytes version
+with_more version sizes n small low f s h = ⊎_elim
+    (λ (old : slice_get sizes f ≡ Some s). small f s old)
+    (λ (new : s ≡ n). omega (arith, new, low))
+    (appended sizes n f s h)
+
+with_other : (version : Version) (sizes : List ℕ) (file n : ℕ) → ((f s : ℕ) → trace.HasSize sizes f s → s ≤ most_bytes version)
+    → n ≤ most_bytes version → (f s : ℕ) → trace.HasSize (slice_set sizes file n) f s → s ≤ most_bytes version
+with_other version sizes file n small low f s h = ⊎_elim
+    (λ (old : slice_get sizes f ≡ Some s). small f s old)
+    (λ (new : s ≡ n). omega (arith, new, low))
+    (placed sizes file n f s h)
+
+written_low : (version : Version) (size offset : ℕ) (bytes : List ℕ) → size ≤ most_bytes version
+    → (0 < length bytes → offset + length bytes ≤ most_bytes version)
+    → trace.written_size size offset bytes ≤ most_bytes version
+written_low version size offset bytes small limit = by (length bytes == 0) refl
+  where
+    by : (empty : Bool) → (length bytes == 0) ≡ empty → (if empty then size else max size (offset + length bytes)) ≤ most_bytes version
+    by true e = small
+    by false e =
+        let filled : length bytes ≢ 0 = λ none. false≢true (sym e ∙ eq-eqb (length bytes) 0 none) in
+        let some = limit (omega (arith, filled)) in
+        omega (arith, small, some)
+
+target_low : (version : Version) (target : List ℕ) → is_target target ≡ true → length target ≤ most_bytes version
+target_low version target h =
+    let parts = and_parts (nat_lt 0 (length target) && nat_le (length target) TARGET_BYTES) (is_without_nul target) h in
+    let long = leb-true (length target) TARGET_BYTES (and_parts (nat_lt 0 (length target)) (nat_le (length target) TARGET_BYTES) parts.0).1 in
+    by (is_fourth version) long
+  where
+    by : (fourth : Bool) → length target ≤ TARGET_BYTES → length target ≤ (if fourth then LARGE_FILE_BYTES else FILE_BYTES)
+    by true long = omega (arith, long)
+    by false long = omega (arith, long)
+
+pub small_after : (version : Version) (fs : FileSystem) (o : Operation) → AreSmall version fs → trace.IsLegal version fs o
+    → AreSmall version (system_after fs o)
+small_after version fs (Creat e file rights) small l = with_more version fs.sizes 0 small (omega arith)
+small_after version fs (MakeLink e file rights target) small l =
+    with_more version fs.sizes (length target) small (target_low version target l.fitting.3)
+small_after version fs (Write file size offset bytes) small l =
+    with_other version fs.sizes file (trace.written_size size offset bytes) small
+    (written_low version size offset bytes (small file size l.fitting.1) l.fitting.2)
+small_after version fs (Truncate file size to) small l = with_other version fs.sizes file to small l.fitting.2
+small_after version fs (Mkdir e directory rights) small l = small
+small_after version fs (Link e file) small l = small
+small_after version fs (Unlink e kind file) small l = small
+small_after version fs (Rmdir e directory) small l = small
+small_after version fs (Rename a b node old) small l = small
+small_after version fs (SetAttr target before after) small l = small
+small_after version fs (Sync covers) small l = small
+small_after version fs Say small l = small
 
 -- ---- all of them
 
-pub all_legal : (b : BlockSize) (m : Paths) (sizes : List ℕ) (ops : List Operation) → trace.AreLegal m sizes ops
-    → AreLegal (block_bytes b) m (length sizes) (micro_operations_of (block_bytes b) ops)
+pub all_legal : (version : Version) (fs : FileSystem) (ops : List Operation) → AreSmall version fs → trace.AreLegal version fs ops
+    → AreLegal version (made_of fs) (micro_operations_of version ops)
 unfolding micro_operations_of
-all_legal b m sizes [] legal = tt
-all_legal b m sizes (o ∷ ops) legal =
-    let size = block_bytes b in
-    let one = operation_leaves b m sizes o legal.0 in
-    let rest = all_legal b (trace.paths_after m o) (trace.sizes_after sizes o) ops legal.1 in
-    let others = flat_map (micros_of size) ops in
-    both_legal size m (length sizes) (micros_of size o) others one.legal
-    (subst (λ x. AreLegal size x (fold made_after (length sizes) (micros_of size o)) others) (sym one.paths)
-    (subst (λ n. AreLegal size (trace.paths_after m o) n others) (sym one.files) rest))
+all_legal version fs [] small legal = tt
+all_legal version fs (o ∷ ops) small legal =
+    let one = operation_leaves version fs o small legal.0 in
+    let rest = all_legal version (system_after fs o) ops (small_after version fs o small legal.0) legal.1 in
+    let others = flat_map (micros_of version) ops in
+    both_legal version (made_of fs) (micros_of version o) others one.legal (subst (λ x. AreLegal version x others) (sym one.made) rest)
+
+-- and what they leave, their micro-operations leave
+pub all_leave : (version : Version) (fs : FileSystem) (ops : List Operation) → AreSmall version fs → trace.AreLegal version fs ops
+    → fold made_after (made_of fs) (micro_operations_of version ops) ≡ made_of (trace.system_after_all fs ops)
+unfolding micro_operations_of
+all_leave version fs [] small legal = refl
+all_leave version fs (o ∷ ops) small legal =
+    let one = operation_leaves version fs o small legal.0 in
+    fold-append made_after (made_of fs) (micros_of version o) (flat_map (micros_of version) ops)
+    ∙ ap (λ x. fold made_after x (flat_map (micros_of version) ops)) one.made
+    ∙ all_leave version (system_after fs o) ops (small_after version fs o small legal.0) legal.1
+
+-- what a trace breaks into is legal from its start on
+pub micros_legal : (t : Trace) → LegalTrace t → All (λ size. size ≤ most_bytes t.version) (start_sizes t)
+    → AreLegalFromStart t (micros_in t)
+micros_legal t l small = record {
+  homes = l.homes;
+  are = l.are;
+  many = l.many;
+  legal = subst (λ n. AreLegal t.version (record { entries = start_table t; files = n; homes = l.homes }) (micro_operations_of t.version t.operations))
+      (length-map t.files (size_at t.records))
+      (all_legal t.version (record { entries = start_table t; sizes = start_sizes t; homes = l.homes }) t.operations
+      (λ file size is. subst (λ s. s ≤ most_bytes t.version) (get_or_from_slice_get (start_sizes t) file size 0 is)
+      (small file 0 (slice_get_within (start_sizes t) file size is)))
+      l.legal);
+}

@@ -1,4 +1,4 @@
-pub mod Counting
+pub mod Counted
 pub mod Divisions
 pub mod Earlier
 pub mod Legality

@@ -11,8 +11,7 @@ use Rattle.std.specs.FinMap.{get}
 use Rattle.std.specs.Option.{option_map}
 use Rattle.std.specs.Prelude.{filter, slice_get, slice_set}
 use Rattle.cs_tree_model.specs.Tree.{Path}
-use Rattle.cs_trace.specs.Traces.{AreLinks, IsPathOf, Trace, path_at, start_paths}
-use Rattle.cs_trace.specs.declared.operation.Node.TheVariants.{File}
+use Rattle.cs_trace.specs.Traces.{AreLinks, IsFileNumbered, IsPathOf, Trace, path_at, start_paths}
 use Rattle.cs_micro.specs.Laws.Starts.{length-paths_of_files}
 use Rattle.cs_micro.specs.Micros.{linked_to, paths_of_file, paths_of_files}
 
@@ -113,18 +112,19 @@ link_pushed f starts files links k link p old new low is known so_far read same 
     ∙ sym (links_more files links k link.0 n link low (sym is) known)
 
 -- the number of a file at the start is below how many there are
-pub numbers_below : (t : Trace) → ((n : ℕ) (p : Path) → get (start_paths t) p ≡ Some (File n) → IsPathOf t n p)
-    → (n : ℕ) (p : Path) → get (start_paths t) p ≡ Some (File n) → n < length t.files
+pub numbers_below : (t : Trace) → ((n : ℕ) (p : Path) → IsFileNumbered n (get (start_paths t) p) → IsPathOf t n p)
+    → (n : ℕ) (p : Path) → IsFileNumbered n (get (start_paths t) p) → n < length t.files
 numbers_below t found n p at =
     let own = found n p at in
     slice_get_within t.files n own.own own.at
 
 -- each link is of a file of the start
 pub link_known : (t : Trace) → AreLinks (start_paths t) t.links
-    → ((n : ℕ) (p : Path) → get (start_paths t) p ≡ Some (File n) → n < length t.files)
+    → ((n : ℕ) (p : Path) → IsFileNumbered n (get (start_paths t) p) → n < length t.files)
     → (links : List (Path × ℕ)) → links ≡ t.links → (k : ℕ) (link : Path × ℕ) → k < length links → link ≡ get_or links k link
     → link.1 < length t.files
 link_known t linked numbered links is k link low at =
     let here : k < length t.links = subst (λ ls. k < length ls) is low in
     numbered link.1 link.0
-    (linked k link (slice_get-get_or t.links k link here ∙ ap Some (sym (at ∙ ap (λ ls. get_or ls k link) is))))
+    (subst (IsFileNumbered link.1)
+    (sym (linked k link (slice_get-get_or t.links k link here ∙ ap Some (sym (at ∙ ap (λ ls. get_or ls k link) is))))) refl)

@@ -2,6 +2,8 @@ pub mod Blocks
 pub mod Legal
 pub mod Micros
 pub mod MicroOperations
+pub mod Pages
 pub mod SyncPoints
 pub mod Texts
 pub mod Laws
+pub mod Earlier

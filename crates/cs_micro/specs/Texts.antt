@@ -1,9 +1,10 @@
 -- What is printed of a micro-operation, and of a trace that isn't broken up.
 use Rattle.std.specs.Prelude.{ℕ, ◌/◌, ◌%◌, List, ◌++◌, codes, decimal, length}
 use Rattle.cs_names.specs.Paths.{path_text}
-use Rattle.cs_trace.specs.declared.operation.Node.{Node}
-use Rattle.cs_trace.specs.declared.operation.Node.TheVariants.{Directory, File}
-use Rattle.cs_trace.specs.declared.operation.Rights.{Rights}
+use Rattle.cs_entries.specs.declared.node.FileKind.TheVariants.{Regular, Symlink}
+use Rattle.cs_entries.specs.declared.node.Node.{Node}
+use Rattle.cs_entries.specs.declared.node.Node.TheVariants.{Directory, File}
+use Rattle.cs_start.specs.declared.rights.Rights.{Rights}
 use Rattle.cs_trace.specs.declared.operation.Target.{Target}
 use Rattle.cs_trace.specs.declared.operation.Target.TheVariants as targets
 use Rattle.cs_micro.specs.declared.fault.MicroFault.{MicroFault}
@@ -15,12 +16,13 @@ use Rattle.cs_micro.specs.declared.micro_op.MicroOp.TheVariants.{ChangeFileSize,
 use Rattle.cs_micro.specs.declared.micro_op.MicroOp.TheVariants.{SetAttr, Say}
 
 abbrev pub kind_text : Node → List ℕ
-kind_text Directory = codes "dir"
-kind_text (File file) = codes "file"
+kind_text (Directory number) = codes "dir"
+kind_text (File Regular file) = codes "file"
+kind_text (File Symlink file) = codes "symlink"
 
 abbrev pub target_text : Target → List ℕ
 target_text (targets.File file) = codes "file " ++ decimal file
-target_text (targets.Directory p) = codes "dir " ++ path_text p
+target_text (targets.Directory number p) = codes "dir " ++ path_text p
 
 -- permissions as three octal digits
 abbrev pub mode_text : ℕ → List ℕ
@@ -33,12 +35,13 @@ rights_text rights =
 
 -- the kind, and its fields
 abbrev pub op_text : MicroOp → List ℕ
-op_text (CreateDirEntry p node rights) =
-    codes "create_dir_entry " ++ (path_text p ++ (codes " " ++ kind_text node))
-op_text (DeleteDirEntry p kind) = codes "delete_dir_entry " ++ path_text p
-op_text (MoveDirEntry p q) = codes "move_dir_entry " ++ (path_text p ++ (codes " " ++ path_text q))
-op_text (LinkDirEntry p file) =
-    codes "link_dir_entry " ++ (path_text p ++ (codes " " ++ decimal file))
+op_text (CreateDirEntry e node rights bytes) =
+    codes "create_dir_entry " ++ (path_text e.path ++ (codes " " ++ kind_text node))
+op_text (DeleteDirEntry e node) = codes "delete_dir_entry " ++ path_text e.path
+op_text (MoveDirEntry a b node old) =
+    codes "move_dir_entry " ++ (path_text a.path ++ (codes " " ++ path_text b.path))
+op_text (LinkDirEntry e kind file old half) =
+    codes "link_dir_entry " ++ (path_text e.path ++ (codes " " ++ decimal file))
 op_text (ChangeFileSize file to) =
     codes "change_file_size " ++ (decimal file ++ (codes " " ++ decimal to))
 op_text (WriteBlock file block start at bytes) =

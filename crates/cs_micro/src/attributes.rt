@@ -16,7 +16,7 @@ impl fmt::Display for TargetText<'_> {
     fn fmt<W: fmt::Write>(&self, f: &mut fmt::Formatter<W>) -> fmt::Result {
         match self.0 {
             Target::File(file) => write!(f, "file {file}"),
-            Target::Directory(path) => write!(f, "dir {path}"),
+            Target::Directory { path, .. } => write!(f, "dir {path}"),
         }
     }
 }

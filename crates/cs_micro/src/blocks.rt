@@ -8,8 +8,7 @@ ghost use Rattle.cs_micro.specs.Blocks.{touched_blocks};
 
 use crate::micro_op::MicroOp;
 use cs_names::Bytes;
-use cs_names::limits::FILE_BYTES;
-use cs_trace::BlockSize;
+use cs_trace::{BlockSize, LARGE_FILE_BYTES};
 use std::alloc::{AllocError, Global};
 
 /// The number, from 0, of the block that has the byte at this offset of a file.
@@ -30,7 +29,7 @@ fn write_block(
     offset: u64,
     bytes: &[u8],
 ) -> Result<MicroOp, AllocError>
-    requires end { offset + length bytes.now ≤ FILE_BYTES }
+    requires end { offset + length bytes.now ≤ LARGE_FILE_BYTES }
     requires begins { start_of (block_bytes block_size) block < offset + length bytes.now }
     requires ends { offset < start_of (block_bytes block_size) (block + 1) }
     ensures { IfOk result
@@ -60,7 +59,7 @@ pub fn push_blocks(
     bytes: &[u8],
 ) -> Result<(), AllocError>
     requires some { 0 < length bytes.now }
-    requires end { offset + length bytes.now ≤ FILE_BYTES }
+    requires end { offset + length bytes.now ≤ LARGE_FILE_BYTES }
     ensures { OnOk result (ops.new.items ≡ ops.old.items
         ++ block_writes (block_bytes block_size) file offset bytes.now) }
 {

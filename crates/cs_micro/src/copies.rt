@@ -10,7 +10,10 @@ pub fn copy_target(alloc: Global, target: &Target) -> Result<Target, AllocError>
 {
     match target {
         Target::File(file) => Ok(Target::File(*file)),
-        Target::Directory(path) => Ok(Target::Directory(path.try_clone(alloc)?)),
+        Target::Directory { number, path } => Ok(Target::Directory {
+            number: *number,
+            path: path.try_clone(alloc)?,
+        }),
     }
 }
 
@@ -21,6 +24,7 @@ pub fn copy_covers(alloc: Global, covers: &Covers) -> Result<Covers, AllocError>
     match covers {
         Covers::All => Ok(Covers::All),
         Covers::File(file) => Ok(Covers::File(*file)),
+        Covers::Data(file) => Ok(Covers::Data(*file)),
         Covers::Range {
             file,
             offset,
@@ -30,6 +34,9 @@ pub fn copy_covers(alloc: Global, covers: &Covers) -> Result<Covers, AllocError>
             offset: *offset,
             length: *length,
         }),
-        Covers::Directory(path) => Ok(Covers::Directory(path.try_clone(alloc)?)),
+        Covers::Directory { number, path } => Ok(Covers::Directory {
+            number: *number,
+            path: path.try_clone(alloc)?,
+        }),
     }
 }

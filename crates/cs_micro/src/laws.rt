@@ -1,19 +1,22 @@
 //! Laws of what a trace breaks into. A call of a function here does nothing: its contract is the
 //! law.
-ghost use Rattle.std.specs.Prelude.{◌≡◌, ◌∷◌, [], map, false};
-ghost use Rattle.cs_trace_lines.specs.Versions.{is_third};
-ghost use Rattle.cs_micro.specs.MicroOperations.{micro_operations_of};
+ghost use Rattle.std.specs.Prelude.{◌≡◌, false};
+ghost use Rattle.cs_trace.specs.Earlier.Same.{trace_before};
+ghost use Rattle.cs_trace_lines.specs.Versions.{is_fourth};
+ghost use Rattle.cs_micro.specs.Earlier.Micros.{micros_in as micros_before};
+ghost use Rattle.cs_micro.specs.Earlier.Same.{micros_as_before};
 ghost use Rattle.cs_micro.specs.Micros.{micros_in};
-ghost use Rattle.cs_micro.specs.SyncPoints.{sync_points_of};
 
+use cs_names::laws::know;
 use cs_trace::Trace;
 
-/// In the first two versions of traces, writes break into blocks of 4,096 bytes, and each file of a
-/// start without links has one path.
+/// In the first three versions, a trace breaks into the micro-operations and the sync points that
+/// it broke into before version 4, by the definitions of then.
 pub fn earlier_versions_break_up_as_before(trace: &Trace)
-    requires { is_third trace.now.version ≡ false }
-    ensures ops { (micros_in trace.now).ops ≡ micro_operations_of 4096 trace.now.operations }
-    ensures syncs { (micros_in trace.now).syncs ≡ sync_points_of 4096 trace.now.operations }
-    ensures starts { trace.now.links ≡ []
-        → (micros_in trace.now).starts ≡ map (λ path. path ∷ []) trace.now.files }
-{}
+    requires { is_fourth trace.now.version ≡ false }
+    ensures { micros_as_before (micros_in trace.now) ≡ micros_before (trace_before trace.now) }
+{
+    // By the contract of `operations`, the entries at the start are a tree, and each operation is
+    // legal in what those before it leave.
+    know(trace.operations());
+}

@@ -3,41 +3,49 @@ ghost use Rattle.std.specs.Prelude.{◌≡◌, Some};
 ghost use Rattle.cs_micro.specs.Texts.{kind_text, op_text};
 
 use crate::attributes::{RightsText, TargetText};
-use cs_names::{Bytes, Path};
-use cs_trace::{Node, Rights, Target};
+use cs_entries::{DirEntry, FileKind, Node};
+use cs_names::Bytes;
+use cs_trace::{Rights, Target};
 use std::fmt;
 
-/// What a deleted entry named: a file or a directory.
-#[derive(Clone, Copy, Debug, PartialEq, Eq)]
-pub enum EntryKind {
-    File,
-    Directory,
-}
-
-/// A micro-operation: a step that reaches the disk by itself. It names a file by its number, and an
-/// entry of a directory by its path.
+/// A micro-operation: a step that reaches the disk by itself. It names files and directories by
+/// their numbers, and an entry by its directory's number and a name.
 #[derive(Debug, Drop)]
 pub enum MicroOp {
-    /// A new entry: of a directory, or of the file of that number.
+    /// A new entry of what is made with it.
     CreateDirEntry {
-        path: Path,
+        entry: DirEntry,
         node: Node,
         rights: Rights,
+        /// The bytes that it is made with: a symbolic link's target. A file or a directory has
+        /// none.
+        bytes: Bytes,
     },
     /// An entry is removed.
     DeleteDirEntry {
-        path: Path,
-        kind: EntryKind,
+        entry: DirEntry,
+        /// What it held.
+        node: Node,
     },
-    /// A file's entry moves to another path. A file's entry at that path is replaced.
+    /// What an entry holds moves to another entry, and replaces what is there.
     MoveDirEntry {
-        from: Path,
-        to: Path,
+        from: DirEntry,
+        to: DirEntry,
+        /// What is moved.
+        node: Node,
+        /// What it replaces.
+        replaced: Option<Node>,
     },
     /// A new entry of a file that exists: one more path for it.
     LinkDirEntry {
-        path: Path,
+        entry: DirEntry,
+        kind: FileKind,
         file: u32,
+        /// What it replaces, which only the first half of a rename does.
+        replaced: Option<Node>,
+        /// Whether it is the first half of a rename into another directory. The micro-operation
+        /// behind it is the other half: it removes the old entry.
+        is_half: bool,
     },
     /// The file has `length` bytes from now on: it grows by zeros, or is cut.
     ChangeFileSize {
@@ -65,32 +73,43 @@ pub enum MicroOp {
     Say,
 }
 
-/// The word for the kind of a new entry: `dir` or `file`.
+/// The word for what a new entry is of: `dir`, `file` or `symlink`.
 fn node_word(node: Node) -> &'static str
     ensures { result.now ≡ kind_text node }
 {
     match node {
-        Node::Directory => "dir",
-        Node::File(_) => "file",
+        Node::Directory(_) => "dir",
+        Node::File(FileKind::Regular, _) => "file",
+        Node::File(FileKind::Symlink, _) => "symlink",
     }
 }
 
 /// Prints the micro-operation as the list of a trace's micro-operations does, without its place:
-/// its kind, and then its fields. Those are the path or paths, with a new entry's kind or a linked
-/// file's number; the file's number and length; the file's number, the block, the offset in it and
-/// the number of bytes; or whose rights are set, and the rights.
+/// its kind, and then its fields. Those are the path or paths, with what a new entry is of or a
+/// linked file's number; the file's number and length; the file's number, the block, the offset in
+/// it and the number of bytes; or whose rights are set, and the rights.
 impl fmt::Display for MicroOp {
     ghost output = { λ op. Some (op_text op) };
 
     /// Prints one line without its end, as in `write_block 0 1 0 904`.
     fn fmt<W: fmt::Write>(&self, f: &mut fmt::Formatter<W>) -> fmt::Result {
         match self {
-            MicroOp::CreateDirEntry { path, node, .. } => {
+            MicroOp::CreateDirEntry { entry, node, .. } => {
+                let path = &entry.path;
                 write!(f, "create_dir_entry {path} {}", node_word(*node))
             }
-            MicroOp::DeleteDirEntry { path, .. } => write!(f, "delete_dir_entry {path}"),
-            MicroOp::MoveDirEntry { from, to } => write!(f, "move_dir_entry {from} {to}"),
-            MicroOp::LinkDirEntry { path, file } => write!(f, "link_dir_entry {path} {file}"),
+            MicroOp::DeleteDirEntry { entry, .. } => {
+                let path = &entry.path;
+                write!(f, "delete_dir_entry {path}")
+            }
+            MicroOp::MoveDirEntry { from, to, .. } => {
+                let (from, to) = (&from.path, &to.path);
+                write!(f, "move_dir_entry {from} {to}")
+            }
+            MicroOp::LinkDirEntry { entry, file, .. } => {
+                let path = &entry.path;
+                write!(f, "link_dir_entry {path} {file}")
+            }
             MicroOp::ChangeFileSize { file, length } => {
                 write!(f, "change_file_size {file} {length}")
             }

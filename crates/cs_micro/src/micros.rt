@@ -1,16 +1,16 @@
 //! A trace that is broken into micro-operations.
 ghost use Rattle.std.specs.Prelude.{◌≡◌, ◌<◌, ◌≤◌, ◌↔◌, length, map, IfOk, IsErrOf};
-ghost use Rattle.cs_trace.specs.Traces.{start_paths};
-ghost use Rattle.cs_micro.specs.Legal.{AreLegal};
 ghost use Rattle.cs_micro.specs.MicroOperations.{micro_operations_of};
-ghost use Rattle.cs_micro.specs.Micros.{HoldsAny, block_of_version, micros_in};
+ghost use Rattle.cs_micro.specs.Micros.{AreLegalFromStart, HoldsAny, micros_in};
 
-use crate::breaking::{has_room, micros_and_syncs};
+use crate::breaking::micros_and_syncs;
+use crate::counting::has_room;
 use crate::fault::MicroFault;
 use crate::micro_op::MicroOp;
 use crate::starts::paths_of_files;
 use crate::sync_point::SyncPoint;
 use cs_names::Path;
+use cs_names::laws::know;
 use cs_names::limits::MICRO_OPERATIONS;
 use cs_trace::{Trace, Version};
 use std::alloc::Global;
@@ -82,19 +82,18 @@ pub fn break_up(alloc: Global, trace: &Trace) -> Result<Micros, MicroFault>
     ensures value { IfOk result (λ micros. micros ≡ micros_in trace.now) }
     ensures many { IsErrOf result MicroFault.TooMany
         ↔ (MICRO_OPERATIONS
-        < length (micro_operations_of (block_of_version trace.now.version) trace.now.operations)) }
-    ensures legal { IfOk result
-        (λ micros. AreLegal (block_of_version trace.now.version) (start_paths trace.now)
-        (length micros.starts) micros.ops) }
+        < length (micro_operations_of trace.now.version trace.now.operations)) }
+    ensures legal { IfOk result (λ micros. AreLegalFromStart trace.now micros) }
     ensures memory { IsErrOf result MicroFault.Memory → HoldsAny (micros_in trace.now) }
 {
     let version = trace.version();
-    let block = version.block_size();
     let operations = trace.operations();
-    if !has_room(block, operations) {
+    // By the contract of `file_count`, no file at the start is too large.
+    know(trace.file_count());
+    if !has_room(version, operations) {
         return Err(MicroFault::TooMany);
     }
-    let (ops, syncs) = micros_and_syncs(alloc, block, operations)?;
+    let (ops, syncs) = micros_and_syncs(alloc, version, operations)?;
     let starts = paths_of_files(alloc, trace)?;
     Ok(Micros {
         ops,

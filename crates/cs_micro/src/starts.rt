@@ -1,8 +1,7 @@
 //! The paths of the files at the start of a trace.
-ghost use Rattle.std.specs.Prelude.{◌≡◌, ℕ, List, ◌∷◌, [], ◌<◌, length, map, Some, IfOk, IsErr};
+ghost use Rattle.std.specs.Prelude.{◌≡◌, ℕ, List, ◌∷◌, [], ◌<◌, length, map, IfOk, IsErr};
 ghost use Rattle.std.specs.FinMap.{get};
-ghost use Rattle.cs_trace.specs.Traces.{start_paths};
-ghost use Rattle.cs_trace.specs.declared.operation.Node.TheVariants.{File};
+ghost use Rattle.cs_trace.specs.Traces.{IsFileNumbered, start_paths};
 ghost use Rattle.cs_micro.specs.Micros.{paths_of_files};
 
 use cs_names::Path;
@@ -16,7 +15,7 @@ fn own_paths(alloc: Global, trace: &Trace) -> Result<Vec<Vec<Path>>, AllocError>
     ensures value { IfOk result (λ starts. map (λ paths. paths.items) starts.items
         ≡ map (λ path. path ∷ []) trace.now.files) }
     ensures numbered { (file : ℕ) (p : List (List ℕ))
-        → get (start_paths trace.now) p ≡ Some (File file) → file < length trace.now.files }
+        → IsFileNumbered file (get (start_paths trace.now) p) → file < length trace.now.files }
     ensures memory { IsErr result → 0 < length trace.now.files }
 {
     let mut starts = Vec::new(alloc);

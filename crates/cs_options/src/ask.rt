@@ -2,7 +2,7 @@
 use crate::list::ListOptions;
 use crate::picks::PicksOptions;
 use crate::serve::Serving;
-use crate::tar::States;
+use crate::tar::TarOptions;
 
 /// Which crash states a command is about.
 #[derive(Clone, Copy, Debug)]
@@ -21,7 +21,7 @@ pub enum Job<'a> {
     /// Lists the micro-operations and the states.
     List(ListOptions),
     /// Writes the trees of some states as an archive.
-    Tar(States),
+    Tar(TarOptions),
     /// Prints sets of micro-operations as a picks file.
     Picks(PicksOptions),
     /// Runs a script from standard input.

@@ -12,4 +12,4 @@ pub use ask::{Ask, Job, Wanted};
 pub use list::ListOptions;
 pub use picks::{PicksOptions, Sample};
 pub use serve::{Client, Serving};
-pub use tar::{StateRange, States};
+pub use tar::{StateRange, States, TarOptions};

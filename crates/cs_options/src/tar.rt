@@ -8,6 +8,14 @@ pub struct StateRange {
     pub last: u32,
 }
 
+/// What `tar` writes.
+#[derive(Debug, Drop)]
+pub struct TarOptions {
+    pub states: States,
+    /// Whether files with many zeros are written in pieces, without the zeros.
+    pub sparse: bool,
+}
+
 /// Which states an archive has, by their numbers in the plan, and what of them.
 #[derive(Debug, Drop)]
 pub enum States {

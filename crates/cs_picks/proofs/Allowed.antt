@@ -6,10 +6,10 @@ use Rattle.std.proofs.lemmas.List.Elements.{All-append, All-cons, All-nil}
 use Rattle.std.proofs.lemmas.List.FromFn.{length-map-range_with_len}
 use Rattle.std.specs.List.{All, flat_map, range_with_len}
 use Rattle.cs_micro.specs.Micros.{Micros}
-use Rattle.cs_apm.specs.Chains.{Chain, IsBackward, by_chain}
-use Rattle.cs_apm.specs.Laws.Chains.{chain_found, found_chain}
-use Rattle.cs_apm.specs.Orders.{needs_in}
-use Rattle.cs_apm.specs.Sets.{IsAllowed}
+use Rattle.cs_sets.specs.Chains.{Chain, IsBackward, by_chain}
+use Rattle.cs_sets.specs.Laws.Chains.{chain_found, found_chain}
+use Rattle.cs_sets.specs.Orders.{needs_in}
+use Rattle.cs_sets.specs.Sets.{IsAllowed}
 use Rattle.cs_plan.specs.Plans.{is_kept}
 use Rattle.cs_plan.proofs.Permitted.{hole_keeps, kept_allowed}
 use Rattle.cs_picks.specs.Changes.{changed_files}

@@ -6,8 +6,8 @@ use Rattle.std.proofs.lemmas.Bool.{cases_Bool, cases_eq, cases_lt, eq-eqb, ne_eq
 use Rattle.std.proofs.lemmas.List.{get_or_push, get_or_append_left, get_or_default, get_or_past}
 use Rattle.std.proofs.lemmas.Option.{slice_get_past, slice_get_read}
 use Rattle.std.specs.Option.{option_map_or}
-use Rattle.cs_apm.specs.Chains.{IsBackward}
-use Rattle.cs_apm.specs.Orders.{needs_in}
+use Rattle.cs_sets.specs.Chains.{IsBackward}
+use Rattle.cs_sets.specs.Orders.{needs_in}
 use Rattle.cs_sets.specs.declared.row.Row.{Row}
 use Rattle.cs_sets.specs.Bits.{has_place}
 use Rattle.cs_sets.specs.Rows.{bit_in}

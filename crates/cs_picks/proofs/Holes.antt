@@ -1,19 +1,16 @@
 -- A plan with holes covers pairs and single losses.
-use Rattle.std.proofs.Common.{◌≡◌, ℕ, zero, suc, ◌+◌, ◌<◌, ◌≤◌, ◌==◌, ◌&&◌, ◌||◌, not, Bool, true, false, List, [], ◌∷◌, length, map}
+use Rattle.std.proofs.Common.{◌≡◌, ℕ, ◌+◌, ◌<◌, ◌≤◌, Bool, true, false, List, [], ◌∷◌, length, map}
 use Rattle.std.proofs.Common.{refl, sym, ap, ◌∙◌, arith, ⊎_elim, subst}
-use Rattle.std.proofs.Math.Path.{fun_ext}
 use Rattle.std.proofs.lemmas.Bool.{cases_Bool, cases_eq, false≢true}
 use Rattle.std.proofs.lemmas.List.{length-map}
 use Rattle.std.proofs.Math.ListN.{get_or-map}
 use Rattle.std.proofs.lemmas.List.Elements.{Contains-append_left, Contains-append_right}
-use Rattle.std.specs.List.{Contains, filter, list_any, range_with_len}
-use Rattle.cs_apm.specs.Chains as micros
-use Rattle.cs_apm.specs.Orders.{needs_in}
-use Rattle.cs_apm.specs.Sets as allowed
+use Rattle.std.specs.List.{Contains, filter, range_with_len}
+use Rattle.cs_sets.specs.Orders.{needs_in}
 use Rattle.cs_plan.specs.Plans.{families, holes_at, holes_of, is_kept, places_of_hole, places_below, plan_of, prefixes, IsAllowedIn}
 use Rattle.cs_plan.specs.declared.recipe.Recipe.{Recipe}
 use Rattle.cs_plan.specs.declared.recipe.Recipe.TheVariants.{Hole, Pick}
-use Rattle.cs_sets.specs.Chains as places
+use Rattle.cs_sets.specs.Chains.{IsBackward}
 use Rattle.cs_sets.specs.Following.{chosen}
 use Rattle.cs_sets.specs.Holes as sets
 use Rattle.cs_sets.specs.Sets.{IsAllowed, is_member}
@@ -23,25 +20,13 @@ use Rattle.cs_sets.specs.Laws.Lists.{contains_flat}
 use Rattle.cs_sets.specs.Laws.Members.{allowed_below, contains_has, has_contains}
 use Rattle.cs_picks.specs.Covering.{HasPairs, HasSingles, Loses, LosesOne}
 
--- ---- what both crates of orders say
-
-steps_same : (needs : ℕ → ℕ → Bool) (n i k : ℕ) → micros.in_steps needs n i k ≡ places.in_steps needs n i k
-steps_same needs zero i k = refl
-steps_same needs (suc n) i k =
-    ap (λ f. list_any f (range_with_len 0 k)) (fun_ext (λ m. ap (λ b. needs m k && (i == m || b)) (steps_same needs n i m)))
-
-chains_same : (needs : ℕ → ℕ → Bool) (i k : ℕ) → micros.by_chain needs i k ≡ places.by_chain needs i k
-unfolding micros.by_chain places.by_chain
-chains_same needs i k = steps_same needs (k + 1) i k
+-- ---- what a plan and sets both say
 
 pub kept_same : (needs : ℕ → ℕ → Bool) (i k : ℕ) → is_kept needs i k ≡ sets.is_kept needs i k
-kept_same needs i k = ap (λ b. not (i == k || b)) (chains_same needs i k)
+kept_same needs i k = refl
 
 pub hole_same : (needs : ℕ → ℕ → Bool) (i end : ℕ) → places_of_hole needs i end ≡ sets.hole needs i end
-hole_same needs i end = ap (λ f. filter f (range_with_len 0 end)) (fun_ext (kept_same needs i))
-
-pub allowed_same : (needs : ℕ → ℕ → Bool) (n : ℕ) (set : List ℕ) → allowed.IsAllowed needs n set → IsAllowed needs n set
-allowed_same needs n set is = record { ascending = is.ascending; in_range = is.in_range; closed = is.closed }
+hole_same needs i end = refl
 
 -- ---- a hole is in the plan
 
@@ -62,7 +47,7 @@ contains_below n k low = has_contains (places_below n) k (ap (λ v. is_member v 
     all_kept : (n : ℕ) → chosen (λ j. true) n ≡ places_below n
     all_kept n = keeps_all (range_with_len 0 n)
 
-module _ (order : List (List Bool)) (back : places.IsBackward (needs_in order)) where
+module _ (order : List (List Bool)) (back : IsBackward (needs_in order)) where
   needs : ℕ → ℕ → Bool
   needs = needs_in order
 
@@ -95,12 +80,12 @@ module _ (order : List (List Bool)) (back : places.IsBackward (needs_in order)) 
   stays : (i k : ℕ) (set : List ℕ) → IsAllowedIn order set → Loses i k set → is_kept (needs_in order) i k ≡ true
   stays i k set is loses =
       kept_same (needs_in order) i k
-      ∙ lost_is_kept (needs_in order) back (length order) i k set (allowed_same (needs_in order) (length order) set is)
+      ∙ lost_is_kept (needs_in order) back (length order) i k set is
       (of_sets i k set loses)
 
   below_end : (k : ℕ) (set : List ℕ) → IsAllowedIn order set → Contains set k → k < length order
   below_end k set is here =
-      allowed_below (needs_in order) (length order) set (allowed_same (needs_in order) (length order) set is) k (contains_has set k here)
+      allowed_below (needs_in order) (length order) set is k (contains_has set k here)
 
   pub has_pairs : (plan : List Recipe) (picks : List (List ℕ)) → plan ≡ plan_of order true picks → HasPairs order plan
   has_pairs plan picks e i k set low is loses =
@@ -141,7 +126,7 @@ module _ (order : List (List Bool)) (back : places.IsBackward (needs_in order)) 
   has_singles plan picks e i k set low is one =
       let high = below_end k set is one.loses.has_later in (
         subst (λ (v : List Recipe). Contains v (Hole i (k + 1))) (sym e) (listed picks i k low high (stays i k set is one.loses)),
-        lacks_is_hole (needs_in order) back (length order) i k set high (allowed_same (needs_in order) (length order) set is)
+        lacks_is_hole (needs_in order) back (length order) i k set high is
             (lacks i k set is one)
             ∙ sym (hole_same (needs_in order) i (k + 1)),
       )

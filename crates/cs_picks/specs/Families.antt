@@ -3,8 +3,8 @@ use Rattle.std.specs.Prelude.{ℕ, ◌+◌, ◌-◌, ◌==◌, ◌||◌, if◌th
 use Rattle.std.specs.Prelude.{map, Option}
 use Rattle.std.specs.List.{filter, flat_map}
 use Rattle.cs_micro.specs.Micros.{Micros}
-use Rattle.cs_apm.specs.Chains.{by_chain}
-use Rattle.cs_apm.specs.Orders.{needs_in}
+use Rattle.cs_sets.specs.Chains.{by_chain}
+use Rattle.cs_sets.specs.Orders.{needs_in}
 use Rattle.cs_plan.specs.Plans.{places_below}
 use Rattle.cs_plan.specs.Scenes.{Scene, micros_of, order_in}
 use Rattle.cs_picks.specs.Changes.{changed_files}

@@ -1,7 +1,7 @@
 -- What is printed of the sets that a crash may leave.
 use Rattle.std.specs.Prelude.{◌≡◌, ℕ, ◌<◌, ◌≤◌, List, length, Option}
 use Rattle.std.specs.Io.KnownBytes.{Appends}
-use Rattle.cs_apm.specs.Orders.{needs_in}
+use Rattle.cs_sets.specs.Orders.{needs_in}
 use Rattle.cs_plan.specs.Scenes.{Scene, order_in}
 use Rattle.cs_sets.specs.Every.{every}
 use Rattle.cs_different.specs.Sets.{AreDifferent}

@@ -9,8 +9,7 @@ use cs_trace::Target;
 use std::alloc::{AllocError, Global};
 
 /// The number of the file whose size, block or rights the operation changes. None if it changes no
-/// file. `changed_file` of cs_same_states and `path_of_changed_file` of cs_list_lines have the same
-/// cases: change all three.
+/// file. `changed_file` of cs_same_states has the same cases: change both.
 pub fn file_changed(op: &MicroOp) -> Option<u32>
     ensures { result ≡ file_changed op.now }
 {

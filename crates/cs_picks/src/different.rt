@@ -2,7 +2,6 @@
 ghost use Rattle.std.specs.Prelude.{◌≡◌, IfErr, OnOk};
 ghost use Rattle.cs_picks.specs.Sets.{IsUncompared, WritesDifferent, fault_of_different};
 
-use crate::order::order_of;
 use cs_different::{DifferentFault, different_sets};
 use cs_every::{EveryFault, write_rows};
 use cs_plan::Scene;
@@ -32,8 +31,7 @@ pub fn write_different<W: Write>(
         (WritesDifferent scene.now most (W.contents out.old) (W.contents out.new)) }
     ensures fault { IfErr result (IsUncompared scene.now most) }
 {
-    let order = order_of(alloc, scene.order())?;
-    let sets = match different_sets(alloc, scene, &order, most) {
+    let sets = match different_sets(alloc, scene, scene.order(), most) {
         Ok(sets) => sets,
         Err(fault) => return Err(fault_of(fault)),
     };

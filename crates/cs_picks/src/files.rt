@@ -3,7 +3,7 @@
 ghost use Rattle.std.specs.Prelude.{◌≡◌, ◌<◌, ◌≤◌, length, IfErr, OnOk};
 ghost use Rattle.std.specs.Io.KnownBytes.{Appends};
 ghost use Rattle.std.specs.List.{All, flat_map};
-ghost use Rattle.cs_apm.specs.Orders.{needs_in};
+ghost use Rattle.cs_sets.specs.Orders.{needs_in};
 ghost use Rattle.cs_picks.specs.Families.{files_sets, sets_left, sets_without};
 ghost use Rattle.cs_every.specs.Faults.{IsOutside};
 ghost use Rattle.cs_every.specs.Texts.{picks_text};

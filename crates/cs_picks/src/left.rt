@@ -2,7 +2,7 @@
 //! without all that needs one of them. `losses` says which changes may be lost.
 ghost use Rattle.std.specs.Prelude.{◌≡◌, ◌<◌, ◌≤◌, length, IfOk};
 ghost use Rattle.std.specs.List.{All};
-ghost use Rattle.cs_apm.specs.Orders.{needs_in};
+ghost use Rattle.cs_sets.specs.Orders.{needs_in};
 ghost use Rattle.cs_plan.specs.Plans.{IsAllowedIn};
 ghost use Rattle.cs_picks.specs.Left.{adds_nothing, is_given, left_of, loses_at, loses_one_more};
 ghost use Rattle.cs_picks.specs.Left.{lost_places, stays};

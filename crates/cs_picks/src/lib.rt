@@ -13,11 +13,9 @@ mod files;
 mod left;
 mod losses;
 mod lost;
-mod order;
 mod sets;
 
 pub use command::picks_of;
 pub use family::{Family, write_family};
 pub use lost::least_with;
-pub use order::order_of;
 pub use sets::{PickSets, write_sets};

@@ -1,7 +1,7 @@
 //! The family Lost: an operation reached the disk, with all that it needs and nothing else.
 ghost use Rattle.std.specs.Prelude.{◌≡◌, ◌<◌, ◌≤◌, length, IfErr, IfOk, OnOk};
 ghost use Rattle.std.specs.Io.KnownBytes.{Appends};
-ghost use Rattle.cs_apm.specs.Orders.{needs_in};
+ghost use Rattle.cs_sets.specs.Orders.{needs_in};
 ghost use Rattle.cs_plan.specs.Plans.{IsAllowedIn};
 ghost use Rattle.cs_picks.specs.Families.{is_needed, least_with, lost_sets};
 ghost use Rattle.cs_every.specs.Faults.{IsOutside};

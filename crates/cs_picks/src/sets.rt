@@ -5,7 +5,6 @@ ghost use Rattle.cs_picks.specs.declared.sets.PickSets.TheVariants as forms;
 
 use crate::different::write_different;
 use crate::family::{Family, write_family};
-use crate::order::order_of;
 use cs_every::{EveryFault, has_more_than, write_count, write_every, write_sample};
 use cs_plan::Scene;
 use std::alloc::Global;
@@ -29,7 +28,6 @@ pub enum PickSets {
 
 /// Writes all sets of the scene. If there are more than `most`, nothing is written.
 fn write_all_sets<W: Write>(
-    alloc: Global,
     scene: &Scene,
     most: u32,
     out: &mut W,
@@ -38,11 +36,11 @@ fn write_all_sets<W: Write>(
         (WritesSets scene.now (forms.Every most) (W.contents out.old) (W.contents out.new)) }
     ensures fault { IfErr result (IsRefused scene.now (forms.Every most)) }
 {
-    let order = order_of(alloc, scene.order())?;
-    if has_more_than(&order, most) {
+    let order = scene.order();
+    if has_more_than(order, most) {
         return Err(EveryFault::More(most));
     }
-    write_every(&order, out)
+    write_every(order, out)
 }
 
 /// Writes how many sets the scene has.
@@ -55,8 +53,8 @@ fn write_number_of_sets<W: Write>(
         (WritesSets scene.now forms.Count (W.contents out.old) (W.contents out.new)) }
     ensures fault { IfErr result (IsRefused scene.now forms.Count) }
 {
-    let order = order_of(alloc, scene.order())?;
-    write_count(alloc, &order, out)
+    let order = scene.order();
+    write_count(alloc, order, out)
 }
 
 /// Writes `count` sets of the scene, drawn by the seed.
@@ -71,8 +69,8 @@ fn write_drawn_sets<W: Write>(
         (WritesSets scene.now (forms.Sample seed count) (W.contents out.old) (W.contents out.new)) }
     ensures fault { IfErr result (IsRefused scene.now (forms.Sample seed count)) }
 {
-    let order = order_of(alloc, scene.order())?;
-    write_sample(alloc, &order, seed, count, out)
+    let order = scene.order();
+    write_sample(alloc, order, seed, count, out)
 }
 
 /// Writes what is asked for of the scene's sets. If there are more sets than may be printed, or too
@@ -89,7 +87,7 @@ pub fn write_sets<W: Write>(
 {
     match sets {
         PickSets::Of(family) => write_family(alloc, scene, family, out),
-        PickSets::Every(most) => write_all_sets(alloc, scene, most, out),
+        PickSets::Every(most) => write_all_sets(scene, most, out),
         PickSets::Different(most) => write_different(alloc, scene, most, out),
         PickSets::Count => write_number_of_sets(alloc, scene, out),
         PickSets::Sample(seed, count) => write_drawn_sets(alloc, scene, seed, count, out),

@@ -2,7 +2,7 @@
 use Rattle.std.proofs.Common.{◌≡◌, ℕ, ◌+◌, ◌&&◌, Bool, true, false, cond, List, [], ◌∷◌, ◌++◌, count_by, refl, ap, ◌∙◌, arith}
 use Rattle.std.proofs.lemmas.List.Sums.{fold_push}
 use Rattle.std.specs.List.{filter, range_with_len}
-use Rattle.cs_apm.specs.Laws.Chains.{range_more}
+use Rattle.cs_sets.specs.Laws.Lists.{range_more}
 use Rattle.cs_plan.proofs.Listed.{kept_more, kept_same}
 
 pub count_push : {X : Type 0} (p : X → Bool) (xs : List X) (x : X) (b : Bool) → p x ≡ b

@@ -4,5 +4,6 @@ pub mod Listed
 pub mod Orders
 pub mod Permitted
 pub mod Picking
+pub mod Reached
 pub mod Records
 pub mod Deciding

@@ -5,7 +5,7 @@ use Rattle.std.proofs.lemmas.List.{length-map, map_push, flat_map_more, append-n
 use Rattle.std.proofs.lemmas.List.Elements.{filter-append}
 use Rattle.std.proofs.lemmas.List.FromFn.{length-map-range_with_len}
 use Rattle.std.specs.List.{range_with_len, filter, flat_map}
-use Rattle.cs_apm.specs.Laws.Chains.{range_more}
+use Rattle.cs_sets.specs.Laws.Lists.{range_more}
 use Rattle.cs_plan.specs.declared.recipe.Recipe.{Recipe}
 use Rattle.cs_plan.specs.declared.recipe.Recipe.TheVariants.{Prefix, Hole, Pick}
 use Rattle.cs_plan.specs.Plans.{families, holes_at, holes_of, is_kept, prefixes, recipes_of}

@@ -3,7 +3,8 @@ use Rattle.std.proofs.Common.{◌≡◌, length, map}
 use Rattle.std.proofs.lemmas.List.FromFn.{length-map-range_with_len}
 use Rattle.std.specs.List.{range_with_len}
 use Rattle.cs_micro.specs.Micros.{Micros}
-use Rattle.cs_apm.specs.Orders.{needs_of, order_of, table}
+use Rattle.cs_sets.specs.Orders.{table}
+use Rattle.cs_apm.specs.Orders.{needs_of, order_of}
 
 pub length_order : (micros : Micros) → length (order_of micros) ≡ length micros.ops
 unfolding table

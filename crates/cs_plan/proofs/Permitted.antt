@@ -7,10 +7,10 @@ use Rattle.std.proofs.lemmas.List.Elements.{All-append, All-map, All-cons, All-n
 use Rattle.std.specs.List.{range_with_len, filter, flat_map, All}
 use Rattle.cs_plan.specs.declared.recipe.Recipe.{Recipe}
 use Rattle.cs_plan.specs.declared.recipe.Recipe.TheVariants.{Prefix, Hole, Pick}
-use Rattle.cs_apm.specs.Chains.{by_chain, IsBackward}
-use Rattle.cs_apm.specs.Sets.{IsAllowed}
+use Rattle.cs_sets.specs.Chains.{by_chain, IsBackward}
+use Rattle.cs_sets.specs.Sets.{IsAllowed}
 use Rattle.cs_plan.specs.Plans.{families, places_of_hole, holes_at, holes_of, IsWithin, is_kept, prefixes, recipes_of, set_of}
-use Rattle.cs_apm.specs.Laws.Chains.{chain_step, any_at}
+use Rattle.cs_sets.specs.Laws.Chains.{chain_step, any_at}
 
 -- a filter of a range, in order
 pub record IsPicked (p : ℕ → Bool) (a n : ℕ) (xs : List ℕ) : Type 0 where

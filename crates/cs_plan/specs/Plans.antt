@@ -2,9 +2,9 @@
 use Rattle.std.specs.Prelude.{ℕ, ◌<◌, ◌≤◌, ◌+◌, ◌==◌, ◌||◌, not, Bool, List, [], ◌++◌, length, map}
 use Rattle.std.specs.Prelude.{if◌then◌else◌}
 use Rattle.std.specs.List.{All, range_with_len, filter, flat_map}
-use Rattle.cs_apm.specs.Chains.{by_chain}
-use Rattle.cs_apm.specs.Orders.{needs_in}
-use Rattle.cs_apm.specs.Sets.{IsAllowed}
+use Rattle.cs_sets.specs.Chains.{by_chain}
+use Rattle.cs_sets.specs.Orders.{needs_in}
+use Rattle.cs_sets.specs.Sets.{IsAllowed}
 use Rattle.cs_plan.specs.declared.recipe.Recipe.{Recipe}
 use Rattle.cs_plan.specs.declared.recipe.Recipe.TheVariants.{Prefix, Hole, Pick}
 

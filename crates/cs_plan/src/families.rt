@@ -1,8 +1,8 @@
 //! The two families of states that a plan lists by itself: prefixes, and prefixes with a hole. An
 //! error means out of memory. The list may then lack recipes, and the caller drops it.
 ghost use Rattle.std.specs.Prelude.{◌≡◌, ◌++◌, ◌<◌, ◌≤◌, length, IfOk, OnOk};
-ghost use Rattle.cs_apm.specs.Chains.{IsBackward};
-ghost use Rattle.cs_apm.specs.Orders.{needs_in};
+ghost use Rattle.cs_sets.specs.Chains.{IsBackward};
+ghost use Rattle.cs_sets.specs.Orders.{needs_in};
 ghost use Rattle.cs_plan.specs.Plans.{families, holes_at, holes_of, prefixes};
 
 use crate::members::is_kept;

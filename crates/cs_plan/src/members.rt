@@ -1,7 +1,7 @@
 //! The micro-operations of a state, by its recipe, and how many of them are acknowledged lines.
 ghost use Rattle.std.specs.Prelude.{◌≡◌, ◌<◌, ◌≤◌, ◌&&◌, length, IfOk};
 ghost use Rattle.std.specs.List.{All};
-ghost use Rattle.cs_apm.specs.Orders.{needs_in};
+ghost use Rattle.cs_sets.specs.Orders.{needs_in};
 ghost use Rattle.cs_apm.specs.Rules.{op_at};
 ghost use Rattle.cs_plan.specs.Plans.{IsWithin, places_below, places_of_hole, is_kept, set_in};
 ghost use Rattle.cs_plan.specs.Scenes.{is_say, says_of};

@@ -13,8 +13,8 @@ use crate::members::{places_of, says_in};
 use crate::plan::Plan;
 use crate::recipe::Places;
 use crate::same::{are_same_recipes, is_same_trace};
-use cs_apm::Order;
 use cs_apm::laws::rules_are_sentences;
+use cs_apm::{Order, order_of};
 use cs_micro::{Micros, break_up};
 use cs_names::laws::know;
 use cs_state::{Atlas, Built};
@@ -63,7 +63,7 @@ impl Scene {
         ensures fault { IfErr result (IsRefusedScene trace holes picks.items) }
     {
         let micros = break_up(alloc, &trace)?;
-        let order = Order::of(alloc, &micros)?;
+        let order = order_of(alloc, &micros)?;
         let plan = Plan::make(alloc, &order, holes, picks)?;
         let atlas = Atlas::of(alloc, trace, micros)?;
         Ok(Scene { atlas, order, plan })

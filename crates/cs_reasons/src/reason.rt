@@ -154,7 +154,7 @@ fn reason_of(alloc: Global, inputs: &Inputs, ask: &Ask) -> Result<Option<String>
         Err(ProgramFault::Scene(fault)) => reason_of_scene(alloc, inputs, &fault),
         Err(_) => Ok(None),
         Ok(_) => match &ask.job {
-            Job::Tar(states) => reason_of_number(alloc, inputs, states),
+            Job::Tar(options) => reason_of_number(alloc, inputs, &options.states),
             _ => Ok(None),
         },
     }

@@ -4,7 +4,7 @@ use Rattle.std.proofs.Common.{◌∷◌, ◌++◌, length, map, take, replicate,
 use Rattle.std.proofs.lemmas.Bool.{cases_eq, cases_lt, eq-eqb, false≢true, le-leb, le-ltb, lt-ltb, ne_eqb}
 use Rattle.std.proofs.lemmas.List.{ext_get_or, get_or-take, get_or_past, length-replicate, length-take, length-take-le}
 use Rattle.std.specs.Prelude.{fold}
-use Rattle.cs_names.specs.declared.limits.TheConstants.{FILE_BYTES}
+use Rattle.cs_trace.specs.declared.limits.TheConstants.{LARGE_FILE_BYTES}
 use Rattle.cs_tree_model.specs.Laws.Bytes.{zeros_behind}
 use Rattle.cs_micro.specs.declared.micro_op.MicroOp.{MicroOp}
 use Rattle.cs_micro.specs.declared.micro_op.MicroOp.TheVariants.{CreateDirEntry, DeleteDirEntry, MoveDirEntry, LinkDirEntry, ChangeFileSize}
@@ -55,7 +55,7 @@ fold_low n base (o ∷ ops) (suc k) size is = fold_low n (floor_after n base o) 
 
 pub floor_low : (n : ℕ) (ops : List MicroOp) (k size : ℕ) → op_at ops k ≡ ChangeFileSize n size → floor_in ops n ≤ size
 unfolding floor_in
-floor_low n ops k size is = fold_low n FILE_BYTES ops k size is
+floor_low n ops k size is = fold_low n LARGE_FILE_BYTES ops k size is
 
 -- ---- one byte
 
@@ -120,10 +120,10 @@ module _ (floor n i : ℕ) where
       by : (b : Bool) → Agree (cond b (overwritten (start + at) bytes f) f) (cond b (overwritten (start + at) bytes g) g)
       by true = same_write (start + at) bytes f g h
       by false = h
-  both (CreateDirEntry p node rights) f g above h = h
-  both (DeleteDirEntry p kind) f g above h = h
-  both (MoveDirEntry p q) f g above h = h
-  both (LinkDirEntry p linked) f g above h = h
+  both (CreateDirEntry e node rights bytes) f g above h = h
+  both (DeleteDirEntry e node) f g above h = h
+  both (MoveDirEntry a b node old) f g above h = h
+  both (LinkDirEntry e kind linked old half) f g above h = h
   both (SetAttr target rights) f g above h = h
   both Say f g above h = h
 
@@ -156,10 +156,10 @@ module _ (floor n i : ℕ) where
           (λ (behind : start + at + length bytes ≤ i). byte_behind (start + at) bytes f i behind)
           (cases_lt i (start + at + length bytes)))
           (cases_lt i (start + at))
-  one (CreateDirEntry p node rights) f g above none h = h
-  one (DeleteDirEntry p kind) f g above none h = h
-  one (MoveDirEntry p q) f g above none h = h
-  one (LinkDirEntry p linked) f g above none h = h
+  one (CreateDirEntry e node rights bytes) f g above none h = h
+  one (DeleteDirEntry e node) f g above none h = h
+  one (MoveDirEntry a b node old) f g above none h = h
+  one (LinkDirEntry e kind linked old half) f g above none h = h
   one (SetAttr target rights) f g above none h = h
   one Say f g above none h = h
 

@@ -6,4 +6,5 @@ pub mod Keeping
 pub mod Bytes
 pub mod Listing
 pub mod Settling
+pub mod Below
 pub mod Equal

@@ -1,28 +1,24 @@
 -- The listed slots after the steps of a set, compared with all slots.
-use Rattle.std.proofs.Common.{◌≡◌, ◌≢◌, ℕ, zero, suc, ◌+◌, ◌<◌, ◌≤◌, ◌⊎◌, inl, inr, List, [], ◌∷◌, ◌++◌, length, map, get_or, refl, sym, ap}
-use Rattle.std.proofs.Common.{◌∙◌, subst, arith, ⊎_elim}
+use Rattle.std.proofs.Common.{◌≡◌, ◌≢◌, ℕ, zero, suc, ◌<◌, ◌≤◌, ◌⊎◌, inl, inr, List, [], ◌∷◌, length, map, get_or, refl, sym, ap}
+use Rattle.std.proofs.Common.{◌∙◌, subst, arith, ⊎_elim, None, Some}
 use Rattle.std.proofs.lemmas.Bool.{cases_eq, cases_lt}
 use Rattle.std.proofs.lemmas.List.{get_or-map, get_or-set_other, get_or-set_same, get_or_default, get_or_past, length-map, length-set}
 use Rattle.std.specs.List.{All}
 use Rattle.std.specs.Prelude.{fold, slice_set}
-use Rattle.cs_tree_model.specs.Tree.{Path}
-use Rattle.cs_trace.specs.declared.operation.Rights.{Rights}
+use Rattle.cs_entries.specs.declared.entry.Entry.{Entry}
 use Rattle.cs_micro.specs.declared.micro_op.MicroOp.{MicroOp}
-use Rattle.cs_apm.specs.Slots.{AreSteps, FitsIn, moved_slot, owned_slot, slot_at, slots_after, step_at}
-use Rattle.cs_apm.specs.declared.slot.Slot.{Slot}
-use Rattle.cs_apm.specs.declared.slot.Slot.TheVariants.{Nothing, Directory, File}
+use Rattle.cs_apm.specs.Slots.{AreSteps, FitsIn, Slot, moved_slot, slot_at, slots_after, step_at}
 use Rattle.cs_apm.specs.declared.slot.Step.{Step}
-use Rattle.cs_apm.specs.declared.slot.Step.TheVariants.{Set, Move, SetRights, Other}
-use Rattle.cs_same_states.specs.Places.{AreDistinct, AreListed, AreRenumbered, HasRank, IsRenumbered, IsUnlisted, id_at}
+use Rattle.cs_apm.specs.declared.slot.Step.TheVariants.{Set, Move, Other}
+use Rattle.cs_same_states.specs.Places.{AreDistinct, AreListed, HasRank, IsRenumbered, IsUnlisted, id_at}
 use Rattle.cs_same_states.specs.declared.touched.Touched.{Touched}
 
 -- there is a step for each operation
-pub steps_long : (rights : List Rights) (paths : List Path) (ops : List MicroOp) (steps : List Step) → AreSteps rights paths ops steps
-    → length steps ≡ length ops
-steps_long rights paths [] [] h = refl
-steps_long rights paths [] (s ∷ steps) h = absurd h
-steps_long rights paths (o ∷ ops) [] h = absurd h
-steps_long rights paths (o ∷ ops) (s ∷ steps) h = ap suc (steps_long rights paths ops steps h.1)
+pub steps_long : (entries : List Entry) (ops : List MicroOp) (steps : List Step) → AreSteps entries ops steps → length steps ≡ length ops
+steps_long entries [] [] h = refl
+steps_long entries [] (s ∷ steps) h = absurd h
+steps_long entries (o ∷ ops) [] h = absurd h
+steps_long entries (o ∷ ops) (s ∷ steps) h = ap suc (steps_long entries ops steps h.1)
 
 -- a slot is listed, or it isn't
 pub listed_or_not : (ids : List ℕ) (id : ℕ) → ((r : ℕ) × HasRank ids id r) ⊎ IsUnlisted ids id
@@ -60,30 +56,22 @@ module _ (ids : List ℕ) (distinct : AreDistinct ids) (slots : List Slot) where
     short = length-set few r s ∙ h.short;
     same = λ q in_ids. ⊎_elim
         (λ (e : q ≡ r).
-        ap (slot_at (slice_set few r s)) e ∙ get_or-set_same few r s Nothing (let l = h.short in let k = rank.0 in omega (arith, l, k))
-        ∙ sym (ap (slot_at (slice_set full i s)) (ap (id_at ids) e ∙ rank.1) ∙ get_or-set_same full i s Nothing
+        ap (slot_at (slice_set few r s)) e ∙ get_or-set_same few r s None (let l = h.short in let k = rank.0 in omega (arith, l, k))
+        ∙ sym (ap (slot_at (slice_set full i s)) (ap (id_at ids) e ∙ rank.1) ∙ get_or-set_same full i s None
         (let l = h.long in omega (arith, l, low))))
         (λ (e : q ≢ r).
-        get_or-set_other few r q s Nothing e ∙ h.same q in_ids
-        ∙ sym (get_or-set_other full i (id_at ids q) s Nothing
+        get_or-set_other few r q s None e ∙ h.same q in_ids
+        ∙ sym (get_or-set_other full i (id_at ids q) s None
         (λ (same : id_at ids q ≡ i). e (distinct q r in_ids rank.0 (same ∙ sym rank.1)))))
         (cases_eq q r);
-    rest = λ id none. get_or-set_other full i id s Nothing (λ (same : id ≡ i). none r rank.0 (rank.1 ∙ sym same)) ∙ h.rest id none;
+    rest = λ id none. get_or-set_other full i id s None (λ (same : id ≡ i). none r rank.0 (rank.1 ∙ sym same)) ∙ h.rest id none;
   }
 
   moved_both : (full few : List Slot) (i j r q : ℕ) (s : Slot) → HasRank ids i r → HasRank ids j q → i < length slots → j < length slots
       → IsBeside full few → IsBeside (moved_slot i j full s) (moved_slot r q few s)
-  moved_both full few i j r q Nothing from to low high h = h
-  moved_both full few i j r q (Directory k) from to low high h =
-      set_both (slice_set full i Nothing) (slice_set few r Nothing) j q (Directory k) to high (set_both full few i r Nothing from low h)
-  moved_both full few i j r q (File n) from to low high h =
-      set_both (slice_set full i Nothing) (slice_set few r Nothing) j q (File n) to high (set_both full few i r Nothing from low h)
-
-  owned_both : (full few : List Slot) (i k r : ℕ) (s : Slot) → HasRank ids i r → i < length slots → IsBeside full few
-      → IsBeside (owned_slot i k full s) (owned_slot r k few s)
-  owned_both full few i k r Nothing rank low h = h
-  owned_both full few i k r (File n) rank low h = h
-  owned_both full few i k r (Directory old) rank low h = set_both full few i r (Directory k) rank low h
+  moved_both full few i j r q None from to low high h = h
+  moved_both full few i j r q (Some node) from to low high h =
+      set_both (slice_set full i None) (slice_set few r None) j q (Some node) to high (set_both full few i r None from low h)
 
   stands_same : (full few : List Slot) (i r : ℕ) → HasRank ids i r → IsBeside full few → slot_at full i ≡ slot_at few r
   stands_same full few i r rank h = ap (slot_at full) (sym rank.1) ∙ sym (h.same r rank.0)
@@ -95,10 +83,6 @@ module _ (ids : List ℕ) (distinct : AreDistinct ids) (slots : List Slot) where
   step_both (Move i j) (Move r q) full few is fits h =
       subst (λ v. IsBeside (moved_slot i j full (slot_at full i)) (moved_slot r q few v)) (stands_same full few i r is.0 h)
       (moved_both full few i j r q (slot_at full i) is.0 is.1 fits.0 fits.1 h)
-  step_both (SetRights i k) (SetRights r l) full few is fits h =
-      subst (λ w. IsBeside (owned_slot i k full (slot_at full i)) (owned_slot r w few (slot_at few r))) is.1
-      (subst (λ v. IsBeside (owned_slot i k full (slot_at full i)) (owned_slot r k few v)) (stands_same full few i r is.0 h)
-      (owned_both full few i k r (slot_at full i) is.0 fits h))
   step_both Other Other full few is fits h = h
   step_both _ _ full few is fits h = absurd is
 
@@ -118,7 +102,7 @@ start_beside : (slots few : List Slot) (ids : List ℕ) → few ≡ map (slot_at
 start_beside slots few ids is distinct = record {
   long = refl;
   short = ap length is ∙ length-map ids (slot_at slots);
-  same = λ r low. ap (λ v. slot_at v r) is ∙ get_or-map (slot_at slots) ids r 0 Nothing low;
+  same = λ r low. ap (λ v. slot_at v r) is ∙ get_or-map (slot_at slots) ids r 0 None low;
   rest = λ id none. refl;
 }
 
@@ -131,7 +115,6 @@ module _ (slots : List Slot) (steps : List Step) (touched : Touched) (are : AreL
   fits_few (Set i s) (Set r u) is = (let k = is.0.0 in let l = as_many in omega (arith, k, l))
   fits_few (Move i j) (Move r q) is =
       ((let k = is.0.0 in let l = as_many in omega (arith, k, l)), (let k = is.1.0 in let l = as_many in omega (arith, k, l)))
-  fits_few (SetRights i k) (SetRights r l) is = (let k = is.0.0 in let l = as_many in omega (arith, k, l))
   fits_few Other Other is = tt
   fits_few _ _ is = absurd is
 

@@ -1,15 +1,15 @@
 -- Two sets of a trace's micro-operations, and what both leave of a file.
 use Rattle.std.specs.Prelude.{◌≡◌, ◌<◌, ℕ, true, List, length, slice_index_or}
 use Rattle.std.specs.List.{All}
-use Rattle.cs_trace.specs.declared.operation.Rights.{Rights}
+use Rattle.cs_start.specs.declared.rights.Rights.{Rights}
 use Rattle.cs_micro.specs.declared.micro_op.MicroOp.{MicroOp}
 use Rattle.cs_micro.specs.Micros.{micros_in}
-use Rattle.cs_apm.specs.Atlases.{AreStarts, IsAtlas, atlas_in, content_before}
+use Rattle.cs_apm.specs.Atlases.{AreMakings, AreStarts, IsAtlas, atlas_in, content_before}
 use Rattle.cs_apm.specs.Contents.{IsSmall, content_left}
 use Rattle.cs_apm.specs.Orders.{needs_of}
-use Rattle.cs_apm.specs.Owners.{owner_left}
-use Rattle.cs_apm.specs.Sets.{IsAllowed}
-use Rattle.cs_apm.specs.States.{Content, no_rights, owners_of}
+use Rattle.cs_apm.specs.Owners.{directory_left, owner_left}
+use Rattle.cs_sets.specs.Sets.{IsAllowed}
+use Rattle.cs_apm.specs.States.{Content, directories_of, no_rights, owners_of}
 use Rattle.cs_state.specs.Windows.{byte_of}
 use Rattle.cs_same_states.specs.Reaching.{floor_in, reaches}
 use Rattle.cs_same_states.specs.declared.pairs.Pair.{Pair}
@@ -17,7 +17,9 @@ use Rattle.cs_same_states.specs.declared.pairs.Pair.{Pair}
 -- the tables are the trace's, and both sets are of its micro-operations
 pub record IsPair (p : Pair) : Type 0 where
   pub starts : AreStarts p.trace.now p.tables.now.starts.items
+  pub makings : AreMakings p.ops.now p.tables.now.makings.items
   pub owners : p.tables.now.owners.items ≡ owners_of p.trace.now p.ops.now
+  pub directories : p.tables.now.directories.items ≡ directories_of p.trace.now p.ops.now
   pub small : All IsSmall p.ops.now
   pub first : All (λ place. place < length p.ops.now) p.places.now
   pub second : All (λ place. place < length p.ops.now) p.others.now
@@ -25,7 +27,7 @@ pub record IsPair (p : Pair) : Type 0 where
 -- a crash may leave both sets of the trace's micro-operations, and the tables are the trace's
 pub record AreAllowed (p : Pair) : Type 0 where
   pub ops : p.ops.now ≡ (micros_in p.trace.now).ops
-  pub atlas : IsAtlas p.trace.now (micros_in p.trace.now).ops (atlas_in p.tables.now)
+  pub atlas : IsAtlas p.trace.now (micros_in p.trace.now) (atlas_in p.tables.now)
   pub first : IsAllowed (needs_of (micros_in p.trace.now)) (length (micros_in p.trace.now).ops)
       p.places.now
   pub second : IsAllowed (needs_of (micros_in p.trace.now)) (length (micros_in p.trace.now).ops)
@@ -51,6 +53,17 @@ first_owner p n = owner_by p p.places.now n
 
 abbrev pub second_owner : Pair → ℕ → Rights
 second_owner p n = owner_by p p.others.now n
+
+-- and of that of the directory
+abbrev pub directory_by : Pair → List ℕ → ℕ → Rights
+directory_by p places d =
+    directory_left d (slice_index_or p.tables.now.directories.items d no_rights) p.ops.now places
+
+abbrev pub first_directory : Pair → ℕ → Rights
+first_directory p d = directory_by p p.places.now d
+
+abbrev pub second_directory : Pair → ℕ → Rights
+second_directory p d = directory_by p p.others.now d
 
 -- both leave the same size, owner, group and permissions of the file, and the same bytes in what
 -- the micro-operation can change

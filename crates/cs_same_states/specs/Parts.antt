@@ -4,9 +4,10 @@ use Rattle.cs_trace.specs.Traces.{Trace}
 use Rattle.cs_micro.specs.Micros.{micros_in}
 use Rattle.cs_micro.specs.declared.micro_op.MicroOp.{MicroOp}
 use Rattle.cs_apm.specs.Atlases.{IsAtlas, atlas_in}
-use Rattle.cs_apm.specs.declared.slot.Slot.{Slot}
+use Rattle.cs_apm.specs.Slots.{Slot}
+use Rattle.cs_state.specs.Owners.{directory_set}
 use Rattle.cs_same_states.specs.Fixed.{AreFixed}
-use Rattle.cs_same_states.specs.Pairs.{IsSettled}
+use Rattle.cs_same_states.specs.Pairs.{IsSettled, first_directory, second_directory}
 use Rattle.cs_same_states.specs.Places.{AreListed}
 use Rattle.cs_same_states.specs.Reaching.{changed_file}
 use Rattle.cs_same_states.specs.Slots.{IsInBoth, flag_at}
@@ -15,7 +16,7 @@ use Rattle.cs_same_states.specs.declared.parts.Parts.{Parts}
 
 -- the tables are the trace's, and the rest is of them
 pub record AreParts (t : Trace) (parts : Parts) : Type 0 where
-  pub atlas : IsAtlas t (micros_in t).ops (atlas_in parts.tables)
+  pub atlas : IsAtlas t (micros_in t) (atlas_in parts.tables)
   pub touched : AreListed parts.tables.slots.items parts.tables.steps.items parts.touched
   pub fixed : AreFixed parts.tables parts.touched.ids.items parts.in_unchanged_slot.items
 
@@ -23,7 +24,9 @@ pub record AreParts (t : Trace) (parts : Parts) : Type 0 where
 abbrev pub KeepsSlot : List Bool → List Slot → List Slot → ℕ → Type 0
 KeepsSlot fixed slots others n = (flag_at fixed n ≡ true) ⊎ IsInBoth slots others n
 
--- the file that it changes, if it has a slot, is left alike in the part that it changes
-abbrev pub IsAlikeBy : Pair → List Bool → List Slot → List Slot → MicroOp → Type 0
-IsAlikeBy p fixed slots others o =
-    (n : ℕ) → changed_file o ≡ Some n → KeepsSlot fixed slots others n → IsSettled p n o
+-- the file that it changes, if it has a slot, is left alike in the part that it changes; and the
+-- directory whose owner, group and permissions it sets, also by making it, is left with the same
+pub record IsAlikeBy (p : Pair) (fixed : List Bool) (slots others : List Slot) (o : MicroOp)
+    : Type 0 where
+  pub file : (n : ℕ) → changed_file o ≡ Some n → KeepsSlot fixed slots others n → IsSettled p n o
+  pub directory : (d : ℕ) → directory_set o ≡ Some d → first_directory p d ≡ second_directory p d

@@ -1,9 +1,8 @@
 -- The slots that some step changes, by their places in a list, and the steps in these only.
 use Rattle.std.specs.Prelude.{◌≡◌, ◌<◌, ◌≤◌, ◌+◌, ℕ, List, length, map, slice_index_or}
-use Rattle.cs_apm.specs.Slots.{slot_at, step_at}
-use Rattle.cs_apm.specs.declared.slot.Slot.{Slot}
+use Rattle.cs_apm.specs.Slots.{Slot, slot_at, step_at}
 use Rattle.cs_apm.specs.declared.slot.Step.{Step}
-use Rattle.cs_apm.specs.declared.slot.Step.TheVariants.{Set, Move, SetRights, Other}
+use Rattle.cs_apm.specs.declared.slot.Step.TheVariants.{Set, Move, Other}
 use Rattle.cs_same_states.specs.declared.touched.Touched.{Touched}
 
 abbrev pub id_at : List ℕ → ℕ → ℕ
@@ -37,7 +36,6 @@ pub record IsRank (old new : List ℕ) (id rank : ℕ) : Type 0 where
 abbrev pub IsRenumbered : List ℕ → Step → Step → Type 0
 IsRenumbered ids (Set i s) (Set r u) = HasRank ids i r × (s ≡ u)
 IsRenumbered ids (Move i j) (Move r q) = HasRank ids i r × HasRank ids j q
-IsRenumbered ids (SetRights i k) (SetRights r l) = HasRank ids i r × (k ≡ l)
 IsRenumbered ids Other Other = Unit {0}
 IsRenumbered ids _ _ = ⊥
 

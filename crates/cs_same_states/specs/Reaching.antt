@@ -1,7 +1,7 @@
 -- Which bytes of a file a micro-operation reaches.
 use Rattle.std.specs.Prelude.{ℕ, ◌+◌, ◌==◌, ◌&&◌, if◌then◌else◌, nat_le, nat_lt, Bool, false, List}
 use Rattle.std.specs.Prelude.{Option, None, Some, fold, length}
-use Rattle.cs_names.specs.declared.limits.TheConstants.{FILE_BYTES}
+use Rattle.cs_trace.specs.declared.limits.TheConstants.{LARGE_FILE_BYTES}
 use Rattle.cs_trace.specs.declared.operation.Target.TheVariants as targets
 use Rattle.cs_micro.specs.declared.micro_op.MicroOp.{MicroOp}
 use Rattle.cs_micro.specs.declared.micro_op.MicroOp.TheVariants.{ChangeFileSize, WriteBlock}
@@ -22,7 +22,7 @@ floor_after n floor _ = floor
 
 -- the least size that one of them gives the file
 unfoldable pub floor_in : List MicroOp → ℕ → ℕ
-floor_in ops n = fold (floor_after n) FILE_BYTES ops
+floor_in ops n = fold (floor_after n) LARGE_FILE_BYTES ops
 
 -- it writes the byte of the file, or changes its size and the byte is above the floor
 abbrev pub reaches : ℕ → ℕ → ℕ → MicroOp → Bool

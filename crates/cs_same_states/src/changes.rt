@@ -2,8 +2,9 @@
 //! only: a wrong digest costs time, never an answer, so nothing here has a contract. A number out
 //! of range is skipped. An error means out of memory, and the caller drops what it has so far.
 use crate::mixing::{digest_of_metadata, digest_of_rights};
+use cs_entries::Node;
 use cs_micro::MicroOp;
-use cs_trace::{BlockSize, Node, Target, Trace};
+use cs_trace::{BlockSize, Target, Trace};
 use cs_tree_model::Kind;
 use std::alloc::{AllocError, Global};
 
@@ -27,6 +28,8 @@ pub struct File {
     pub length: u64,
     /// The place of each micro-operation that changes it, and the change.
     pub changes: Vec<(u32, FileChange)>,
+    /// Its digest, once it is computed, if no micro-operation changes it.
+    pub unchanged: Option<u64>,
 }
 
 /// The number of the block into which the micro-operation writes, or in which it ends a file; None
@@ -53,12 +56,18 @@ pub fn blocks_of(alloc: Global, size: BlockSize, ops: &[MicroOp]) -> Result<Vec<
     Ok(blocks)
 }
 
-/// Appends a file of length 0, without changes, whose rights have this digest.
-fn push_file(alloc: Global, files: &mut Vec<File>, rights: u64) -> Result<(), AllocError> {
+/// Appends a file of this length, without changes, whose rights have this digest.
+fn push_file(
+    alloc: Global,
+    files: &mut Vec<File>,
+    rights: u64,
+    length: u64,
+) -> Result<(), AllocError> {
     files.push(File {
         rights,
-        length: 0,
+        length,
         changes: Vec::new(alloc),
+        unchanged: None,
     })?;
     Ok(())
 }
@@ -75,10 +84,14 @@ fn push_change(
 ) -> Result<(), AllocError> {
     let (file, change) = match op {
         MicroOp::CreateDirEntry {
-            node: Node::File(_),
+            node: Node::File(..),
             rights,
+            bytes,
             ..
-        } => return push_file(alloc, files, digest_of_rights(rights)),
+        } => {
+            let length = bytes.as_slice().len() as u64;
+            return push_file(alloc, files, digest_of_rights(rights), length);
+        }
         MicroOp::ChangeFileSize { file, length } => (*file, FileChange::Size(*length)),
         MicroOp::SetAttr {
             target: Target::File(file),
@@ -111,11 +124,11 @@ fn length_of(kind: Kind) -> u64 {
 fn start_files(alloc: Global, trace: &Trace) -> Result<Vec<File>, AllocError> {
     let mut files = Vec::new(alloc);
     for _ in 0..trace.file_count() {
-        push_file(alloc, &mut files, 0)?;
+        push_file(alloc, &mut files, 0, 0)?;
     }
     let records = trace.records();
     for (place, node) in trace.nodes().iter().enumerate() {
-        if let Node::File(number) = node {
+        if let Node::File(_, number) = node {
             if let Some(file) = files.get_mut(*number as usize) {
                 let metadata = records.metadata(place);
                 file.length = length_of(metadata.kind);

@@ -3,8 +3,9 @@
 //! never an answer, so nothing here has a contract: a file out of range, or one that isn't there,
 //! has the digest 0, and a place out of range is no member. An error means out of memory.
 use crate::changes::{File, FileChange, blocks_of, files_of};
+use crate::entries::VaryingEntries;
 use crate::mixing::{digest_of_bytes, mix};
-use cs_names::Path;
+use crate::parts::Parts;
 use cs_plan::{MakeFault, Scene};
 use cs_trace::BlockSize;
 use cs_tree_model::{TreeRead, number_of_path};
@@ -44,13 +45,17 @@ struct FileLeft {
     writes: Vec<Option<u32>>,
 }
 
-/// A file of a state, with one of its paths.
+/// A file of a state, with one of its entries.
 #[derive(Clone, Copy)]
 pub struct FileOfState<'a> {
     pub scene: &'a Arc<Scene>,
     /// The state's number in the scene's plan.
     pub number: u32,
-    pub path: &'a Path,
+    pub parts: &'a Parts,
+    /// The entries, of which the state is the one that was noted last.
+    pub entries: &'a VaryingEntries,
+    /// The place of an entry that holds the file.
+    pub place: u32,
     /// The file's number in the trace.
     pub file: u32,
 }
@@ -127,7 +132,7 @@ impl FileLeft {
 }
 
 /// Makes the state, reads a block of its file, and returns the block's digest. `block` is the
-/// block's number. 0 if the plan has no such state, or the state has no file at the path.
+/// block's number. 0 if the plan has no such state, or the state has no file at the entry.
 fn read_block_digest(
     alloc: Global,
     size: BlockSize,
@@ -140,7 +145,10 @@ fn read_block_digest(
         Err(MakeFault::NoSuchState) => return Ok(0),
     };
     let store = made.store();
-    let Some(number) = number_of_path(store, state_file.path.names()) else {
+    let path = state_file
+        .entries
+        .path_of(alloc, state_file.parts, state_file.place)?;
+    let Some(number) = number_of_path(store, path.names()) else {
         return Ok(0);
     };
     // The block begins within the file, so this doesn't wrap.
@@ -181,6 +189,13 @@ impl Contents {
         Ok(digest)
     }
 
+    /// Keeps the digest of a file that no micro-operation changes.
+    fn keep_unchanged(&mut self, file: u32, digest: u64) {
+        if let Some(kept) = self.files.get_mut(file as usize) {
+            kept.unchanged = Some(digest);
+        }
+    }
+
     /// The digest of the bytes and rights of a file of a state. `members` has, for each
     /// micro-operation, whether the state has it. 0 if the trace has no file of that number. After
     /// an error the digests of the blocks that were read stay kept.
@@ -193,6 +208,10 @@ impl Contents {
         let Some(file) = self.files.get(state_file.file as usize) else {
             return Ok(0);
         };
+        if let Some(digest) = file.unchanged {
+            return Ok(digest);
+        }
+        let is_unchanged = file.changes.is_empty();
         let left = file_after(alloc, file, members, self.blocks.len())?;
         let size = self.block_size.bytes();
         let mut digest = mix(left.rights, left.length);
@@ -211,6 +230,9 @@ impl Contents {
                 };
                 digest = mix(digest, self.block_digest(alloc, state_file, version)?);
             }
+        }
+        if is_unchanged {
+            self.keep_unchanged(state_file.file, digest);
         }
         Ok(digest)
     }

@@ -1,9 +1,12 @@
-//! The digest of a state: states with equal trees have the same. A wrong digest costs time, never
-//! an answer, so nothing here has a contract: trees are compared before two states are called
-//! equal.
+//! The digest of a state: states with equal trees have the same. It is computed of the paths of
+//! entries, and not of the numbers of their directories: two states may have one tree by different
+//! directories. A wrong digest costs time, never an answer, so nothing here has a contract: trees
+//! are compared before two states are called equal.
 use crate::contents::{Contents, FileOfState};
-use crate::entries::{Entry, TouchedEntries};
+use crate::entries::{DirectoryRights, VaryingEntries};
 use crate::mixing::mix;
+use crate::parts::Parts;
+use cs_entries::{FileKind, Node};
 use cs_plan::Scene;
 use std::alloc::{AllocError, Global};
 use std::sync::Arc;
@@ -11,49 +14,68 @@ use std::sync::Arc;
 /// What the digests of a trace's states are computed from.
 #[derive(Drop)]
 pub struct Digests {
-    entries: TouchedEntries,
+    entries: VaryingEntries,
+    rights: DirectoryRights,
     contents: Contents,
 }
 
+/// A number that keeps files and symbolic links apart, and both from directories, which have 1.
+fn kind_number(kind: FileKind) -> u64 {
+    match kind {
+        FileKind::Regular => 2,
+        FileKind::Symlink => 3,
+    }
+}
+
 impl Digests {
-    /// What the digests of this scene's states are computed from. No digest is computed yet.
-    pub fn of(alloc: Global, scene: &Scene) -> Result<Digests, AllocError> {
+    /// What the digests of this scene's states are computed from. `parts` are those of its trace.
+    /// No digest is computed yet.
+    pub fn of(alloc: Global, scene: &Scene, parts: &Parts) -> Result<Digests, AllocError> {
+        let ops = scene.micros().ops();
         Ok(Digests {
-            entries: TouchedEntries::of(alloc, scene)?,
+            entries: VaryingEntries::of(alloc, parts, ops)?,
+            rights: DirectoryRights::of(alloc, parts, ops)?,
             contents: Contents::of(alloc, scene)?,
         })
     }
 
     /// The digest of the state of this number in the scene, which must be the one that `of` was
-    /// given. `members` has, for each micro-operation, whether the state has it. The time is in
-    /// proportion to the paths that operations touch and the blocks that they write. Digests of
-    /// blocks are kept for later states, also after an error, which means out of memory. The 1 and
-    /// the 2 keep directories and files apart.
+    /// given, with the same parts. `members` has, for each micro-operation, whether the state has
+    /// it. The digest is the sum of those of the paths at which states differ, each with what is
+    /// there; so it doesn't depend on their order. The time is in proportion to these entries and
+    /// to the blocks that operations write. Digests of blocks are kept for later states, also after
+    /// an error, which means out of memory.
     pub fn digest_of_state(
         &mut self,
         alloc: Global,
         scene: &Arc<Scene>,
+        parts: &Parts,
         number: u32,
         members: &[bool],
     ) -> Result<u64, AllocError> {
-        let left = self.entries.entries_left(alloc, members)?;
-        let mut digest = 0;
-        for (path, entry) in self.entries.paths().iter().zip(&left) {
-            let part = match *entry {
-                Entry::Nothing => 0,
-                Entry::Directory { rights } => mix(1, rights),
-                Entry::File { file } => {
+        self.rights.note(members);
+        let held = self.entries.held(alloc, parts, members)?;
+        // The root has no entry.
+        let mut sum = self.rights.digest_of(0);
+        for (place, node) in &held {
+            let path = self.entries.digest_of_path(parts, *place);
+            let part = match *node {
+                Node::Directory(directory) => mix(mix(path, 1), self.rights.digest_of(directory)),
+                Node::File(kind, file) => {
                     let state_file = FileOfState {
                         scene,
                         number,
-                        path,
+                        parts,
+                        entries: &self.entries,
+                        place: *place,
                         file,
                     };
-                    mix(2, self.contents.digest_of_file(alloc, state_file, members)?)
+                    let content = self.contents.digest_of_file(alloc, state_file, members)?;
+                    mix(mix(path, kind_number(kind)), content)
                 }
             };
-            digest = mix(digest, part);
+            sum = sum.wrapping_add(part);
         }
-        Ok(digest)
+        Ok(sum)
     }
 }

@@ -1,195 +1,324 @@
-//! What is at the paths at which the states of a trace differ. This is for digests only: a wrong
-//! digest costs time, never an answer, so nothing here has a contract. What is out of range is
-//! skipped. An error means out of memory; the caller then drops what was noted so far.
-use crate::mixing::{digest_of_metadata, digest_of_rights};
-use crate::places::TouchedPaths;
+//! The entries at which the states of a trace differ, and where they are. This is for digests only:
+//! a wrong digest costs time, never an answer, so nothing here has a contract. What is out of range
+//! is skipped. An error means out of memory.
+use crate::mixing::{digest_of_bytes, digest_of_rights, mix};
+use crate::parts::Parts;
+use cs_apm::slot::Step;
+use cs_entries::Node;
 use cs_micro::MicroOp;
 use cs_names::Path;
-use cs_plan::Scene;
-use cs_trace::{Node, Target, Trace};
+use cs_trace::Target;
 use std::alloc::{AllocError, Global};
 
-/// What is at a path; of a directory, a digest of its owner, group and permissions.
-#[derive(Clone, Copy, Debug)]
-pub enum Entry {
-    Nothing,
-    Directory { rights: u64 },
-    File { file: u32 },
-}
-
-/// What is at a path after a micro-operation that touches it: the same in each state that has the
-/// micro-operation as its last at the path, since it needs the earlier ones there.
-#[derive(Clone, Copy, Debug)]
-struct Effect {
-    /// The place of the micro-operation in the trace.
-    op_place: usize,
-    /// The place of the path in `TouchedEntries::paths`.
-    path_place: usize,
-    entry: Entry,
-}
-
-/// What is at the paths that an operation touches, or whose files or directories one changes.
+/// The entries at which states differ: those that some micro-operation touches; and of the others
+/// those that may be at different paths, or hold a file or a directory that one changes. Any other
+/// entry holds the same at the same path in every state, so digests leave its path out.
 #[derive(Debug, Drop)]
-pub struct TouchedEntries {
-    paths: Vec<Path>,
-    /// What is at each of the paths at the start.
-    start: Vec<Entry>,
-    /// In the order of the micro-operations.
-    effects: Vec<Effect>,
+pub struct VaryingEntries {
+    /// The places among all entries of those that no micro-operation touches.
+    untouched: Vec<u32>,
+    /// For each entry, the digest of its name.
+    names: Vec<u64>,
+    /// For each directory, the place of the entry that it has in the state that was noted last.
+    homes: Vec<u32>,
 }
 
-impl Entry {
-    /// The entry of a node; `rights` is the digest of its rights, used only for a directory.
-    fn of(node: Node, rights: u64) -> Entry {
-        match node {
-            Node::Directory => Entry::Directory { rights },
-            Node::File(file) => Entry::File { file },
+/// Which files and directories some micro-operation changes, by their numbers.
+#[derive(Drop)]
+struct Changed {
+    files: Vec<bool>,
+    directories: Vec<bool>,
+}
+
+/// Sets the flag; one that isn't there is skipped.
+fn set_flag(flags: &mut [bool], number: u32) {
+    if let Some(flag) = flags.get_mut(number as usize) {
+        *flag = true;
+    }
+}
+
+/// The flag; false if it isn't there.
+fn flag_at(flags: &[bool], number: u32) -> bool {
+    flags.get(number as usize).copied().unwrap_or(false)
+}
+
+/// Which files some micro-operation changes, and of which directories one sets the owner, group and
+/// permissions.
+fn changed_by(alloc: Global, parts: &Parts, ops: &[MicroOp]) -> Result<Changed, AllocError> {
+    let mut files = Vec::from_slice(alloc, &parts.tables.changed)?;
+    let mut directories = vec![in alloc; false; parts.tables.directories.len()]?;
+    for op in ops {
+        if let MicroOp::SetAttr { target, .. } = op {
+            match target {
+                Target::File(file) => set_flag(&mut files, *file),
+                Target::Directory { number, .. } => set_flag(&mut directories, *number),
+            }
+        }
+    }
+    Ok(Changed { files, directories })
+}
+
+/// Whether a micro-operation changes the file, or the directory's owner, group or permissions.
+fn is_changed(changed: &Changed, node: Node) -> bool {
+    match node {
+        Node::Directory(number) => flag_at(&changed.directories, number),
+        Node::File(_, file) => flag_at(&changed.files, file),
+    }
+}
+
+/// The places of the entries that hold something at the start and that no micro-operation touches,
+/// but that may be at different paths, or whose file or directory is changed. An entry stays at its
+/// path if it is in the root, or in a directory whose own entry isn't touched and stays. Entries
+/// are in the order of their directories' numbers, and those of the start are numbered from above:
+/// so a directory's own entry comes before those in it. If it didn't, they would count as varying.
+fn untouched_places(
+    alloc: Global,
+    parts: &Parts,
+    ops: &[MicroOp],
+) -> Result<Vec<u32>, AllocError> {
+    let changed = changed_by(alloc, parts, ops)?;
+    let mut touched = vec![in alloc; false; parts.tables.entries.len()]?;
+    for place in &parts.touched.ids {
+        set_flag(&mut touched, *place);
+    }
+    let mut stays = vec![in alloc; false; parts.tables.directories.len()]?;
+    set_flag(&mut stays, 0);
+    let mut places = Vec::new(alloc);
+    let mut place = 0u32;
+    for (entry, slot) in parts.tables.entries.iter().zip(&parts.tables.slots) {
+        if let (Some(node), false) = (*slot, flag_at(&touched, place)) {
+            let is_fixed = flag_at(&stays, entry.directory);
+            if let (Node::Directory(number), true) = (node, is_fixed) {
+                set_flag(&mut stays, number);
+            }
+            if !is_fixed || is_changed(&changed, node) {
+                places.push(place)?;
+            }
+        }
+        // There are fewer entries than 2^32, so this doesn't saturate.
+        place = place.saturating_add(1);
+    }
+    Ok(places)
+}
+
+/// Notes in `homes` that the directory, if the node is one, has the entry at this place.
+fn note_home(homes: &mut [u32], node: Node, place: u32) {
+    if let Node::Directory(number) = node {
+        if let Some(home) = homes.get_mut(number as usize) {
+            *home = place;
         }
     }
 }
 
-impl TouchedEntries {
-    /// The paths that the micro-operations of a scene's trace touch, what is there at the start,
-    /// and what the micro-operations leave there.
-    pub fn of(alloc: Global, scene: &Scene) -> Result<TouchedEntries, AllocError> {
-        let ops = scene.micros().ops();
-        let mut touched = TouchedPaths::new(alloc);
-        for op in ops {
-            touched.add_touched(alloc, scene.micros().starts(), op)?;
+/// For each directory, the place of its entry at the start; 0 for the root and for one that a
+/// micro-operation makes.
+fn start_homes(alloc: Global, parts: &Parts) -> Result<Vec<u32>, AllocError> {
+    let mut homes = vec![in alloc; 0; parts.tables.directories.len()]?;
+    let mut place = 0u32;
+    for slot in &parts.tables.slots {
+        if let Some(node) = *slot {
+            note_home(&mut homes, node, place);
         }
-        let start = start_entries(alloc, scene.trace(), &touched)?;
-        let effects = effects_of(alloc, &touched, &start, ops)?;
-        Ok(TouchedEntries {
-            paths: touched.paths,
-            start,
-            effects,
+        place = place.saturating_add(1);
+    }
+    Ok(homes)
+}
+
+/// Makes a step in the slots that some step changes.
+fn make_step(slots: &mut [Option<Node>], step: Step) {
+    match step {
+        Step::Set(place, slot) => set_slot(slots, place, slot),
+        Step::Move(from, to) => {
+            let node = slots.get(from as usize).copied().unwrap_or(None);
+            if node.is_some() {
+                set_slot(slots, from, None);
+                set_slot(slots, to, node);
+            }
+        }
+        Step::Other => {}
+    }
+}
+
+/// Puts this into the slot of the place.
+fn set_slot(slots: &mut [Option<Node>], place: u32, slot: Option<Node>) {
+    if let Some(old) = slots.get_mut(place as usize) {
+        *old = slot;
+    }
+}
+
+/// What is in the slots that some step changes, in a state. `members` has, for each
+/// micro-operation, whether the state has it.
+fn touched_left(
+    alloc: Global,
+    parts: &Parts,
+    members: &[bool],
+) -> Result<Vec<Option<Node>>, AllocError> {
+    let mut left = Vec::from_slice(alloc, &parts.touched.slots)?;
+    for (member, step) in members.iter().zip(&parts.touched.steps) {
+        if *member {
+            make_step(&mut left, *step);
+        }
+    }
+    Ok(left)
+}
+
+impl VaryingEntries {
+    /// The entries at which the states of the trace with these parts and micro-operations differ.
+    pub fn of(
+        alloc: Global,
+        parts: &Parts,
+        ops: &[MicroOp],
+    ) -> Result<VaryingEntries, AllocError> {
+        let mut names = Vec::new(alloc);
+        for entry in &parts.tables.entries {
+            names.push(digest_of_bytes(entry.name.as_bytes()))?;
+        }
+        Ok(VaryingEntries {
+            untouched: untouched_places(alloc, parts, ops)?,
+            names,
+            homes: start_homes(alloc, parts)?,
         })
     }
 
-    /// The paths, each once, in the order in which micro-operations first touch them.
-    pub fn paths(&self) -> &[Path] {
-        &self.paths
-    }
-
-    /// What is at each of the paths in a state. `members` has, for each micro-operation, whether
-    /// the state has it.
-    pub fn entries_left(&self, alloc: Global, members: &[bool]) -> Result<Vec<Entry>, AllocError> {
-        let mut left = Vec::from_slice(alloc, &self.start)?;
-        for effect in &self.effects {
-            if members.get(effect.op_place) == Some(&true) {
-                set_entry(&mut left, effect.path_place, effect.entry);
+    /// The entries that hold something in a state, each with its place among all entries. Where the
+    /// directories are in that state is noted, for the calls that follow. `members` has, for each
+    /// micro-operation, whether the state has it.
+    pub fn held(
+        &mut self,
+        alloc: Global,
+        parts: &Parts,
+        members: &[bool],
+    ) -> Result<Vec<(u32, Node)>, AllocError> {
+        let left = touched_left(alloc, parts, members)?;
+        let mut held = Vec::new(alloc);
+        for (place, slot) in parts.touched.ids.iter().zip(&left) {
+            if let Some(node) = *slot {
+                note_home(&mut self.homes, node, *place);
+                held.push((*place, node))?;
             }
         }
-        Ok(left)
+        for place in &self.untouched {
+            if let Some(node) = parts.tables.slots.get(*place as usize).copied().unwrap_or(None) {
+                held.push((*place, node))?;
+            }
+        }
+        Ok(held)
+    }
+
+    /// The place of the entry that the directory has in the state that was noted last; None for the
+    /// root.
+    fn home(&self, directory: u32) -> Option<u32> {
+        if directory == 0 {
+            return None;
+        }
+        self.homes.get(directory as usize).copied()
+    }
+
+    /// The digest of the path of the entry at this place in the state that was noted last: that of
+    /// its names, from the last to the first.
+    pub fn digest_of_path(&self, parts: &Parts, place: u32) -> u64 {
+        let mut digest = 0;
+        let mut next = Some(place);
+        // A path has fewer names than there are directories, and one more.
+        for _ in 0..self.homes.len() {
+            let Some(place) = next else {
+                return digest;
+            };
+            digest = mix(digest, self.names.get(place as usize).copied().unwrap_or(0));
+            next = match parts.tables.entries.get(place as usize) {
+                Some(entry) => self.home(entry.directory),
+                None => None,
+            };
+        }
+        digest
+    }
+
+    /// The path of the entry at this place in the state that was noted last.
+    pub fn path_of(&self, alloc: Global, parts: &Parts, place: u32) -> Result<Path, AllocError> {
+        let mut names = Vec::new(alloc);
+        let mut next = Some(place);
+        for _ in 0..self.homes.len() {
+            let Some(entry) = next.and_then(|place| parts.tables.entries.get(place as usize)) else {
+                break;
+            };
+            names.push(entry.name.try_clone()?)?;
+            next = self.home(entry.directory);
+        }
+        names.reverse();
+        Path::from_names(alloc, &names)
     }
 }
 
-/// Replaces the entry of the path at that place. A place out of range is skipped.
-fn set_entry(entries: &mut [Entry], path_place: usize, entry: Entry) {
-    if let Some(old) = entries.get_mut(path_place) {
-        *old = entry;
+/// The digests of the owner, group and permissions of directories, in one state after another.
+#[derive(Debug, Drop)]
+pub struct DirectoryRights {
+    /// Those of each directory by its number, as it is made.
+    start: Vec<u64>,
+    /// Those in the state that was noted last.
+    left: Vec<u64>,
+    /// The place of each micro-operation that sets them, or makes a directory with them; the
+    /// directory's number; and their digest.
+    changes: Vec<(u32, u32, u64)>,
+}
+
+/// Replaces the digest of a directory.
+fn set_digest(digests: &mut [u64], number: u32, digest: u64) {
+    if let Some(old) = digests.get_mut(number as usize) {
+        *old = digest;
     }
 }
 
-/// What is at each of these paths at the start; Nothing if no record has the path.
-fn start_entries(
-    alloc: Global,
-    trace: &Trace,
-    touched: &TouchedPaths,
-) -> Result<Vec<Entry>, AllocError> {
-    let mut start = vec![in alloc; Entry::Nothing; touched.paths.len()]?;
-    let records = trace.records();
-    for (place, node) in trace.nodes().iter().enumerate() {
-        let path = records.path_of(alloc, place)?;
-        if let Some(path_place) = touched.by_path.get(&path) {
-            let rights = digest_of_metadata(&records.metadata(place));
-            set_entry(&mut start, *path_place, Entry::of(*node, rights));
+impl DirectoryRights {
+    /// The digests of the directories as they are made.
+    pub fn of(
+        alloc: Global,
+        parts: &Parts,
+        ops: &[MicroOp],
+    ) -> Result<DirectoryRights, AllocError> {
+        let mut start = Vec::new(alloc);
+        for rights in &parts.tables.directories {
+            start.push(digest_of_rights(rights))?;
         }
+        let mut changes = Vec::new(alloc);
+        let mut place = 0u32;
+        for op in ops {
+            match op {
+                MicroOp::CreateDirEntry {
+                    node: Node::Directory(number),
+                    rights,
+                    ..
+                } => changes.push((place, *number, digest_of_rights(rights)))?,
+                MicroOp::SetAttr {
+                    target: Target::Directory { number, .. },
+                    rights,
+                } => changes.push((place, *number, digest_of_rights(rights)))?,
+                _ => {}
+            }
+            place = place.saturating_add(1);
+        }
+        let left = Vec::from_slice(alloc, &start)?;
+        Ok(DirectoryRights {
+            start,
+            left,
+            changes,
+        })
     }
-    Ok(start)
-}
 
-/// What `now` has at a path; Nothing if the path isn't a touched one.
-fn entry_at(touched: &TouchedPaths, now: &[Entry], path: &Path) -> Entry {
-    match touched.by_path.get(path) {
-        Some(place) => now.get(*place).copied().unwrap_or(Entry::Nothing),
-        None => Entry::Nothing,
+    /// Notes the digests in the state that has these members.
+    pub fn note(&mut self, members: &[bool]) {
+        for (_, number, _) in &self.changes {
+            let first = self.start.get(*number as usize).copied().unwrap_or(0);
+            set_digest(&mut self.left, *number, first);
+        }
+        for (place, number, digest) in &self.changes {
+            if flag_at(members, *place) {
+                set_digest(&mut self.left, *number, *digest);
+            }
+        }
     }
-}
 
-/// Notes what the micro-operation at `op_place` leaves at a path, in `now` and in `effects`. A path
-/// that isn't a touched one is skipped. `now` has what is at each path after the micro-operations
-/// so far, if a state has all of them.
-fn push_effect(
-    touched: &TouchedPaths,
-    now: &mut [Entry],
-    effects: &mut Vec<Effect>,
-    op_place: usize,
-    path: &Path,
-    entry: Entry,
-) -> Result<(), AllocError> {
-    if let Some(path_place) = touched.by_path.get(path) {
-        set_entry(now, *path_place, entry);
-        effects.push(Effect {
-            op_place,
-            path_place: *path_place,
-            entry,
-        })?;
+    /// The digest of the directory of the number in the state that was noted last.
+    pub fn digest_of(&self, number: u32) -> u64 {
+        self.left.get(number as usize).copied().unwrap_or(0)
     }
-    Ok(())
-}
-
-/// Notes what the micro-operation at `place` leaves at each path that it touches, as `push_effect`
-/// does: the paths that `TouchedPaths::add_touched` adds for it. Nothing is noted for a
-/// micro-operation that changes only a file, or for an acknowledged line.
-fn push_effects(
-    touched: &TouchedPaths,
-    now: &mut [Entry],
-    effects: &mut Vec<Effect>,
-    place: usize,
-    op: &MicroOp,
-) -> Result<(), AllocError> {
-    match op {
-        MicroOp::CreateDirEntry { path, node, rights } => {
-            let entry = Entry::of(*node, digest_of_rights(rights));
-            push_effect(touched, now, effects, place, path, entry)
-        }
-        MicroOp::LinkDirEntry { path, file } => {
-            let entry = Entry::File { file: *file };
-            push_effect(touched, now, effects, place, path, entry)
-        }
-        MicroOp::DeleteDirEntry { path, .. } => {
-            push_effect(touched, now, effects, place, path, Entry::Nothing)
-        }
-        MicroOp::MoveDirEntry { from, to } => {
-            let moved = entry_at(touched, now, from);
-            push_effect(touched, now, effects, place, from, Entry::Nothing)?;
-            push_effect(touched, now, effects, place, to, moved)
-        }
-        MicroOp::SetAttr {
-            target: Target::Directory(path),
-            rights,
-        } => {
-            let rights = digest_of_rights(rights);
-            let entry = Entry::Directory { rights };
-            push_effect(touched, now, effects, place, path, entry)
-        }
-        _ => Ok(()),
-    }
-}
-
-/// What each micro-operation leaves at the paths that it touches, in the order of the
-/// micro-operations. `start` has what is at each touched path at the start.
-fn effects_of(
-    alloc: Global,
-    touched: &TouchedPaths,
-    start: &[Entry],
-    ops: &[MicroOp],
-) -> Result<Vec<Effect>, AllocError> {
-    let mut now = Vec::from_slice(alloc, start)?;
-    let mut effects = Vec::new(alloc);
-    for (place, op) in ops.iter().enumerate() {
-        push_effects(touched, &mut now, &mut effects, place, op)?;
-    }
-    Ok(effects)
 }

@@ -1,24 +1,27 @@
 //! Whether two sets are seen to leave equal trees, without making the trees.
-ghost use Rattle.std.specs.Prelude.{◌≡◌, ◌<◌, ℕ, length, slice_index_or, IfOk, IsTrue};
+ghost use Rattle.std.specs.Prelude.{◌≡◌, ◌<◌, ℕ, length, slice_index_or, IfOk, IsTrue, Some};
 ghost use Rattle.cs_micro.specs.Micros.{micros_in};
 ghost use Rattle.cs_apm.specs.Contents.{IsSmall};
 ghost use Rattle.cs_apm.specs.Orders.{needs_of};
 ghost use Rattle.cs_apm.specs.Rules.{op_at};
-ghost use Rattle.cs_apm.specs.Sets.{IsAllowed};
+ghost use Rattle.cs_sets.specs.Sets.{IsAllowed};
 ghost use Rattle.cs_apm.specs.States.{crash_state_of};
 ghost use Rattle.cs_plan.specs.Scenes.{micros_of};
 ghost use Rattle.cs_same_states.specs.Fixed.{AreFixed};
-ghost use Rattle.cs_same_states.specs.Pairs.{AreAllowed, IsPair};
-ghost use Rattle.cs_same_states.specs.Parts.{AreParts, IsAlikeBy};
+ghost use Rattle.cs_state.specs.Owners as owners;
+ghost use Rattle.cs_same_states.specs.Pairs.{AreAllowed, IsPair, IsSettled, first_directory};
+ghost use Rattle.cs_same_states.specs.Pairs.{second_directory};
+ghost use Rattle.cs_same_states.specs.Parts.{AreParts, IsAlikeBy, KeepsSlot};
 ghost use Rattle.cs_same_states.specs.Places.{AreListed};
+ghost use Rattle.cs_same_states.specs.Reaching as reaching;
 
 use crate::differing::places_in_one;
-use crate::pairs::{Pair, is_settled};
+use crate::pairs::{Pair, are_same_directories, is_settled};
 use crate::parts::Parts;
-use crate::reaching::changed_file;
+use crate::reaching::{changed_file, directory_set};
 use crate::slots::{are_all_alike, flag_at, is_in_both};
 use crate::touched::Touched;
-use cs_apm::slot::Slot;
+use cs_entries::Node;
 use cs_micro::MicroOp;
 use cs_plan::Scene;
 use std::alloc::{AllocError, Global};
@@ -27,13 +30,54 @@ use std::alloc::{AllocError, Global};
 /// slot that no step changes.
 #[derive(Clone, Copy)]
 struct Slots<'a> {
-    first: &'a [Slot],
-    second: &'a [Slot],
+    first: &'a [Option<Node>],
+    second: &'a [Option<Node>],
     in_unchanged_slot: &'a [bool],
 }
 
 /// Whether the file that `op` changes is the same after both sets in the part that `op` can change.
 /// True also if `op` changes no file, or one that isn't in the same slot after both sets.
+fn is_file_alike_by(
+    alloc: Global,
+    pair: &Pair<'_>,
+    slots: &Slots<'_>,
+    op: &MicroOp,
+) -> Result<bool, AllocError>
+    requires pair { IsPair pair.now }
+    requires long { length slots.now.first.now ≡ length slots.now.second.now }
+    requires small { IsSmall op.now }
+    ensures { IfOk result
+        (λ same. IsTrue same
+        → (n : ℕ) → reaching.changed_file op.now ≡ Some n
+        → KeepsSlot slots.now.in_unchanged_slot.now slots.now.first.now slots.now.second.now n
+        → IsSettled pair.now n op.now) }
+{
+    let Some(file) = changed_file(op) else {
+        return Ok(true);
+    };
+    if flag_at(slots.in_unchanged_slot, file) || is_in_both(slots.first, slots.second, file) {
+        is_settled(alloc, pair, file, op)
+    } else {
+        Ok(true)
+    }
+}
+
+/// Whether the directory whose owner, group and permissions `op` sets, also by making it, has the
+/// same after both sets. True also if `op` sets those of none.
+fn is_directory_alike_by(pair: &Pair<'_>, op: &MicroOp) -> bool
+    requires { IsPair pair.now }
+    ensures { IsTrue result → (d : ℕ) → owners.directory_set op.now ≡ Some d
+        → first_directory pair.now d ≡ second_directory pair.now d }
+{
+    match directory_set(op) {
+        None => true,
+        Some(directory) => are_same_directories(pair, directory),
+    }
+}
+
+/// Whether what `op` changes is alike after both sets: the part of its file, or the owner, group
+/// and permissions of its directory. Directories are compared also where they aren't in a slot: if
+/// that says that they differ, only time is lost.
 fn is_alike_by(
     alloc: Global,
     pair: &Pair<'_>,
@@ -48,14 +92,10 @@ fn is_alike_by(
         → IsAlikeBy pair.now slots.now.in_unchanged_slot.now slots.now.first.now
         slots.now.second.now op.now) }
 {
-    let Some(file) = changed_file(op) else {
-        return Ok(true);
-    };
-    if flag_at(slots.in_unchanged_slot, file) || is_in_both(slots.first, slots.second, file) {
-        is_settled(alloc, pair, file, op)
-    } else {
-        Ok(true)
+    if !is_directory_alike_by(pair, op) {
+        return Ok(false);
     }
+    is_file_alike_by(alloc, pair, slots, op)
 }
 
 /// Whether `is_alike_by` is true for the micro-operation at this place; true if there is none.
@@ -101,8 +141,8 @@ fn are_alike_by(
 }
 
 /// Whether both sets of a pair are seen to leave equal trees: the slots are alike after both, and
-/// so is each file that a micro-operation of only one set changes. If false, the trees may be equal
-/// or not. `fixed` has, for each file, whether it is in a slot that no step changes.
+/// so is each file or directory that a micro-operation of only one set changes. If false, the trees
+/// may be equal or not. `fixed` has, for each file, whether it is in a slot that no step changes.
 fn is_equal_pair(
     alloc: Global,
     pair: &Pair<'_>,

@@ -13,14 +13,15 @@ pub mod metadata;
 mod mixing;
 mod pairs;
 mod parts;
-mod places;
 mod reaching;
 mod slots;
+pub mod starts;
 pub mod states;
 mod touched;
 pub mod trees;
 mod windows;
 
 pub use parts::Parts;
+pub use reaching::changed_file;
 pub use states::{are_same_states, are_seen_same, first_same};
 pub use trees::are_same_trees;

@@ -1,7 +1,7 @@
 //! Which micro-operations a state has.
 ghost use Rattle.std.specs.Prelude.{◌≡◌, ◌<◌, length, Some, IfOk};
 ghost use Rattle.cs_apm.specs.Orders.{needs_of};
-ghost use Rattle.cs_apm.specs.Sets.{IsAllowed};
+ghost use Rattle.cs_sets.specs.Sets.{IsAllowed};
 ghost use Rattle.cs_plan.specs.Scenes.{micros_of, set_at};
 
 use cs_apm::laws::rules_are_sentences;

@@ -1,18 +1,20 @@
 //! Whether two sets of micro-operations leave a file the same.
 ghost use Rattle.std.specs.Prelude.{◌≡◌, ◌≤◌, ◌+◌, ◌<◌, ◌^◌, ◌↔◌, ℕ, length, IfOk, IsTrue};
-ghost use Rattle.cs_apm.specs.Atlases.{AreStarts, content_before};
+ghost use Rattle.cs_apm.specs.Atlases.{content_before};
 ghost use Rattle.std.specs.List.{All};
 ghost use Rattle.cs_apm.specs.Contents.{IsSmall, content_left};
 ghost use Rattle.cs_apm.specs.States.{visible};
 ghost use Rattle.cs_state.specs.Windows.{byte_of, whole_content};
 ghost use Rattle.cs_same_states.specs.Pairs.{IsPair, IsSettled, first_content, first_owner};
-ghost use Rattle.cs_same_states.specs.Pairs.{second_content, second_owner};
+ghost use Rattle.cs_same_states.specs.Pairs.{first_directory, second_content, second_directory};
+ghost use Rattle.cs_same_states.specs.Pairs.{second_owner};
 
 use crate::metadata::is_same_user_name;
 use crate::reaching::{Span, floor_of, size_after_places, span_reached};
+use crate::starts::start_bytes;
 use crate::windows::window_left;
 use cs_apm::content::FileContent;
-use cs_apm::owners::owner_left;
+use cs_apm::owners::{directory_left, owner_left};
 use cs_apm::tables::Tables;
 use cs_micro::MicroOp;
 use cs_trace::{Rights, Trace};
@@ -26,21 +28,6 @@ pub struct Pair<'a> {
     pub tables: &'a Tables,
     pub places: &'a [u32],
     pub others: &'a [u32],
-}
-
-/// The bytes of the file at the start; no bytes if a micro-operation makes the file. Only the
-/// contract uses `_ops`, to speak of such files too. A file's record has bytes, so the last `&[]`
-/// isn't reached. `start_bytes` of cs_state has the same body: change both.
-fn start_bytes<'a>(trace: &'a Trace, _ops: &[MicroOp], tables: &Tables, file: usize) -> &'a [u8]
-    requires { AreStarts trace.now tables.now.starts.items }
-    ensures { whole_content result.now ≡ content_before trace.now _ops.now file }
-{
-    let starts = &tables.starts;
-    if file >= starts.len() {
-        return &[];
-    }
-    let content = trace.records().content(starts[file] as usize);
-    content.bytes().unwrap_or(&[])
 }
 
 /// Whether both have the same owner, group and permissions.
@@ -94,6 +81,22 @@ fn are_same_owners(pair: &Pair<'_>, file: u32, other: u32) -> bool
     let owner = owner_left(owners, pair.ops, pair.places, file);
     let another = owner_left(owners, pair.ops, pair.others, other);
     are_equal_rights(owner, another)
+}
+
+/// Whether both sets leave the directory of the number with the same owner, group and permissions.
+/// False if the trace has no such directory.
+pub fn are_same_directories(pair: &Pair<'_>, directory: u32) -> bool
+    requires { IsPair pair.now }
+    ensures { IsTrue result
+        → first_directory pair.now directory ≡ second_directory pair.now directory }
+{
+    let directories = &pair.tables.directories;
+    if directory as usize >= directories.len() {
+        return false;
+    }
+    let rights = directory_left(directories, pair.ops, pair.places, directory);
+    let others = directory_left(directories, pair.ops, pair.others, directory);
+    are_equal_rights(rights, others)
 }
 
 /// Whether the file has the same size, owner, group and permissions after both sets, and the same

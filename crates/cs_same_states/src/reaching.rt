@@ -3,13 +3,14 @@ ghost use Rattle.std.specs.Prelude.{◌≡◌, ◌+◌, ◌<◌, ◌≤◌, ◌^
 ghost use Rattle.std.specs.List.{All};
 ghost use Rattle.cs_apm.specs.Contents.{IsSmall};
 ghost use Rattle.cs_apm.specs.Rules.{op_at};
+ghost use Rattle.cs_state.specs.Owners as owners;
 ghost use Rattle.cs_state.specs.Windows as windows;
 ghost use Rattle.cs_same_states.specs.Reaching as reaching;
 ghost use Rattle.cs_same_states.specs.Reaching.{floor_after, floor_in, reaches};
 
+use cs_entries::Node;
 use cs_micro::MicroOp;
-use cs_names::limits::FILE_BYTES;
-use cs_trace::Target;
+use cs_trace::{LARGE_FILE_BYTES, Target};
 
 /// `count` bytes from an offset on.
 #[derive(Clone, Copy, Debug)]
@@ -19,8 +20,7 @@ pub struct Span {
 }
 
 /// The file whose size, bytes, owner, group or permissions the micro-operation changes; None if it
-/// changes no file. `file_changed` of cs_families and `path_of_changed_file` of cs_list_lines have
-/// the same cases: change all three.
+/// changes no file. `file_changed` of cs_picks has the same cases: change both.
 pub fn changed_file(op: &MicroOp) -> Option<u32>
     ensures { result ≡ reaching.changed_file op.now }
 {
@@ -31,6 +31,24 @@ pub fn changed_file(op: &MicroOp) -> Option<u32>
             target: Target::File(file),
             ..
         } => Some(*file),
+        _ => None,
+    }
+}
+
+/// The number of the directory whose owner, group and permissions the micro-operation sets, also by
+/// making it; None if it sets those of none.
+pub fn directory_set(op: &MicroOp) -> Option<u32>
+    ensures { result ≡ owners.directory_set op.now }
+{
+    match op {
+        MicroOp::CreateDirEntry {
+            node: Node::Directory(number),
+            ..
+        } => Some(*number),
+        MicroOp::SetAttr {
+            target: Target::Directory { number, .. },
+            ..
+        } => Some(*number),
         _ => None,
     }
 }
@@ -55,12 +73,12 @@ fn floor_after(file: u32, floor: u64, op: &MicroOp) -> u64
     }
 }
 
-/// The file's floor: the least size that a micro-operation gives the file, or FILE_BYTES if none
-/// gives it a size. A change of the file's size changes no byte before the floor.
+/// The file's floor: the least size that a micro-operation gives the file, or LARGE_FILE_BYTES if
+/// none gives it a size. A change of the file's size changes no byte before the floor.
 pub fn floor_of(ops: &[MicroOp], file: u32) -> u64
     ensures { result ≡ floor_in ops.now file }
 {
-    let mut floor = FILE_BYTES;
+    let mut floor = LARGE_FILE_BYTES;
     for op in ops {
         floor = floor_after(file, floor, op);
     }

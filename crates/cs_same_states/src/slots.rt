@@ -1,21 +1,23 @@
 //! Which files are in slots, and whether two sets leave the same in the slots.
-ghost use Rattle.std.specs.Prelude.{◌≡◌, ◌<◌, ◌⊎◌, ◌↔◌, ℕ, fold, length, IfOk, IsTrue};
-ghost use Rattle.cs_apm.specs.Slots.{rights_at, slot_at};
+ghost use Rattle.std.specs.Prelude.{◌≡◌, ◌<◌, ◌⊎◌, ◌↔◌, ℕ, fold, length, IfOk, IsTrue, Some};
+ghost use Rattle.cs_apm.specs.Slots.{slot_at};
 ghost use Rattle.cs_same_states.specs.Pairs.{IsPair};
-ghost use Rattle.cs_same_states.specs.Slots.{AreAlike, AreFlagged, IsInBoth, flagged};
+ghost use Rattle.cs_same_states.specs.Slots.{AreAlike, AreFilesAlike, AreFlagged, IsInBoth};
+ghost use Rattle.cs_same_states.specs.Slots.{file_in};
+ghost use Rattle.cs_same_states.specs.Slots.{flagged};
 ghost use Rattle.cs_same_states.specs.Slots as model;
+ghost use Rattle.cs_entries.specs.declared.node.Node.TheVariants as nodes;
 
-use crate::pairs::{Pair, are_equal_rights, are_same_files};
-use cs_apm::slot::Slot;
-use cs_trace::Rights;
+use crate::pairs::{Pair, are_same_files};
+use cs_entries::{FileKind, Node};
 use std::alloc::{AllocError, Global};
 
 /// Sets the flag of the file that is in the slot. A slot without a file, and a file without a flag,
 /// set none.
-fn set_flag(flags: &mut [bool], slot: Slot)
+fn set_flag(flags: &mut [bool], slot: Option<Node>)
     ensures { flags.new ≡ flagged flags.old slot }
 {
-    if let Slot::File(file) = slot {
+    if let Some(Node::File(_, file)) = slot {
         if (file as usize) < flags.len() {
             flags[file as usize] = true;
         }
@@ -23,7 +25,7 @@ fn set_flag(flags: &mut [bool], slot: Slot)
 }
 
 /// Sets the flags of all files that are in these slots.
-fn flag_all(flags: &mut [bool], slots: &[Slot])
+fn flag_all(flags: &mut [bool], slots: &[Option<Node>])
     ensures { flags.new ≡ fold flagged flags.old slots.now }
 {
     for slot in slots {
@@ -33,7 +35,11 @@ fn flag_all(flags: &mut [bool], slots: &[Slot])
 
 /// For each of the first `count` files, whether it is in one of these slots. An error means out of
 /// memory.
-pub fn files_in_slots(alloc: Global, slots: &[Slot], count: usize) -> Result<Vec<bool>, AllocError>
+pub fn files_in_slots(
+    alloc: Global,
+    slots: &[Option<Node>],
+    count: usize,
+) -> Result<Vec<bool>, AllocError>
     ensures { IfOk result (λ flags. AreFlagged slots.now count flags.items) }
 {
     let mut flags = vec![in alloc; false; count]?;
@@ -49,17 +55,17 @@ pub fn flag_at(flags: &[bool], file: u32) -> bool
 }
 
 /// Whether this file is in the slot; false for a slot with a directory and for an empty one.
-fn is_file(slot: Slot, file: u32) -> bool
-    ensures { IsTrue result ↔ (slot ≡ Slot.File file) }
+fn is_file(slot: Option<Node>, file: u32) -> bool
+    ensures { IsTrue result ↔ (file_in slot ≡ Some file) }
 {
     match slot {
-        Slot::File(other) => other == file,
+        Some(Node::File(_, other)) => other == file,
         _ => false,
     }
 }
 
 /// Whether the file is in the same slot in both lists, which are of the same length.
-pub fn is_in_both(slots: &[Slot], others: &[Slot], file: u32) -> bool
+pub fn is_in_both(slots: &[Option<Node>], others: &[Option<Node>], file: u32) -> bool
     requires { length slots.now ≡ length others.now }
     ensures { IsInBoth slots.now others.now file → IsTrue result }
 {
@@ -71,38 +77,74 @@ pub fn is_in_both(slots: &[Slot], others: &[Slot], file: u32) -> bool
     false
 }
 
-/// Whether the rights at two places of the table are equal: true if the places are equal, else
-/// false if one of them is out of range.
-fn are_rights_alike(table: &[Rights], place: u32, other: u32) -> bool
-    ensures { IsTrue result → rights_at table.now place ≡ rights_at table.now other }
+/// Whether both are of one kind.
+fn is_same_kind(kind: FileKind, other: FileKind) -> bool
+    ensures { IsTrue result → kind ≡ other }
 {
-    if place == other {
-        return true;
-    }
-    match (table.get(place as usize), table.get(other as usize)) {
-        (Some(rights), Some(others)) => are_equal_rights(rights, others),
+    match (kind, other) {
+        (FileKind::Regular, FileKind::Regular) | (FileKind::Symlink, FileKind::Symlink) => true,
         _ => false,
     }
 }
 
+/// Whether one file is seen to have the same record after the first set as another after the second
+/// set: they are of one kind, with equal bytes, owner, group and permissions. All bytes are
+/// compared.
+fn are_files_alike(
+    alloc: Global,
+    pair: &Pair<'_>,
+    kind: FileKind,
+    file: u32,
+    another: FileKind,
+    other: u32,
+) -> Result<bool, AllocError>
+    requires { IsPair pair.now }
+    ensures { IfOk result (λ same. IsTrue same
+        → AreFilesAlike pair.now (Some (nodes.File kind file)) (Some (nodes.File another other))) }
+{
+    if !is_same_kind(kind, another) {
+        return Ok(false);
+    }
+    are_same_files(alloc, pair, file, other)
+}
+
+/// Whether two nodes, as the first set and the second set leave them in one slot, are seen to be
+/// alike: the same directory, the same file, or two files with the same record. The same file's
+/// bytes aren't compared here, and neither are the rights of the same directory.
+fn are_nodes_alike(
+    alloc: Global,
+    pair: &Pair<'_>,
+    node: Node,
+    other: Node,
+) -> Result<bool, AllocError>
+    requires { IsPair pair.now }
+    ensures { IfOk result (λ same. IsTrue same → AreAlike pair.now (Some node) (Some other)) }
+{
+    if node == other {
+        return Ok(true);
+    }
+    match (node, other) {
+        (Node::File(kind, file), Node::File(another, number)) => {
+            are_files_alike(alloc, pair, kind, file, another, number)
+        }
+        _ => Ok(false),
+    }
+}
+
 /// Whether `slot`, as the first set leaves it, is seen to have the same as `other`, as the second
-/// set leaves it: both nothing, directories with equal rights, the same file, or two files that are
-/// equal. The same file's bytes aren't compared here.
-fn are_alike(alloc: Global, pair: &Pair<'_>, slot: Slot, other: Slot) -> Result<bool, AllocError>
+/// set leaves it: both nothing, or what `are_nodes_alike` finds alike.
+fn are_alike(
+    alloc: Global,
+    pair: &Pair<'_>,
+    slot: Option<Node>,
+    other: Option<Node>,
+) -> Result<bool, AllocError>
     requires { IsPair pair.now }
     ensures { IfOk result (λ same. IsTrue same → AreAlike pair.now slot other) }
 {
     match (slot, other) {
-        (Slot::Nothing, Slot::Nothing) => Ok(true),
-        (Slot::Directory(place), Slot::Directory(another)) => {
-            Ok(are_rights_alike(&pair.tables.rights, place, another))
-        }
-        (Slot::File(file), Slot::File(another)) => {
-            if file == another {
-                return Ok(true);
-            }
-            are_same_files(alloc, pair, file, another)
-        }
+        (None, None) => Ok(true),
+        (Some(node), Some(another)) => are_nodes_alike(alloc, pair, node, another),
         _ => Ok(false),
     }
 }
@@ -112,8 +154,8 @@ fn are_alike(alloc: Global, pair: &Pair<'_>, slot: Slot, other: Slot) -> Result<
 pub fn are_all_alike(
     alloc: Global,
     pair: &Pair<'_>,
-    slots: &[Slot],
-    others: &[Slot],
+    slots: &[Option<Node>],
+    others: &[Option<Node>],
 ) -> Result<bool, AllocError>
     requires pair { IsPair pair.now }
     requires long { length slots.now ≡ length others.now }

@@ -159,13 +159,14 @@ fn digest_at(
     alloc: Global,
     scene: &Arc<Scene>,
     digests: &mut Digests,
+    parts: &Parts,
     number: u32,
 ) -> Result<u64, AllocError>
     requires { number < length (arc_value scene.now).plan }
 {
     let places = places_at(alloc, scene, number)?;
     let members = member_flags(alloc, scene.order().len(), &places)?;
-    digests.digest_of_state(alloc, scene, number, &members)
+    digests.digest_of_state(alloc, scene, parts, number, &members)
 }
 
 /// For each state of the plan, by its number, the number of the first state with an equal tree: its
@@ -176,12 +177,12 @@ pub fn first_same(alloc: Global, scene: &Arc<Scene>) -> Result<Vec<u32>, AllocEr
     ensures { IfOk result (λ firsts. AreFirsts (arc_value scene.now) firsts.items) }
 {
     let parts = Parts::of(alloc, scene)?;
-    let mut digests = Digests::of(alloc, scene)?;
+    let mut digests = Digests::of(alloc, scene, &parts)?;
     let mut found = BTreeMap::new(alloc);
     let mut firsts = Vec::new(alloc);
     for place in 0..scene.plan().len() {
         let number = place as u32;
-        let digest = digest_at(alloc, scene, &mut digests, number)?;
+        let digest = digest_at(alloc, scene, &mut digests, &parts, number)?;
         let first = first_of(alloc, scene, &parts, &mut found, &firsts, digest)?;
         firsts.push(first)?;
     }

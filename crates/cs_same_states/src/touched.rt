@@ -9,7 +9,8 @@ ghost use Rattle.cs_same_states.specs.Places.{AreListed, AreRenumbered, HasRank,
 ghost use Rattle.cs_same_states.specs.Places.{IsRenumbered};
 ghost use Rattle.cs_same_states.specs.Places.{IsUnlisted, Extends};
 
-use cs_apm::slot::{Slot, Step, make_steps};
+use cs_apm::slot::{Step, make_steps};
+use cs_entries::Node;
 use std::alloc::{AllocError, Global};
 
 /// The slots that some step changes.
@@ -18,7 +19,7 @@ pub struct Touched {
     /// The ids of these slots.
     pub ids: Vec<u32>,
     /// What is in them at the start.
-    pub slots: Vec<Slot>,
+    pub slots: Vec<Option<Node>>,
     /// All steps of the trace, with the slots' places in `ids`.
     pub steps: Vec<Step>,
 }
@@ -64,7 +65,6 @@ fn renumber(ids: &mut Vec<u32>, step: Step) -> Result<Step, AllocError>
             let to = place_or_append(ids, to)?;
             Ok(Step::Move(from, to))
         }
-        Step::SetRights(id, rights) => Ok(Step::SetRights(place_or_append(ids, id)?, rights)),
         Step::Other => Ok(Step::Other),
     }
 }
@@ -83,26 +83,30 @@ fn renumber_all(alloc: Global, ids: &mut Vec<u32>, steps: &[Step]) -> Result<Vec
     Ok(made)
 }
 
-/// What is in each of the slots of these ids; Nothing for an id out of range.
-fn slots_at(alloc: Global, slots: &[Slot], ids: &[u32]) -> Result<Vec<Slot>, AllocError>
+/// What is in each of the slots of these ids; None for an id out of range.
+fn slots_at(
+    alloc: Global,
+    slots: &[Option<Node>],
+    ids: &[u32],
+) -> Result<Vec<Option<Node>>, AllocError>
     ensures { IfOk result (λ found. found.items ≡ map (slot_at slots.now) ids.now) }
 {
     let mut found = Vec::new(alloc);
     for id in ids {
-        found.push(slots.get(*id as usize).copied().unwrap_or(Slot::Nothing))?;
+        found.push(slots.get(*id as usize).copied().unwrap_or(None))?;
     }
     Ok(found)
 }
 
 /// Empties the slots of these ids; an id out of range is skipped.
-pub fn clear_slots(slots: &mut [Slot], ids: &[u32])
+pub fn clear_slots(slots: &mut [Option<Node>], ids: &[u32])
     ensures long { length slots.new ≡ length slots.old }
     ensures others { (id : ℕ) → IsUnlisted ids.now id
         → slot_at slots.new id ≡ slot_at slots.old id }
 {
     for id in ids {
         if (*id as usize) < slots.len() {
-            slots[*id as usize] = Slot::Nothing;
+            slots[*id as usize] = None;
         }
     }
 }
@@ -110,7 +114,7 @@ pub fn clear_slots(slots: &mut [Slot], ids: &[u32])
 impl Touched {
     /// The slots that one of the steps changes, with the steps renumbered. There are at most 2^20
     /// steps, as for `renumber_all`.
-    pub fn of(alloc: Global, slots: &[Slot], steps: &[Step]) -> Result<Touched, AllocError>
+    pub fn of(alloc: Global, slots: &[Option<Node>], steps: &[Step]) -> Result<Touched, AllocError>
         requires { length steps.now ≤ 2 ^ 20 }
         ensures { IfOk result (λ touched. AreListed slots.now steps.now touched) }
     {
@@ -122,7 +126,7 @@ impl Touched {
 
     /// What the steps at `places` leave in these slots, if they are made in this order from the
     /// start.
-    pub fn slots_left(&self, alloc: Global, places: &[u32]) -> Result<Vec<Slot>, AllocError>
+    pub fn slots_left(&self, alloc: Global, places: &[u32]) -> Result<Vec<Option<Node>>, AllocError>
         requires fit { All (FitsIn (length self.now.slots.items)) self.now.steps.items }
         requires inside { All (λ place. place < length self.now.steps.items) places.now }
         ensures { IfOk result

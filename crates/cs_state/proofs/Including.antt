@@ -4,8 +4,9 @@ use Rattle.std.proofs.Common.{⊎_elim, length, replicate}
 use Rattle.std.proofs.lemmas.Bool.{cases_eq, false≢true, eqb-true}
 use Rattle.std.proofs.lemmas.List.{get_or-set_other, get_or-set_same, append-nil}
 use Rattle.std.specs.Prelude.{slice_set}
-use Rattle.cs_trace.specs.declared.operation.Rights.{Rights}
+use Rattle.cs_start.specs.declared.rights.Rights.{Rights}
 use Rattle.cs_trace.specs.declared.operation.Target.TheVariants as targets
+use Rattle.cs_trace_lines.specs.Versions.{profile_of}
 use Rattle.cs_micro.specs.declared.micro_op.MicroOp.{MicroOp}
 use Rattle.cs_micro.specs.declared.micro_op.MicroOp.TheVariants.{ChangeFileSize, SetAttr}
 use Rattle.cs_micro.specs.Micros.{Micros}
@@ -68,7 +69,7 @@ is_change _ file is = absurd (false≢true is)
 pub size_needed : (micros : Micros) (file j k : ℕ) → j < k → resizes file (op_at micros.ops j) ≡ true
     → resizes file (op_at micros.ops k) ≡ true → needs_of micros j k ≡ true
 size_needed micros file j k before first second =
-    (needs_exactly micros.ops micros.syncs micros.version j k).1
+    (needs_exactly micros.ops micros.syncs micros.version (profile_of micros.version) j k).1
     (record {
       before = before;
       reason = resizes_one_file file (is_change (op_at micros.ops j) file first) (is_change (op_at micros.ops k) file second);
@@ -81,7 +82,7 @@ is_setter _ file is = absurd (false≢true is)
 pub owner_needed : (micros : Micros) (file j k : ℕ) → j < k → sets_rights file (op_at micros.ops j) ≡ true
     → sets_rights file (op_at micros.ops k) ≡ true → needs_of micros j k ≡ true
 owner_needed micros file j k before first second =
-    (needs_exactly micros.ops micros.syncs micros.version j k).1
+    (needs_exactly micros.ops micros.syncs micros.version (profile_of micros.version) j k).1
     (record {
       before = before;
       reason = sets_one_file file (is_setter (op_at micros.ops j) file first) (is_setter (op_at micros.ops k) file second);

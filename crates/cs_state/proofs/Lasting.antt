@@ -8,12 +8,12 @@ use Rattle.cs_micro.specs.declared.micro_op.MicroOp.{MicroOp}
 use Rattle.cs_micro.specs.Micros.{Micros}
 use Rattle.cs_apm.specs.Orders.{needs_of}
 use Rattle.cs_apm.specs.Rules.{op_at}
-use Rattle.cs_apm.specs.Sets.{IsAllowed}
+use Rattle.cs_sets.specs.Sets.{IsAllowed}
 use Rattle.cs_state.specs.Numbers.{kept_at, IsKept}
 use Rattle.cs_state.specs.Shares.{numbers_that_pass, mark_at}
 use Rattle.cs_state.specs.Steps.{members_in}
 use Rattle.cs_state.proofs.Pages.{fold_ids, fold_map}
-use Rattle.cs_state.proofs.Listing.{ids_are, ids_have, ids_up}
+use Rattle.cs_paths.proofs.Listing.{ids_are, ids_have, ids_up}
 
 -- what passes the test says all, and what doesn't leaves it
 pub record IsSaidBy (S : Type 0) (after : S → MicroOp → S) (test : MicroOp → Bool) : Type 0 where

@@ -1,82 +1,77 @@
--- Every path that ever exists is in a directory, so all of them as directories are a tree.
-use Rattle.std.proofs.Common.{◌≡◌, ℕ, ◌<◌, ◌≤◌, List, [], Option, None, Some, refl, sym, ap, ◌∙◌, subst, arith, ⊎_elim, length}
-use Rattle.std.proofs.lemmas.Bool.{cases_lt, false≢true}
-use Rattle.std.proofs.lemmas.List.{get_or_default, get_or_past}
-use Rattle.std.specs.FinMap.{get}
-use Rattle.std.specs.List.{Contains}
-use Rattle.std.specs.Option.{is_some, option_map}
-use Rattle.cs_tree_model.specs.Fresh.{IsNested}
-use Rattle.cs_tree_model.specs.Maps.Values.{map_values}
-use Rattle.cs_tree_model.specs.Tree.{Path, parent_path}
-use Rattle.cs_trace.specs.declared.operation.Node.{Node}
-use Rattle.cs_trace.specs.declared.operation.Node.TheVariants as nodes
-use Rattle.cs_trace.specs.declared.operation.Rights.{Rights}
-use Rattle.cs_trace.specs.Operations.{AreNested, IsDirectoryAt}
-use Rattle.cs_trace.specs.Traces.{Trace}
-use Rattle.cs_micro.specs.declared.micro_op.MicroOp.{MicroOp}
-use Rattle.cs_apm.specs.Atlases.{Atlas, IsAtlas}
-use Rattle.cs_apm.specs.Slots.{AreKnown, IsKnown, entry_of, entries_of_slots, path_at, slot_at}
-use Rattle.cs_apm.specs.States.{Content, Entry, record_of, start_entries}
-use Rattle.cs_apm.specs.Laws.Mirrors.{at_place, mirror_of}
-use Rattle.cs_apm.specs.Laws.Trees.{get_nodes, nested_records, node_of, nodes_in}
-use Rattle.cs_apm.specs.Laws.Starts.{start_nodes}
-use Rattle.cs_apm.specs.declared.slot.Slot.{Slot}
-use Rattle.cs_apm.specs.declared.slot.Slot.TheVariants.{Nothing}
-use Rattle.cs_apm.specs.declared.slot.Slot.TheVariants as slots
-use Rattle.cs_apm.proofs.Closing.{slot_there}
-use Rattle.cs_state.proofs.Placing.{all, all_at, all_long}
+-- The places of entries, by a search for them.
+use Rattle.std.proofs.Common.{◌≡◌, ◌≢◌, ℕ, zero, suc, ◌+◌, true, false, cond, List, [], ◌∷◌, Option, None, Some, refl, sym, ap, ◌∙◌, arith, ⊎_elim}
+use Rattle.std.proofs.lemmas.Bool.{false≢true}
+use Rattle.std.specs.List.{position_from}
+use Rattle.std.specs.Option.{is_some}
+use Rattle.cs_entries.specs.declared.entry.Entry.{Entry}
+use Rattle.cs_entries.specs.Entries.{entry_eq}
+use Rattle.cs_entries.specs.Laws.One.{entry_cases}
+use Rattle.cs_apm.specs.Slots.{AreAscending, IsPlace, Slot, entry_at, slot_of}
+use Rattle.cs_state.specs.Named.{place_of_entry}
+use Rattle.cs_state.proofs.Leading.{entries_apart}
 
-module _ (t : Trace) (ops : List MicroOp) (a : Atlas) (is : IsAtlas t ops a) where
-  there : (p : Path) → Contains a.paths p → IsDirectoryAt (nodes_in (entries_of_slots a.rights a.paths (all a.paths))) p
-  there p has =
-      let at : path_at a.paths has.0 ≡ p = sym (get_or_default a.paths has.0 p [] has.1) ∙ has.2 in
-      get_nodes (entries_of_slots a.rights a.paths (all a.paths)) p
-      ∙ ap (option_map node_of) (mirror_of a.rights a.paths (all a.paths) is.ascending p
-      ∙ at_place a.rights a.paths (all a.paths) is.ascending (all_long a.paths) has.0 p (has.1, at)
-      ∙ ap (entry_of a.rights) (all_at a.paths has.0 has.1))
+abbrev found_from : Entry → ℕ → List Entry → Option ℕ
+found_from e n es = position_from (entry_eq e) n es
 
-  one_of : (p : Path) (node : Node) → get (nodes_in (entries_of_slots a.rights a.paths (all a.paths))) p ≡ Some node → Contains a.paths p
-  one_of p node at = by (get (entries_of_slots a.rights a.paths (all a.paths)) p) refl
-    where
-      by : (o : Option Entry) → get (entries_of_slots a.rights a.paths (all a.paths)) p ≡ o → Contains a.paths p
-      by None none =
-          absurd (false≢true
-          (ap is_some (sym (get_nodes (entries_of_slots a.rights a.paths (all a.paths)) p ∙ ap (option_map node_of) none) ∙ at)))
-      by (Some e) some =
-          slot_there a.rights a.paths (all a.paths) p e (sym (mirror_of a.rights a.paths (all a.paths) is.ascending p) ∙ some)
+some_number : (n k : ℕ) → Some n ≡ Some k → n ≡ k
+some_number n k h = cc
 
-  nested_names : AreNested (nodes_in (entries_of_slots a.rights a.paths (all a.paths)))
-  nested_names = record {
-    root = there [] is.rooted;
-    nested = λ p node at named. there (parent_path p) (is.closed p (one_of p node at) named);
-  }
+-- the place that is found, from n on
+found_is : (e : Entry) (es : List Entry) (n k : ℕ) → found_from e n es ≡ Some k → (i : ℕ) × (k ≡ n + i) × IsPlace es i e
+found_is e [] n k h = absurd (false≢true (ap is_some h))
+found_is e (f ∷ fs) n k h = ⊎_elim
+    (λ (one : (entry_eq e f ≡ true) × (e ≡ f)).
+    let same = some_number n k (sym (ap (λ b. cond b (Some n) (found_from e (n + 1) fs)) one.0) ∙ h) in
+    (0, omega (arith, same), (omega arith, sym one.1)))
+    (λ (two : (entry_eq e f ≡ false) × (e ≢ f)).
+    let w = found_is e fs (n + 1) k (sym (ap (λ b. cond b (Some n) (found_from e (n + 1) fs)) two.0) ∙ h) in
+    let same = w.1 in
+    let low = w.2.0 in
+    (suc w.0, omega (arith, same), (omega (arith, low), w.2.1)))
+    (entry_cases e f)
 
-  pub names_nested : (owners : List Rights) (files : List Content)
-      → IsNested (map_values (record_of owners files) (entries_of_slots a.rights a.paths (all a.paths)))
-  names_nested owners files = nested_records owners files (entries_of_slots a.rights a.paths (all a.paths)) nested_names
+none_from : (e : Entry) (es : List Entry) (n : ℕ) → found_from e n es ≡ None → (i : ℕ) → IsPlace es i e → ⊥
+none_from e [] n h i at = (let low = at.0 in omega (arith, low))
+none_from e (f ∷ fs) n h i at = ⊎_elim
+    (λ (one : (entry_eq e f ≡ true) × (e ≡ f)).
+    false≢true (ap is_some (sym h ∙ ap (λ b. cond b (Some n) (found_from e (n + 1) fs)) one.0)))
+    (λ (two : (entry_eq e f ≡ false) × (e ≢ f)).
+    behind i at two.1 (none_from e fs (n + 1) (sym (ap (λ b. cond b (Some n) (found_from e (n + 1) fs)) two.0) ∙ h)))
+    (entry_cases e f)
+  where
+    behind : (i : ℕ) → IsPlace (f ∷ fs) i e → e ≢ f → ((j : ℕ) → IsPlace fs j e → ⊥) → ⊥
+    behind zero at other later = other (sym at.1)
+    behind (suc i) at other later = (let low = at.0 in later i (omega (arith, low), at.1))
 
--- ---- what its slots refer to
+-- the place that is found is the entry's
+pub place_found : (es : List Entry) (e : Entry) (k : ℕ) → place_of_entry es e ≡ Some k → IsPlace es k e
+place_found es e k h =
+    let w = found_is e es 0 k h in
+    let same = w.1 in
+    let is : k ≡ w.0 = omega (arith, same) in
+    let low = w.2.0 in
+    (omega (arith, low, is), ap (entry_at es) is ∙ w.2.1)
 
-no_directory : (rights : List Rights) (r f : ℕ) (s : Slot) → option_map node_of (entry_of rights s) ≡ Some nodes.Directory → IsKnown r f s
-    → 0 < r
-no_directory rights r f Nothing is known = absurd (false≢true (ap is_some is))
-no_directory rights r f (slots.Directory k) is known = omega (arith, known)
-no_directory rights r f (slots.File n) is known = absurd (cc)
+-- where none is found, there is none
+pub no_place_found : (es : List Entry) (e : Entry) → place_of_entry es e ≡ None → (k : ℕ) → IsPlace es k e → ⊥
+no_place_found es e h = none_from e es 0 h
 
-module _ (t : Trace) (ops : List MicroOp) (a : Atlas) (is : IsAtlas t ops a) where
-  some_rights : 0 < length a.rights
-  some_rights =
-      let root = is.rooted in
-      let at : path_at a.paths root.0 ≡ [] = sym (get_or_default a.paths root.0 [] [] root.1) ∙ root.2 in
-      let slot = slot_at a.slots root.0 in
-      no_directory a.rights (length a.rights) (length a.owners) slot
-      (ap (option_map node_of) (sym (at_place a.rights a.paths a.slots is.ascending is.long root.0 [] (root.1, at)) ∙ sym (is.start []))
-      ∙ sym (get_nodes (start_entries t.records t.nodes) []) ∙ ap (λ m. get m []) (start_nodes t.records t.nodes) ∙ is.nested.root)
-      (is.known root.0)
+-- an entry's place is found
+pub place_is_found : (es : List Entry) → AreAscending es → (e : Entry) (k : ℕ) → IsPlace es k e → place_of_entry es e ≡ Some k
+place_is_found es up e k at = by (place_of_entry es e) refl
+  where
+    by : (o : Option ℕ) → place_of_entry es e ≡ o → place_of_entry es e ≡ Some k
+    by None none = absurd (no_place_found es e none k at)
+    by (Some i) some =
+        (let w = place_found es e i some in some ∙ ap Some (entries_apart es up i k w.0 at.0 (w.1 ∙ sym at.1)))
 
-  pub names_known : AreKnown (length a.rights) (length a.owners) (all a.paths)
-  names_known i = ⊎_elim
-      (λ (low : i < length a.paths). subst (IsKnown (length a.rights) (length a.owners)) (sym (all_at a.paths i low)) some_rights)
-      (λ (high : length a.paths ≤ i). subst (IsKnown (length a.rights) (length a.owners))
-      (sym (get_or_past (all a.paths) i slots.Nothing (let l = all_long a.paths in omega (arith, l, high)))) tt)
-      (cases_lt i (length a.paths))
+-- an entry that is none of them holds nothing
+pub nothing_held : (es : List Entry) (ss : List Slot) (e : Entry) → ((k : ℕ) → IsPlace es k e → ⊥) → slot_of es ss e ≡ None
+nothing_held [] ss e none = refl
+nothing_held (f ∷ fs) [] e none = refl
+nothing_held (f ∷ fs) (s ∷ ss) e none = ⊎_elim
+    (λ (one : (entry_eq f e ≡ true) × (f ≡ e)). absurd (none 0 (omega arith, one.1)))
+    (λ (two : (entry_eq f e ≡ false) × (f ≢ e)).
+    ap (λ b. cond b s (slot_of fs ss e)) two.0
+    ∙ nothing_held fs ss e (λ k at. none (suc k) (let low = at.0 in omega (arith, low), at.1)))
+    (entry_cases f e)

@@ -19,7 +19,7 @@ use Rattle.cs_state.specs.Shares.{numbers_that_pass, mark_at}
 use Rattle.cs_state.specs.Steps.{member_struck, items_that_pass, reaches, places_reaching, resizes, size_before, content_after_cut}
 use Rattle.cs_state.specs.Steps.{struck_by, touches, AgreeIn, AreRows, HasRow, IsFitting}
 use Rattle.cs_state.specs.Windows.{byte_of, size_after}
-use Rattle.cs_state.proofs.Listing.{ids_are, ids_have}
+use Rattle.cs_paths.proofs.Listing.{ids_are, ids_have}
 use Rattle.cs_state.proofs.Showing.{byte_before, byte_behind, byte_inside, one_size}
 
 -- ---- folds over those that pass a test

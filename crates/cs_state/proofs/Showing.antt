@@ -161,7 +161,7 @@ left_size n f ops places = fold_size n f (map (op_at ops) places)
 
 -- ---- what is read
 
-visible_long : (f : Content) → length (visible f) ≡ f.size
+pub visible_long : (f : Content) → length (visible f) ≡ f.size
 visible_long f =
     length-take-le f.size (f.bytes ++ replicate f.size 0)
     (let a = length-append f.bytes (replicate f.size 0) in let b = length-replicate {A = ℕ} f.size 0 in omega (arith, a, b))

@@ -1,25 +1,16 @@
 -- How many slots have something: a state's numbers.
-use Rattle.std.proofs.Common.{◌≡◌, ◌≢◌, ℕ, zero, suc, ◌+◌, ◌<◌, ◌≤◌, nat_lt, Bool, true, false, cond, List, [], ◌∷◌, ◌⊎◌, inl, inr, None}
-use Rattle.std.proofs.Common.{Some, refl, sym, ap, ◌∙◌, arith, ⊎_elim, length, get_or, slice_get}
+use Rattle.std.proofs.Common.{◌≡◌, ◌≢◌, ℕ, zero, suc, ◌+◌, ◌<◌, ◌≤◌, nat_lt, Bool, true, false, cond, List, [], ◌∷◌, inl, inr, None, Some, refl, sym}
+use Rattle.std.proofs.Common.{ap, ◌∙◌, arith, ⊎_elim, length, get_or}
 use Rattle.std.proofs.lemmas.Bool.{cases_eq, cases_lt, false≢true, le-ltb, cases_Bool}
 use Rattle.std.proofs.lemmas.List.{get_or_past}
-use Rattle.std.specs.Option.{is_some, option_map}
-use Rattle.cs_tree_model.specs.Tree.{Path}
-use Rattle.cs_trace.specs.declared.operation.Rights.{Rights}
-use Rattle.cs_apm.specs.States.{Entry}
-use Rattle.cs_apm.specs.Slots.{slot_at, path_at, entry_of, entries_in_slots}
-use Rattle.cs_apm.specs.declared.slot.Slot.{Slot}
-use Rattle.cs_apm.specs.declared.slot.Slot.TheVariants.{Nothing, Directory, File}
+use Rattle.cs_apm.specs.Slots.{Slot, slot_at}
 use Rattle.cs_state.specs.declared.numbers.Own.{Own}
 use Rattle.cs_state.specs.Numbers.{count_with_key_below, empty_own, own_in_place, kept_at, number_in, HasId}
-use Rattle.cs_state.specs.Shares.{is_entry, count_standing, place_of, IsShared}
+use Rattle.cs_state.specs.Shares.{is_entry, count_standing, number_of_id, IsShared}
 use Rattle.cs_state.proofs.Counting.{below_at, below_past, below_split}
 
 abbrev bit : Bool → ℕ
 bit b = cond b 1 0
-
-one_more : (n : ℕ) → bit true + n ≡ suc n
-one_more n = omega arith
 
 module _ {X : Type 0} (f : X → ℕ) where
   is_there : (xs : List X) (d : X) → ((i j : ℕ) → i < j → j < length xs → f (get_or xs i d) < f (get_or xs j d)) → (k i : ℕ) → k < length xs
@@ -67,57 +58,11 @@ module _ (slots : List Slot) (kept : List ℕ) (own : List Own) (h : IsShared sl
       omega (arith, so_far, zero_more, a, b))
       (cases_Bool (is_entry (slot_at slots i)))
 
--- ---- the listing by number
-
-standing_first : (s : Slot) (ss : List Slot) (i : ℕ) → count_standing (s ∷ ss) (suc i) ≡ bit (is_entry s) + count_standing ss i
-standing_first s ss zero = refl
-standing_first s ss (suc i) = (let rest = standing_first s ss i in omega (arith, rest))
-
-module _ (rights : List Rights) where
-  -- what is in the slot i is the entry of its number
-  pub present_at : (paths : List Path) (slots : List Slot) → length slots ≡ length paths → (i : ℕ) → i < length paths → (e : Entry)
-      → entry_of rights (slot_at slots i) ≡ Some e
-      → slice_get (entries_in_slots rights paths slots) (count_standing slots i) ≡ Some (path_at paths i, e)
-  present_at [] slots long i low e is = absurd (omega (arith, low))
-  present_at (p ∷ ps) [] long i low e is = absurd (omega (arith, long))
-  present_at (p ∷ ps) (Nothing ∷ ss) long zero low e is = absurd (false≢true (ap is_some is))
-  present_at (p ∷ ps) (Directory k ∷ ss) long zero low e is = ap (option_map (λ w. (p, w))) is
-  present_at (p ∷ ps) (File k ∷ ss) long zero low e is = ap (option_map (λ w. (p, w))) is
-  present_at (p ∷ ps) (Nothing ∷ ss) long (suc i) low e is =
-      ap (slice_get (entries_in_slots rights ps ss)) (standing_first Nothing ss i ∙ no_more (count_standing ss i)) ∙ present_at ps ss
-      (omega (arith, long)) i (omega (arith, low)) e is
-    where
-      no_more : (n : ℕ) → bit false + n ≡ n
-      no_more n = omega arith
-  present_at (p ∷ ps) (Directory k ∷ ss) long (suc i) low e is =
-      ap (slice_get (entries_in_slots rights (p ∷ ps) (Directory k ∷ ss)))
-      (standing_first (Directory k) ss i ∙ one_more (count_standing ss i)) ∙ present_at ps ss (omega (arith, long)) i
-      (omega (arith, low)) e is
-  present_at (p ∷ ps) (File k ∷ ss) long (suc i) low e is =
-      ap (slice_get (entries_in_slots rights (p ∷ ps) (File k ∷ ss))) (standing_first (File k) ss i ∙ one_more (count_standing ss i)) ∙
-      present_at ps ss (omega (arith, long)) i (omega (arith, low)) e is
-
-  -- there are so many in all
-  pub present_count : (paths : List Path) (slots : List Slot) → length slots ≡ length paths
-      → length (entries_in_slots rights paths slots) ≡ count_standing slots (length slots)
-  present_count [] [] long = refl
-  present_count [] (s ∷ ss) long = absurd (omega (arith, long))
-  present_count (p ∷ ps) [] long = absurd (omega (arith, long))
-  present_count (p ∷ ps) (Nothing ∷ ss) long =
-      (let rest = present_count ps ss (omega (arith, long)) in let first = standing_first Nothing ss (length ss) in
-      omega (arith, rest, first))
-  present_count (p ∷ ps) (Directory k ∷ ss) long =
-      (let rest = present_count ps ss (omega (arith, long)) in let first = standing_first (Directory k) ss (length ss) in
-      omega (arith, rest, first))
-  present_count (p ∷ ps) (File k ∷ ss) long =
-      (let rest = present_count ps ss (omega (arith, long)) in let first = standing_first (File k) ss (length ss) in
-      omega (arith, rest, first))
-
 -- each entry is in a slot
 pub stands_inside : (slots : List Slot) (i : ℕ) → is_entry (slot_at slots i) ≡ true → i < length slots
 stands_inside slots i here = ⊎_elim
     (λ (low : i < length slots). low)
-    (λ (high : length slots ≤ i). absurd (false≢true (sym (ap is_entry (get_or_past slots i Nothing high)) ∙ here)))
+    (λ (high : length slots ≤ i). absurd (false≢true (sym (ap is_entry (get_or_past slots i None high)) ∙ here)))
     (cases_lt i (length slots))
 
 -- as many as the two lists have
@@ -136,13 +81,13 @@ module _ (slots : List Slot) (kept : List ℕ) (own : List Own) (h : IsShared sl
       omega (arith, all_kept, all_own, all)
 
   -- what the lists have has the number of its slot
-  pub has_place : (id n : ℕ) → HasId kept own id → number_in kept own id ≡ n → place_of slots id ≡ Some n
-  has_place id n has is =
+  pub has_number : (id n : ℕ) → HasId kept own id → number_in kept own id ≡ n → number_of_id slots id ≡ Some n
+  has_number id n has is =
       ap (λ b. cond b (Some (count_standing slots id)) None) (h.there id has) ∙ ap Some (sym (standing_number slots kept own h id) ∙ is)
 
-  pub has_none : (id : ℕ) → (HasId kept own id → ⊥) → place_of slots id ≡ None
+  pub has_none : (id : ℕ) → (HasId kept own id → ⊥) → number_of_id slots id ≡ None
   has_none id not = by (is_entry (slot_at slots id)) refl
     where
-      by : (b : Bool) → is_entry (slot_at slots id) ≡ b → place_of slots id ≡ None
+      by : (b : Bool) → is_entry (slot_at slots id) ≡ b → number_of_id slots id ≡ None
       by true here = absurd (not (h.listed id here))
       by false gone = ap (λ b. cond b (Some (count_standing slots id)) None) gone

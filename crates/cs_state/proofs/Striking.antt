@@ -5,13 +5,12 @@ use Rattle.std.proofs.lemmas.List.Elements.{All-cons, All-nil}
 use Rattle.std.proofs.lemmas.Option.{slice_get-get_or}
 use Rattle.std.specs.List.{All}
 use Rattle.std.specs.Prelude.{fold, slice_get}
-use Rattle.cs_trace_lines.specs.Versions.{block_bytes, block_size_of}
-use Rattle.cs_trace_lines.specs.declared.version.BlockSize.{BlockSize}
-use Rattle.cs_trace.specs.Operations.{Paths}
+use Rattle.cs_trace_lines.specs.declared.version.Version.{Version}
 use Rattle.cs_micro.specs.declared.micro_op.MicroOp.{MicroOp}
 use Rattle.cs_micro.specs.declared.micro_op.MicroOp.TheVariants.{ChangeFileSize, WriteBlock, Say}
-use Rattle.cs_micro.specs.Legal.{AreLegal, IsLegal, made_after, paths_after}
-use Rattle.cs_micro.specs.Laws.Pages.{in_one_page}
+use Rattle.cs_micro.specs.Legal.{AreLegal, IsLegal, Made, made_after}
+use Rattle.cs_micro.specs.Laws.Pages.{one_in_one_page}
+use Rattle.cs_apm.specs.Laws.Small.{most_large}
 use Rattle.cs_apm.specs.Contents.{content_left}
 use Rattle.cs_apm.specs.Rules.{op_at}
 use Rattle.cs_apm.specs.States.{Content}
@@ -25,18 +24,20 @@ use Rattle.cs_state.proofs.Pages.{agree}
 use Rattle.cs_state.proofs.Filing.{has_flag, left_of}
 use Rattle.cs_state.proofs.Including.{size_needed}
 use Rattle.cs_state.proofs.Lasting.{closed_under}
-use Rattle.cs_state.proofs.Listing.{ids_are}
+use Rattle.cs_paths.proofs.Listing.{ids_are}
 use Rattle.cs_state.proofs.Showing.{left_size}
 
-fitting : (size : BlockSize) (m : Paths) (made : ℕ) (o : MicroOp) → IsLegal (block_bytes size) m made o → IsFitting o
-fitting size m made (ChangeFileSize file to) h = h.1
-fitting size m made (WriteBlock file block start at bytes) h = in_one_page size m made file block start at bytes h
-fitting size m made _ h = tt
+fitting : (version : Version) (m : Made) (o : MicroOp) → IsLegal version m o → IsFitting o
+fitting version m (ChangeFileSize file to) h =
+    (let a = h.fitting.1 in let b = most_large version in omega (arith, a, b))
+fitting version m (WriteBlock file block start at bytes) h =
+    one_in_one_page version m (WriteBlock file block start at bytes) h
+fitting version m _ h = tt
 
-all_fitting : (size : BlockSize) (m : Paths) (made : ℕ) (ops : List MicroOp) → AreLegal (block_bytes size) m made ops → All IsFitting ops
-all_fitting size m made [] h = All-nil IsFitting
-all_fitting size m made (o ∷ ops) h =
-    All-cons IsFitting o ops (fitting size m made o h.0) (all_fitting size (paths_after m o) (made_after made o) ops h.1)
+all_fitting : (version : Version) (m : Made) (ops : List MicroOp) → AreLegal version m ops → All IsFitting ops
+all_fitting version m [] h = All-nil IsFitting
+all_fitting version m (o ∷ ops) h =
+    All-cons IsFitting o ops (fitting version m o h.0) (all_fitting version (made_after m o) ops h.1)
 
 module _ (parts : Parts) (h : AreParts parts) (file : ℕ) (known : file < length parts.tables.owners.items) (members : List Bool)
     (set : AreMembers parts members) where
@@ -75,5 +76,5 @@ module _ (parts : Parts) (h : AreParts parts) (file : ℕ) (known : file < lengt
         (ap (λ k. content_left file (whole_content start) ops (numbers_that_pass (mark_at members) k)) (sym set.long) ∙ left_of parts h file
         (members_in members) known)
         (agree file (whole_content start) ops members (length ops) page
-        (λ k low. all_fitting (block_size_of parts.trace.version) _ _ ops h.whole.atlas.legal k Say low)
+        (λ k low. all_fitting parts.trace.version _ ops h.whole.atlas.legal.legal k Say low)
         (closed_under parts.micros (length ops) members set.allowed (resizes file) (size_needed parts.micros file))))

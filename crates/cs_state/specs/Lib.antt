@@ -1,5 +1,5 @@
 pub mod Numbers
-pub mod Names
+pub mod Named
 pub mod Shares
 pub mod Merging
 pub mod Owners

@@ -1,9 +1,8 @@
 -- What a state has of its own, one after the other; for private clauses.
 use Rattle.std.specs.Prelude.{ℕ, ◌+◌, List, [], ◌∷◌, ◌++◌, cond}
-use Rattle.cs_apm.specs.Slots.{slot_at}
-use Rattle.cs_apm.specs.declared.slot.Slot.{Slot}
+use Rattle.cs_apm.specs.Slots.{Slot, slot_at}
+use Rattle.cs_paths.specs.Marks.{kept_at}
 use Rattle.cs_state.specs.declared.numbers.Own.{Own}
-use Rattle.cs_state.specs.Numbers.{kept_at}
 use Rattle.cs_state.specs.Shares.{is_entry}
 
 -- what is at the touched id, if there is something: so many kept ones come before it, and n of a

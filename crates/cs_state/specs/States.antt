@@ -1,12 +1,21 @@
 -- What a state keeps.
-use Rattle.std.specs.Prelude.{ℕ, List, Option}
-use Rattle.std.specs.Option.{option_and_then}
+use Rattle.std.specs.Prelude.{◌≡◌, ◌==◌, ◌≤◌, ◌⊎◌, ℕ, cond, length, List, Option, Some}
+use Rattle.std.specs.Option.{option_and_then, option_map}
 use Rattle.std.specs.Arc.{arc_value}
-use Rattle.cs_tree_model.specs.Tree.{NameBytes, Tree, number_in}
-use Rattle.cs_apm.specs.declared.slot.Slot.{Slot}
+use Rattle.cs_tree_model.specs.Tree.{NameBytes, Path, Tree}
+use Rattle.cs_entries.specs.declared.entry.Entry.{Entry}
+use Rattle.cs_entries.specs.declared.node.FileKind.{FileKind}
+use Rattle.cs_entries.specs.declared.node.Node.{Node}
+use Rattle.cs_entries.specs.declared.node.Node.TheVariants.{Directory, File}
+use Rattle.cs_entries.specs.Paths.{entry_in}
+use Rattle.cs_apm.specs.Slots.{Slot, entry_at, slot_at}
 use Rattle.cs_state.specs.declared.state.State.{State}
-use Rattle.cs_state.specs.Parts.{state_in, AreMembers, IsState}
-use Rattle.cs_state.specs.Shares.{place_of, slots_left}
+use Rattle.cs_paths.specs.Marks.{kept_at}
+use Rattle.cs_state.specs.Named.{place_of_entry}
+use Rattle.cs_state.specs.Parts.{slots_shown, state_in, AreMembers, IsState}
+use Rattle.cs_paths.specs.PathOrders.{path_of_id, place_of_id, position_by}
+use Rattle.cs_state.specs.Shares.{count_standing, ids_by_path, number_of_id, places_by_path}
+use Rattle.cs_state.specs.Shares.{positions_of}
 use Rattle.cs_state.specs.Steps.{members_in}
 
 -- the members of its set
@@ -15,17 +24,72 @@ places_in s = members_in s.members.items
 
 pub record IsMade (s : State) : Type 0 where
   pub set : AreMembers (arc_value s.parts) s.members.items
-  pub state : IsState (arc_value s.parts) (places_in s) s.own.items
+  pub state : IsState (arc_value s.parts) (places_in s) s.moved s.own.items
 
--- the slots after its members
+-- what is at each id after its members
 abbrev pub slots_in : State → List Slot
-slots_in s = slots_left (arc_value s.parts).tables (places_in s)
+slots_in s = slots_shown (arc_value s.parts) (places_in s) s.moved
+
+-- how many records it has: one for each id that has something, and the root's is one of them
+abbrev pub count_shown : State → ℕ
+count_shown s = count_standing (slots_in s) (length (slots_in s))
 
 abbrev pub tree_in : State → Tree
 tree_in s = state_in (arc_value s.parts) (places_in s)
 
--- the number of what is under a name in the directory of the path with this id
+-- the entries that ever hold something
+abbrev pub entries_in : State → List Entry
+entries_in s = (arc_value s.parts).tables.entries.items
+
+-- where directories are in it
+abbrev pub positions_shown : State → List ℕ
+positions_shown s =
+    positions_of (arc_value s.parts).micros.ops (arc_value s.parts).tables s.moved
+
+-- the path of an id in it
+abbrev pub path_shown : State → ℕ → Path
+path_shown s id =
+    path_of_id (position_by (entries_in s) (positions_shown s))
+    (length (arc_value s.parts).tables.directories.items) (entries_in s)
+    (places_by_path (arc_value s.parts).shares s.moved) id
+
+-- the entry with an id; the root has none
+abbrev pub entry_of_id : State → ℕ → Option Entry
+entry_of_id s id =
+    option_map (entry_at (entries_in s))
+    (place_of_id (places_by_path (arc_value s.parts).shares s.moved) id)
+
+-- the number of what the entry at the place holds, if it holds something
+abbrev pub number_of_place : State → ℕ → Option ℕ
+number_of_place s place =
+    number_of_id (slots_in s) (kept_at (ids_by_path (arc_value s.parts).shares s.moved) place)
+
+-- the number of what the directory's entry of a name holds
 abbrev pub number_shown : State → ℕ → NameBytes → Option ℕ
 number_shown s directory name =
-    option_and_then (place_of (slots_in s))
-    (number_in (arc_value s.parts).shares.names directory name)
+    option_and_then (number_of_place s)
+    (place_of_entry (entries_in s) (entry_in directory name))
+
+-- the number, in the order of paths, of the directory with this number of its own; the root's is 0
+abbrev pub number_of_directory : State → ℕ → Option ℕ
+number_of_directory s directory =
+    cond (directory == 0) (Some 0) (number_of_place s (kept_at (positions_shown s) directory))
+
+-- it is the number of what a state has at an id
+abbrev pub IsNumberOf : State → ℕ → ℕ → Node → Type 0
+IsNumberOf s number id node =
+    (slot_at (slots_in s) id ≡ Some node) × (number_of_id (slots_in s) id ≡ Some number)
+
+-- it is what has the number in the order of paths
+abbrev pub IsNodeAt : State → ℕ → Node → Type 0
+IsNodeAt s number node = (id : ℕ) × IsNumberOf s number id node
+
+-- the directory has the number in the order of paths
+abbrev pub IsDirectoryAt : State → ℕ → ℕ → Type 0
+IsDirectoryAt s number d = (id : ℕ) × IsNumberOf s number id (Directory d)
+
+-- a file has it, or nothing
+abbrev pub IsNoDirectory : State → ℕ → Type 0
+IsNoDirectory s number =
+    ((id : ℕ) × (kind : FileKind) × (file : ℕ) × IsNumberOf s number id (File kind file))
+    ⊎ (count_shown s ≤ number)

@@ -8,7 +8,7 @@ use Rattle.std.specs.Option.{option_map_or}
 use Rattle.std.specs.Ordering.{nat_cmp}
 use Rattle.cs_micro.specs.declared.micro_op.MicroOp.{MicroOp}
 use Rattle.cs_micro.specs.declared.micro_op.MicroOp.TheVariants.{ChangeFileSize, WriteBlock}
-use Rattle.cs_names.specs.declared.limits.TheConstants.{FILE_BYTES}
+use Rattle.cs_trace.specs.declared.limits.TheConstants.{LARGE_FILE_BYTES}
 use Rattle.cs_trace.specs.Traces.{Trace}
 use Rattle.cs_apm.specs.Atlases.{content_before}
 use Rattle.cs_apm.specs.Contents.{changes_file}
@@ -16,7 +16,7 @@ use Rattle.cs_apm.specs.Rules.{op_at}
 use Rattle.cs_apm.specs.States.{Content, overwritten}
 use Rattle.cs_state.specs.declared.file_steps.FileSteps.{FileSteps}
 use Rattle.cs_state.specs.declared.file_steps.TheConstants.{PAGE_BYTES}
-use Rattle.cs_state.specs.Shares.{numbers_that_pass, mark_at}
+use Rattle.cs_paths.specs.Marks.{numbers_that_pass, mark_at}
 use Rattle.cs_state.specs.Windows.{byte_of, size_after}
 
 -- it changes the size of the file
@@ -37,7 +37,7 @@ reaches page size _ = false
 
 -- no file is too large, and bytes lie in one page
 abbrev pub IsFitting : MicroOp → Type 0
-IsFitting (ChangeFileSize file to) = to ≤ FILE_BYTES
+IsFitting (ChangeFileSize file to) = to ≤ LARGE_FILE_BYTES
 IsFitting (WriteBlock file block start at bytes) =
     (start + at) % PAGE_BYTES + length bytes ≤ PAGE_BYTES
 IsFitting _ = Unit {0}

@@ -1,16 +1,14 @@
 //! An atlas: a trace with all that its crash states share, and how the state of a set is made.
 ghost use Rattle.std.specs.Prelude.{◌≡◌, length, IfOk};
 ghost use Rattle.cs_tree_model.specs.Tree.{IsTree};
-ghost use Rattle.cs_trace.specs.Traces.{start_paths};
-ghost use Rattle.cs_micro.specs.Legal.{AreLegal};
-ghost use Rattle.cs_micro.specs.Micros.{block_of_version, micros_in};
+ghost use Rattle.cs_micro.specs.Micros.{AreLegalFromStart, micros_in};
 ghost use Rattle.cs_apm.specs.Orders.{needs_of};
-ghost use Rattle.cs_apm.specs.Sets.{IsAllowed};
+ghost use Rattle.cs_sets.specs.Sets.{IsAllowed};
 ghost use Rattle.cs_apm.specs.States.{crash_state_of};
 
 use crate::building::own_of;
 use crate::file_steps::all_steps;
-use crate::members::members_of;
+use crate::members::{count_members, members_of};
 use crate::owner_steps::OwnerSteps;
 use crate::parts::Parts;
 use crate::shares::Shares;
@@ -26,8 +24,9 @@ use std::sync::Arc;
 /// The store of a state, as an atlas makes it.
 pub type Built = StateTree;
 
-/// A trace with its micro-operations, and with what is computed once for all its states: every path
-/// that ever exists, what is there at the start, and what each micro-operation does there.
+/// A trace with its micro-operations, and with what is computed once for all its states: every
+/// entry that ever holds something, what it holds at the start, and what each micro-operation does
+/// to it.
 /// Contracts see the trace.
 #[derive(Drop)]
 pub struct Atlas {
@@ -51,12 +50,11 @@ impl Atlas {
     /// What all states share is computed here, once. After an error both are dropped.
     pub fn of(alloc: Global, trace: Trace, micros: Micros) -> Result<Atlas, AllocError>
         requires broken { micros ≡ micros_in trace }
-        requires legal { AreLegal (block_of_version trace.version) (start_paths trace)
-            (length micros.starts) micros.ops }
+        requires legal { AreLegalFromStart trace micros }
         ensures { IfOk result (λ atlas. atlas ≡ trace) }
     {
         let tables = Tables::of(alloc, &trace, &micros)?;
-        let shares = Shares::of(alloc, &trace, micros.ops(), &tables)?;
+        let shares = Shares::of(alloc, &trace, &micros, &tables)?;
         let steps = all_steps(alloc, &trace, micros.ops(), &tables)?;
         let owner_steps = OwnerSteps::of(alloc, micros.ops())?;
         let parts = Arc::new(
@@ -83,8 +81,7 @@ impl Atlas {
     /// What the trace breaks into: its micro-operations and sync points.
     pub fn micros(&self) -> &Micros
         ensures value { result.now ≡ micros_in self.now }
-        ensures legal { AreLegal (block_of_version self.now.version) (start_paths self.now)
-            (length result.now.starts) result.now.ops }
+        ensures legal { AreLegalFromStart self.now result.now }
     {
         &self.parts.micros
     }
@@ -99,12 +96,14 @@ impl Atlas {
             (λ tree. tree ≡ crash_state_of self.now (micros_in self.now) places.now) }
         ensures tree { IfOk result IsTree }
     {
-        let own = own_of(alloc, &self.parts, places)?;
         let members = members_of(alloc, self.parts.micros.ops().len(), places)?;
+        let moved = count_members(&members, &self.parts.shares.paths.moves);
+        let own = own_of(alloc, &self.parts, moved, places)?;
         let parts = Arc::try_clone(&self.parts)?;
         Ok(StateTree::of(State {
             parts,
             members,
+            moved,
             own,
         }))
     }

@@ -1,7 +1,7 @@
 //! A part of a file: `count` of its bytes from an offset on, with zeros past its end, and what
 //! changes them.
 ghost use Rattle.std.specs.Prelude.{◌≡◌, ◌+◌, ◌<◌, ◌≤◌, ◌^◌, length, take, IfOk};
-ghost use Rattle.cs_names.specs.declared.limits.TheConstants.{FILE_BYTES};
+ghost use Rattle.cs_trace.specs.declared.limits.TheConstants.{LARGE_FILE_BYTES};
 ghost use Rattle.cs_apm.specs.States.{Content, overwritten};
 ghost use Rattle.cs_state.specs.Windows.{whole_content, IsPart};
 
@@ -43,7 +43,7 @@ pub fn zero_past(part: &mut [u8], offset: usize, size: usize)
 /// `offset` in the file, and the piece at `at`.
 pub fn write_piece(part: &mut [u8], offset: usize, at: usize, piece: &[u8])
     requires room { offset + length part.old < 2 ^ 64 }
-    requires small { at + length piece.now ≤ FILE_BYTES }
+    requires small { at + length piece.now ≤ LARGE_FILE_BYTES }
     ensures long { length part.new ≡ length part.old }
     ensures part { (f : Content) → IsPart offset f part.old
         → IsPart offset (overwritten at piece.now f) part.new }

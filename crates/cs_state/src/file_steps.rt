@@ -5,17 +5,18 @@ ghost use Rattle.std.specs.Prelude.{slice_get, slice_index_or, IfOk, IsSome, OnO
 ghost use Rattle.std.specs.BTreeMap.{get};
 ghost use Rattle.std.specs.List.{All};
 ghost use Rattle.std.specs.Ordering.{nat_cmp};
-ghost use Rattle.cs_apm.specs.Atlases.{content_before, AreStarts};
+ghost use Rattle.cs_apm.specs.Atlases.{content_before, content_made, AreMakings, AreStarts};
 ghost use Rattle.cs_apm.specs.Contents.{IsSmall, changes_file};
 ghost use Rattle.cs_apm.specs.Rules.{op_at};
+ghost use Rattle.cs_apm.specs.States.{content_of_bytes, files_made, no_content};
 ghost use Rattle.cs_state.specs.Shares.{numbers_that_pass};
 ghost use Rattle.cs_state.specs.Steps.{reaches, places_reaching, resizes, row_at, size_before};
 ghost use Rattle.cs_state.specs.Steps.{AreAllSteps, AreFileSteps, AreRows, HasRow};
 ghost use Rattle.cs_state.specs.Windows.{size_after};
 
-use crate::marks::push_if;
 use cs_apm::tables::Tables;
 use cs_micro::MicroOp;
+use cs_paths::passing::push_if;
 use cs_trace::Trace;
 use std::alloc::{AllocError, Global};
 use std::collections::BTreeMap;
@@ -267,17 +268,45 @@ impl FileSteps {
     }
 }
 
-/// The bytes of the file at the start; empty if a micro-operation makes it. `_ops` is for the
-/// contract only, which speaks of the files that micro-operations make, too. The record that
-/// `tables` has for the file is a file's, so it has bytes. `start_bytes` of cs_same_states has the
-/// same body; `file_before` of cs_apm copies the same bytes.
-pub fn start_bytes<'a>(trace: &'a Trace, _ops: &[MicroOp], tables: &Tables, file: usize) -> &'a [u8]
-    requires { AreStarts trace.now tables.now.starts.items }
-    ensures { result.now ≡ (content_before trace.now _ops.now file).bytes }
+/// The bytes that the micro-operation makes a file or a symbolic link with; none if it makes
+/// neither. (A private function of cs_apm has the same body.)
+fn bytes_made(op: &MicroOp) -> &[u8]
+    ensures { content_of_bytes result.now ≡ content_made op.now }
+{
+    match op {
+        MicroOp::CreateDirEntry { bytes, .. } => bytes.as_slice(),
+        _ => &[],
+    }
+}
+
+/// The bytes with which a micro-operation makes the file of this number after the start's; empty if
+/// none does. `makings` has the place of the making of each of them.
+fn made_bytes<'a>(ops: &'a [MicroOp], makings: &[u32], number: usize) -> &'a [u8]
+    requires { AreMakings ops.now makings.now }
+    ensures { result.now ≡ (slice_index_or (files_made ops.now) number no_content).bytes }
+{
+    match makings.get(number) {
+        None => &[],
+        Some(place) => bytes_made(&ops[*place as usize]),
+    }
+}
+
+/// The bytes of the file at the start, or those that it is made with: a symbolic link's target. The
+/// record that `tables` has for a file at the start is a file's, so it has bytes. `start_bytes` of
+/// cs_same_states has the same body; `file_before` of cs_apm copies the same bytes.
+pub fn start_bytes<'a>(
+    trace: &'a Trace,
+    ops: &'a [MicroOp],
+    tables: &Tables,
+    file: usize,
+) -> &'a [u8]
+    requires starts { AreStarts trace.now tables.now.starts.items }
+    requires makings { AreMakings ops.now tables.now.makings.items }
+    ensures { result.now ≡ (content_before trace.now ops.now file).bytes }
 {
     let starts = &tables.starts;
     if file >= starts.len() {
-        return &[];
+        return made_bytes(ops, &tables.makings, file - starts.len());
     }
     let content = trace.records().content(starts[file] as usize);
     content.bytes().unwrap_or(&[])
@@ -294,6 +323,7 @@ fn steps_of_file(
     requires few { length ops.now < 2 ^ 20 }
     requires small { All IsSmall ops.now }
     requires starts { AreStarts trace.now tables.now.starts.items }
+    requires makings { AreMakings ops.now tables.now.makings.items }
     requires known { file < length tables.now.changed.items }
     ensures { IfOk result
         (λ steps. slice_get tables.now.changed.items file ≡ Some true
@@ -317,6 +347,7 @@ pub fn all_steps(
     requires few { length ops.now < 2 ^ 20 }
     requires small { All IsSmall ops.now }
     requires starts { AreStarts trace.now tables.now.starts.items }
+    requires makings { AreMakings ops.now tables.now.makings.items }
     ensures { IfOk result
         (λ all. AreAllSteps trace.now ops.now tables.now.changed.items all.items) }
 {

@@ -1,5 +1,5 @@
 //! The crash states of a trace, as stores that share what all of them have: a state has the members
-//! of its set, and the entries at the paths that some operation touches.
+//! of its set, and what is in the entries that some operation touches.
 #![tactic(auto)]
 
 pub mod atlas;
@@ -7,8 +7,10 @@ mod building;
 mod bytes;
 pub mod file_part;
 mod file_steps;
+mod kept_ids;
 mod marks;
 mod members;
+mod names;
 mod numbers;
 mod owner_steps;
 mod parts;
@@ -16,6 +18,8 @@ mod reading;
 mod shares;
 mod state;
 pub mod state_tree;
+#[cfg(test)]
+mod tests;
 
 pub use atlas::{Atlas, Built};
 pub use state_tree::StateTree;

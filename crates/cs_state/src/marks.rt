@@ -1,18 +1,20 @@
-//! Which of the paths that ever exist some step touches (it changes what is there, or its rights),
-//! and which are kept: every state has the same there. A path is given by its id, its place among
-//! all of them.
-ghost use Rattle.std.specs.Prelude.{◌≡◌, ◌+◌, ◌<◌, ◌^◌, ◌⊎◌, ◌++◌, ◌∷◌, [], ℕ, cond, false, true};
-ghost use Rattle.std.specs.Prelude.{length, IfOk, OnOk};
+//! Which entries some step touches, and which are kept: every state has the same there. The marks
+//! of steps are by the entries' places; the lists of what is touched and kept are by ids, places in
+//! an order of paths, of which the slots and the marks here are in that order.
+ghost use Rattle.std.specs.Prelude.{◌≡◌, ◌+◌, ◌<◌, ◌^◌, ◌⊎◌, ℕ, cond, false, true};
+ghost use Rattle.std.specs.Prelude.{length, IfOk};
 ghost use Rattle.std.specs.List.{All};
 ghost use Rattle.cs_apm.specs.Slots.{FitsIn};
 ghost use Rattle.cs_state.specs.Numbers.{kept_at};
 ghost use Rattle.cs_state.specs.Shares.{numbers_that_pass, mark_at, is_entry, is_in_every_state};
 ghost use Rattle.cs_state.specs.Shares.{IsLeft, IsTouched, Leaves, Touches};
 
-use cs_apm::slot::{Slot, Step};
+use cs_apm::slot::Step;
+use cs_entries::Node;
+use cs_paths::passing::push_if;
 use std::alloc::{AllocError, Global};
 
-/// Marks the paths that a step changes: two of a move, none of `Step::Other`, and otherwise one.
+/// Marks the entries that a step changes: two of a move, none of `Step::Other`, and otherwise one.
 fn mark_touched(marks: &mut [bool], step: Step)
     requires { FitsIn (length marks.old) step }
     ensures long { length marks.new ≡ length marks.old }
@@ -22,7 +24,7 @@ fn mark_touched(marks: &mut [bool], step: Step)
         ⊎ Touches id step }
 {
     match step {
-        Step::Set(place, _) | Step::SetRights(place, _) => marks[place as usize] = true,
+        Step::Set(place, _) => marks[place as usize] = true,
         Step::Move(from, to) => {
             marks[from as usize] = true;
             marks[to as usize] = true;
@@ -31,7 +33,7 @@ fn mark_touched(marks: &mut [bool], step: Step)
     }
 }
 
-/// For each of `count` paths, whether one of the steps changes it.
+/// For each of `count` entries, whether one of the steps changes it.
 pub fn marks_of(alloc: Global, steps: &[Step], count: usize) -> Result<Vec<bool>, AllocError>
     requires { All (FitsIn count) steps.now }
     ensures long { IfOk result (λ marks. length marks.items ≡ count) }
@@ -47,29 +49,7 @@ pub fn marks_of(alloc: Global, steps: &[Step], count: usize) -> Result<Vec<bool>
     Ok(marks)
 }
 
-/// Whether there is a file or a directory in the slot.
-pub fn is_entry(slot: Slot) -> bool
-    ensures { result ≡ is_entry slot }
-{
-    match slot {
-        Slot::Nothing => false,
-        Slot::Directory(_) | Slot::File(_) => true,
-    }
-}
-
-/// Appends the id of a path, or the place of a micro-operation, if it passes. Both are below 2^20
-/// here, so they fit in a u32. After an error, the callers drop the list.
-pub fn push_if(ids: &mut Vec<u32>, id: usize, passes: bool) -> Result<(), AllocError>
-    requires { id < 2 ^ 20 }
-    ensures { OnOk result (ids.new.items ≡ ids.old.items ++ cond passes (id ∷ []) []) }
-{
-    if passes {
-        ids.push(id as u32)?;
-    }
-    Ok(())
-}
-
-/// The ids of the marked paths, ascending.
+/// The marked ids, ascending.
 pub fn marked_ids(alloc: Global, marks: &[bool]) -> Result<Vec<u32>, AllocError>
     requires { length marks.now < 2 ^ 20 }
     ensures { IfOk result
@@ -82,18 +62,22 @@ pub fn marked_ids(alloc: Global, marks: &[bool]) -> Result<Vec<u32>, AllocError>
     Ok(found)
 }
 
-/// Whether the path is kept: there is something from the start on, and no step changes it.
-fn is_kept_path(marks: &[bool], slots: &[Slot], id: usize) -> bool
+/// Whether the id is kept: there is something from the start on, and no step changes it.
+fn is_kept_id(marks: &[bool], slots: &[Option<Node>], id: usize) -> bool
     requires marked { id < length marks.now }
     requires there { id < length slots.now }
     ensures { result ≡ is_in_every_state marks.now slots.now id }
 {
-    !marks[id] && is_entry(slots[id])
+    !marks[id] && slots[id].is_some()
 }
 
-/// The ids of the kept paths, ascending: there is something from the start on, and no step changes
+/// The kept ids, ascending: there is something from the start on, and no step changes
 /// it.
-pub fn kept_of(alloc: Global, marks: &[bool], slots: &[Slot]) -> Result<Vec<u32>, AllocError>
+pub fn kept_of(
+    alloc: Global,
+    marks: &[bool],
+    slots: &[Option<Node>],
+) -> Result<Vec<u32>, AllocError>
     requires few { length slots.now < 2 ^ 20 }
     requires long { length marks.now ≡ length slots.now }
     ensures { IfOk result
@@ -102,12 +86,12 @@ pub fn kept_of(alloc: Global, marks: &[bool], slots: &[Slot]) -> Result<Vec<u32>
 {
     let mut found = Vec::new(alloc);
     for id in 0..slots.len() {
-        push_if(&mut found, id, is_kept_path(marks, slots, id))?;
+        push_if(&mut found, id, is_kept_id(marks, slots, id))?;
     }
     Ok(found)
 }
 
-/// One more than the count if the path passes, otherwise the count.
+/// One more than the count if it passes, otherwise the count.
 fn count_if(count: u32, passes: bool) -> u32
     requires { count < 2 ^ 20 }
     ensures { result ≡ count + cond passes 1 0 }
@@ -115,8 +99,12 @@ fn count_if(count: u32, passes: bool) -> u32
     if passes { count + 1 } else { count }
 }
 
-/// For each path, how many of the kept paths are before it; the path itself doesn't count.
-pub fn kept_below(alloc: Global, marks: &[bool], slots: &[Slot]) -> Result<Vec<u32>, AllocError>
+/// For each id, how many of the kept ids are before it; the id itself doesn't count.
+pub fn kept_below(
+    alloc: Global,
+    marks: &[bool],
+    slots: &[Option<Node>],
+) -> Result<Vec<u32>, AllocError>
     requires few { length slots.now < 2 ^ 20 }
     requires long { length marks.now ≡ length slots.now }
     ensures long { IfOk result (λ counts. length counts.items ≡ length slots.now) }
@@ -129,7 +117,7 @@ pub fn kept_below(alloc: Global, marks: &[bool], slots: &[Slot]) -> Result<Vec<u
     let mut count = 0u32;
     for id in 0..slots.len() {
         counts.push(count)?;
-        count = count_if(count, is_kept_path(marks, slots, id));
+        count = count_if(count, is_kept_id(marks, slots, id));
     }
     Ok(counts)
 }

@@ -1,28 +1,32 @@
 //! The numbers of the files and directories of a state: their places in the order of paths, from 0.
-//! They are computed from the kept paths, which all states share, and the state's own entries.
+//! They are computed from the kept ids, which states share, and the state's own entries. An id is a
+//! place in the order that the paths of all entries have in the state.
 ghost use Rattle.std.specs.Prelude.{◌≡◌, ◌+◌, ◌^◌, ◌<◌, ◌≤◌, ℕ, length, IfNone, IfSome};
 ghost use Rattle.std.specs.List.Sorted.{IsNonDecreasingBy};
 ghost use Rattle.cs_state.specs.Numbers.{own_in_place, count_with_key_below, kept_at, number_in};
 ghost use Rattle.cs_state.specs.Numbers.{HasId, IsFound, IsMerge};
+ghost use Rattle.std.specs.List.{All};
+ghost use Rattle.cs_paths.specs.PathOrders.{slots_by_path};
 
-use cs_apm::slot::Slot;
+use cs_entries::Node;
+use cs_paths::path_order::slot_of_id;
 
-/// A touched path at which there is something in a state.
+/// A touched entry that holds something in a state.
 #[derive(Clone, Copy, Debug)]
 pub struct Own {
-    /// The path's place among all paths that ever exist.
+    /// The entry's id.
     pub id: u32,
-    /// The path's place among those at which there is something in the state.
+    /// How many that hold something come before it in the state; the root is one of them.
     pub number: u32,
-    /// What is at the path.
-    pub slot: Slot,
+    /// What it holds.
+    pub slot: Option<Node>,
 }
 
-/// A path at which there is something in a state, by its place among all paths that ever exist.
+/// The root, or an entry that holds something in a state, by its id.
 #[derive(Clone, Copy, Debug)]
-pub struct PathEntry {
+pub struct Found {
     pub id: u32,
-    pub slot: Slot,
+    pub slot: Option<Node>,
 }
 
 /// How many of the own entries have a number below this one. The count must be at least `least` and
@@ -58,23 +62,32 @@ fn ids_below(own: &[Own], least: usize, most: usize, id: u32) -> usize
     from + own[from..end].partition_point(|o| o.id < id)
 }
 
-/// The entry with this number in the state: the id of its path, and what is there. None if the
-/// state has no such number.
-pub fn entry_at_number(kept: &[u32], slots: &[Slot], own: &[Own], number: u64) -> Option<PathEntry>
+/// The entry with this number in the state: its id, and what it holds. None if the state has no
+/// such number. `places` has the entries by their paths, and `slots` what each holds at the start.
+pub fn found_at_number(
+    kept: &[u32],
+    places: &[u32],
+    slots: &[Option<Node>],
+    own: &[Own],
+    number: u64,
+) -> Option<Found>
     requires merge { IsMerge kept.now own.now }
-    requires inside { (k : ℕ) → k < length kept.now → kept_at kept.now k < length slots.now }
-    ensures found { IfSome result (IsFound kept.now slots.now own.now) }
+    requires inside { (k : ℕ) → k < length kept.now
+        → kept_at kept.now k < length places.now + 1 }
+    requires places { All (λ place. place < length slots.now) places.now }
+    ensures found { IfSome result
+        (IsFound kept.now (slots_by_path places.now slots.now) own.now) }
     ensures number { IfSome result (λ f. number_in kept.now own.now f.id ≡ number) }
     ensures none { IfNone result (length kept.now + length own.now ≤ number) }
 {
     // Below a number of the state there are `number` others, each of an own entry or of a kept
-    // path: so at most `number` of own entries, and at least `number` less `kept.len()`.
+    // id: so at most `number` of own entries, and at least `number` less `kept.len()`.
     let most = number as usize;
     let before = numbers_below(own, most.saturating_sub(kept.len()), most, number);
     if before < own.len() {
         let first = own[before];
         if first.number as u64 == number {
-            return Some(PathEntry {
+            return Some(Found {
                 id: first.id,
                 slot: first.slot,
             });
@@ -83,16 +96,15 @@ pub fn entry_at_number(kept: &[u32], slots: &[Slot], own: &[Own], number: u64) -
     let place = number as usize - before;
     if place < kept.len() {
         let id = kept[place];
-        let slot = slots[id as usize];
-        Some(PathEntry { id, slot })
+        let slot = slot_of_id(places, slots, id);
+        Some(Found { id, slot })
     } else {
         None
     }
 }
 
-/// The number of what is at the path with this id. `kept` has the kept paths, `kept_below` how many
-/// of them are before each path, and `own` the state's own entries. None if nothing is at the path
-/// in the state.
+/// The number of what is at this id. `kept` has the kept ids, `kept_below` how many of them are
+/// before each id, and `own` the state's own entries. None if nothing is there in the state.
 pub fn number_of(kept: &[u32], kept_below: &[u32], own: &[Own], id: u32) -> Option<u64>
     requires merge { IsMerge kept.now own.now }
     requires there { id < length kept_below.now }
@@ -107,7 +119,7 @@ pub fn number_of(kept: &[u32], kept_below: &[u32], own: &[Own], id: u32) -> Opti
     ensures none { IfNone result (HasId kept.now own.now id → ⊥) }
 {
     let place = kept_below[id as usize] as usize;
-    // At most `most` own entries come before the path, and at most `others` from it on.
+    // At most `most` own entries come before the id, and at most `others` from it on.
     let most = id as usize - place;
     let others = (kept_below.len() - id as usize).saturating_sub(kept.len() - place);
     let before = ids_below(own, own.len().saturating_sub(others), most, id);

@@ -14,12 +14,12 @@ pub struct Parts {
     pub trace: Trace,
     /// What it breaks into.
     pub micros: Micros,
-    /// What is at each path at the start, and what each micro-operation does there.
+    /// What each entry holds at the start, and what each micro-operation does there.
     pub tables: Tables,
-    /// Which paths every state has, and which the micro-operations touch.
+    /// The orders of paths, and which entries every state has.
     pub shares: Shares,
     /// What changes each file, by its number.
     pub steps: Vec<FileSteps>,
-    /// What sets the owner, group and permissions of files.
+    /// What sets the owner, group and permissions of files and of directories.
     pub owner_steps: OwnerSteps,
 }

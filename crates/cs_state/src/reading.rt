@@ -1,5 +1,5 @@
-//! Metadata and bytes of what is at a path of a state. The `owner` of a file is its owner, group
-//! and permissions here, as in `owner_steps`.
+//! Metadata and bytes of what an entry of a state holds. The `owner` of a file or directory is its
+//! owner, group and permissions here, as in `owner_steps`.
 
 ghost use Rattle.std.specs.Prelude.{◌≡◌, ◌≢◌, ◌+◌, ◌<◌, ◌≤◌, ◌^◌, [], true, Some, drop, length};
 ghost use Rattle.std.specs.Prelude.{slice_get, take, IfErr, IfOk, IsErr, IsSomeAnd};
@@ -7,23 +7,23 @@ ghost use Rattle.std.specs.Option.{option_map};
 ghost use Rattle.cs_tree_model.specs.Fresh.{fresh_record};
 ghost use Rattle.cs_tree_model.specs.Record.{metadata_of_ref, metadata_of};
 ghost use Rattle.cs_apm.specs.Slots.{IsKnown};
-ghost use Rattle.cs_apm.specs.States.{visible};
-ghost use Rattle.cs_state.specs.Parts.{AreMembers, AreParts, bytes_before, file_in, owner_in};
+ghost use Rattle.cs_apm.specs.States.{kind_bit, visible};
+ghost use Rattle.cs_state.specs.Parts.{AreMembers, AreParts, bytes_before, directory_in, file_in};
+ghost use Rattle.cs_state.specs.Parts.{owner_in};
 ghost use Rattle.cs_state.specs.Parts.{record_in, read_in, unchanged_metadata};
 ghost use Rattle.cs_state.specs.Steps.{members_in};
 ghost use Rattle.cs_state.specs.Windows.{IsPart};
 
 use crate::bytes::{copy_piece, part_left, size_after_members};
 use crate::file_steps::start_bytes;
-use crate::owner_steps::owner_after_members;
+use crate::owner_steps::{directory_after_members, owner_after_members};
 use crate::parts::Parts;
-use cs_apm::slot::Slot;
+use cs_entries::{FileKind, Node};
 use cs_trace::Rights;
-use cs_tree_model::{DMDIR, Kind, Metadata};
+use cs_tree_model::{DMDIR, DMSYMLINK, Kind, Metadata};
 use std::alloc::{AllocError, Global};
 
-/// The bytes of the file at the start, as `start_bytes` has them; empty if a micro-operation makes
-/// the file.
+/// The bytes of the file at the start, or as it is made: as `start_bytes` has them.
 fn bytes_at_start<'a>(parts: &'a Parts, file: u32) -> &'a [u8]
     requires { AreParts parts.now }
     ensures { result.now ≡ bytes_before parts.now file }
@@ -162,6 +162,18 @@ fn file_bytes(
     }
 }
 
+/// The owner, group and permissions of the directory after the members.
+fn directory_owner_of<'a>(parts: &'a Parts, members: &[bool], directory: u32) -> &'a Rights
+    requires parts { AreParts parts.now }
+    requires known { directory < length parts.now.tables.directories.items }
+    requires set { AreMembers parts.now members.now }
+    ensures { result.now ≡ directory_in parts.now (members_in members.now) directory }
+{
+    let made = &parts.tables.directories[directory as usize];
+    let steps = parts.owner_steps.directory_row(directory);
+    directory_after_members(directory, made, parts.micros.ops(), steps, members)
+}
+
 /// The owner, group and permissions of the file after the members.
 fn owner_of<'a>(parts: &'a Parts, members: &[bool], file: u32) -> &'a Rights
     requires parts { AreParts parts.now }
@@ -175,8 +187,8 @@ fn owner_of<'a>(parts: &'a Parts, members: &[bool], file: u32) -> &'a Rights
 }
 
 /// The metadata of a record that was never changed: version and times are 0, and the owner is also
-/// the user who changed it last. `bit` is DMDIR for a directory, 0 for a file; of the permissions,
-/// the lowest nine bits count. (`record_with` of cs_apm makes such a record.)
+/// the user who changed it last. `bit` is DMDIR for a directory, DMSYMLINK for a symbolic link, 0
+/// for another file; of the permissions, the lowest nine bits count. (`record_with` of cs_apm makes such a record.)
 fn unchanged_metadata(number: u64, rights: &Rights, bit: u32, kind: Kind) -> Metadata<'_>
     requires { bit ≤ DMDIR }
     ensures { metadata_of_ref result ≡ unchanged_metadata number rights.now bit kind }
@@ -194,63 +206,66 @@ fn unchanged_metadata(number: u64, rights: &Rights, bit: u32, kind: Kind) -> Met
     }
 }
 
-/// The metadata, with this number, of what is in a slot after the members: that of the record that
-/// `record_at` of cs_apm makes. None if the slot is empty.
-pub fn metadata_of<'a>(
-    parts: &'a Parts,
-    members: &[bool],
-    number: u64,
-    slot: Slot,
-) -> Option<Metadata<'a>>
-    requires parts { AreParts parts.now }
-    requires known { IsKnown (length parts.now.tables.rights.items)
-        (length parts.now.tables.owners.items) slot }
-    requires set { AreMembers parts.now members.now }
-    ensures { option_map metadata_of_ref result
-        ≡ option_map (λ r. metadata_of (fresh_record number r))
-        (record_in parts.now (members_in members.now) slot) }
+/// The bit of the mode of a file of this kind. (A private function of cs_apm has the same body.)
+fn kind_bit(kind: FileKind) -> u32
+    ensures { result ≡ kind_bit kind }
 {
-    match slot {
-        Slot::Nothing => None,
-        Slot::Directory(k) => {
-            let rights = &parts.tables.rights[k as usize];
-            Some(unchanged_metadata(number, rights, DMDIR, Kind::Directory))
+    match kind {
+        FileKind::Regular => 0,
+        FileKind::Symlink => DMSYMLINK,
+    }
+}
+
+/// The metadata, with this number, of what an entry holds after the members: that of the record that
+/// `record_at` of cs_apm makes.
+pub fn metadata_of<'a>(parts: &'a Parts, members: &[bool], number: u64, node: Node) -> Metadata<'a>
+    requires parts { AreParts parts.now }
+    requires known { IsKnown (length parts.now.tables.directories.items)
+        (length parts.now.tables.owners.items) (Some node) }
+    requires set { AreMembers parts.now members.now }
+    ensures { metadata_of_ref result
+        ≡ metadata_of (fresh_record number (record_in parts.now (members_in members.now) node)) }
+{
+    match node {
+        Node::Directory(directory) => {
+            let owner = directory_owner_of(parts, members, directory);
+            unchanged_metadata(number, owner, DMDIR, Kind::Directory)
         }
-        Slot::File(file) => {
+        Node::File(kind, file) => {
             let length = file_size(parts, members, file);
             let owner = owner_of(parts, members, file);
-            Some(unchanged_metadata(number, owner, 0, Kind::File { length }))
+            unchanged_metadata(number, owner, kind_bit(kind), Kind::File { length })
         }
     }
 }
 
-/// At most `count` bytes, from the offset on, of the file in a slot after the members: fewer, or
-/// none, near its end or past it. None if there is no file in the slot. Memory can run out only if
-/// there is a byte to read.
-pub fn read_slot(
+/// At most `count` bytes, from the offset on, of the file that an entry holds after the members:
+/// fewer, or none, near its end or past it. None of a directory. Memory can run out only if there
+/// is a byte to read.
+pub fn read_node(
     alloc: Global,
     parts: &Parts,
     members: &[bool],
-    slot: Slot,
+    node: Node,
     offset: u64,
     count: usize,
 ) -> Result<Option<Vec<u8>>, AllocError>
     requires parts { AreParts parts.now }
-    requires known { IsKnown (length parts.now.tables.rights.items)
-        (length parts.now.tables.owners.items) slot }
+    requires known { IsKnown (length parts.now.tables.directories.items)
+        (length parts.now.tables.owners.items) (Some node) }
     requires set { AreMembers parts.now members.now }
     ensures value { IfOk result
         (λ bytes. option_map (λ v. v.items) bytes
-        ≡ read_in parts.now (members_in members.now) slot offset count) }
+        ≡ read_in parts.now (members_in members.now) node offset count) }
     ensures memory { IsErr result
-        → IsSomeAnd (read_in parts.now (members_in members.now) slot offset count)
+        → IsSomeAnd (read_in parts.now (members_in members.now) node offset count)
         (λ bytes. bytes ≢ []) }
 {
-    match slot {
-        Slot::File(file) => {
+    match node {
+        Node::File(_, file) => {
             let bytes = file_bytes(alloc, parts, members, file, offset, count)?;
             Ok(Some(bytes))
         }
-        Slot::Nothing | Slot::Directory(_) => Ok(None),
+        Node::Directory(_) => Ok(None),
     }
 }

@@ -1,47 +1,46 @@
 //! What is computed once from a trace, so that its states can share it.
-
-ghost use Rattle.std.specs.Prelude.{◌≡◌, ◌≤◌, length, IfOk};
+ghost use Rattle.std.specs.Prelude.{◌≡◌, ◌≤◌, ℕ, Some, length, slice_get, IfOk};
 ghost use Rattle.cs_apm.specs.Atlases.{IsAtlas, atlas_in};
-ghost use Rattle.cs_state.specs.Names.{names_in};
+ghost use Rattle.cs_paths.specs.PathOrders.{ArePlaces};
+ghost use Rattle.cs_paths.specs.declared.path_order.PathOrder.{PathOrder as TheOrder};
+ghost use Rattle.cs_state.specs.Shares.{AreForOrders, AreIdsOf};
 
-use crate::marks::{kept_below, kept_of, marked_ids, marks_of};
-use cs_apm::making::store_of;
-use cs_apm::slot::Slot;
+use crate::kept_ids::KeptIds;
+use crate::marks::marks_of;
 use cs_apm::tables::Tables;
-use cs_micro::MicroOp;
+use cs_micro::Micros;
 use cs_names::laws::know;
+use cs_paths::{PathOrder, PathOrders};
 use cs_trace::Trace;
-use cs_tree::PlainTree;
 use std::alloc::{AllocError, Global};
 
-/// What all states of a trace share in addition to its tables. A path is given by its place among
-/// all that ever exist.
-#[derive(Drop)]
+/// What all states of a trace share in addition to its tables.
+#[derive(Debug, Drop)]
 pub struct Shares {
-    /// The paths at which every state has the same entry, ascending. A path that no state has
-    /// isn't one.
-    pub kept: Vec<u32>,
-    /// For each path, how many of these are before it.
-    pub kept_below: Vec<u32>,
-    /// The paths that some step touches, ascending: there, states may differ.
-    pub touched: Vec<u32>,
-    /// Every path, as a tree of directories with these places as its numbers.
-    pub names: PlainTree,
+    /// The moves of directories, and the orders of paths. A state keeps the first so many moves,
+    /// and has the order for that number.
+    pub paths: PathOrders,
+    /// For each of these orders, the ids at which states have the same or may differ.
+    pub ids: Vec<KeptIds>,
 }
 
-/// A tree that has each path that ever exists as a directory, numbered by its place among them. It
-/// is for names only, so all directories have the same rights, the first of the table.
-fn names_of(
+/// The ids of each of the orders. `marks` has, for each entry, whether some step touches it.
+fn ids_of(
     alloc: Global,
-    trace: &Trace,
-    ops: &[MicroOp],
     tables: &Tables,
-) -> Result<PlainTree, AllocError>
-    requires { IsAtlas trace.now ops.now (atlas_in tables.now) }
-    ensures { IfOk result (λ names. names ≡ names_in trace.now ops.now tables.now) }
+    marks: &[bool],
+    orders: &[PathOrder],
+) -> Result<Vec<KeptIds>, AllocError>
+    requires shared { AreForOrders tables.now marks.now }
+    requires places { (t : ℕ) (o : TheOrder) → slice_get orders.now t ≡ Some o
+        → ArePlaces (length tables.now.entries.items) o.places.items }
+    ensures { IfOk result (λ ids. AreIdsOf tables.now orders.now ids.items) }
 {
-    let all = vec![in alloc; Slot::Directory(0); tables.paths.len()]?;
-    store_of(alloc, trace, ops, tables, &[], &all)
+    let mut ids = Vec::new(alloc);
+    for order in orders {
+        ids.push(KeptIds::of(alloc, tables, marks, &order.places)?)?;
+    }
+    Ok(ids)
 }
 
 impl Shares {
@@ -52,25 +51,18 @@ impl Shares {
     pub fn of(
         alloc: Global,
         trace: &Trace,
-        ops: &[MicroOp],
+        micros: &Micros,
         tables: &Tables,
     ) -> Result<Shares, AllocError>
-        requires atlas { IsAtlas trace.now ops.now (atlas_in tables.now) }
-        requires few { length ops.now ≤ MICRO_OPERATIONS }
-        ensures { IfOk result (IsShares trace.now ops.now tables.now) }
+        requires atlas { IsAtlas trace.now micros.now (atlas_in tables.now) }
+        requires few { length micros.now.ops ≤ MICRO_OPERATIONS }
+        ensures { IfOk result (IsShares micros.now.ops tables.now) }
     {
-        // By the contract of `records`, they are few, so that the paths can be counted.
+        // By the contract of `records`, they are few, so that the entries can be counted.
         know(trace.records());
         let marks = marks_of(alloc, &tables.steps, tables.slots.len())?;
-        let kept = kept_of(alloc, &marks, &tables.slots)?;
-        let kept_below = kept_below(alloc, &marks, &tables.slots)?;
-        let touched = marked_ids(alloc, &marks)?;
-        let names = names_of(alloc, trace, ops, tables)?;
-        Ok(Shares {
-            kept,
-            kept_below,
-            touched,
-            names,
-        })
+        let paths = PathOrders::of(alloc, trace, micros, tables)?;
+        let ids = ids_of(alloc, tables, &marks, &paths.orders)?;
+        Ok(Shares { paths, ids })
     }
 }

@@ -1,17 +1,19 @@
 //! The state of a set, read as a tree.
-ghost use Rattle.std.specs.Prelude.{◌≡◌, Some, IfSome, IsSome};
+ghost use Rattle.std.specs.Prelude.{◌≡◌, ◌↔◌, Some, IfSome, IsSome, IsTrue};
 ghost use Rattle.std.specs.Option.{option_copied, option_map};
 ghost use Rattle.cs_tree_model.specs.Nexts.{entry_name, IsEntryBelow};
+ghost use Rattle.cs_state.specs.Named.{IsBeforeBound};
 ghost use Rattle.cs_state.specs.States.{number_shown, tree_in, IsMade};
 
+use crate::names::range_after;
 use crate::state::State;
 use cs_names::Name;
 use cs_tree_model::{ListedEntry, Metadata, TreeRead};
 use std::alloc::{AllocError, Global};
 use std::marker::Model;
 
-/// The state of a set of a trace's micro-operations. It has the members of the set, and what is at
-/// the paths that some operation touches. All else it shares with the other states of the trace.
+/// The state of a set of a trace's micro-operations. It has the members of the set, and what is in
+/// the entries that some operation touches. All else it shares with the other states of the trace.
 #[derive(Drop)]
 pub struct StateTree {
     state: State,
@@ -46,31 +48,33 @@ impl TreeRead for StateTree {
     /// The metadata of what has the number; None if nothing has. A state keeps no records: they are
     /// computed from the members and the shared tables.
     fn record(&self, number: u64) -> Option<Metadata<'_>> {
-        let found = self.state.entry_numbered(number)?;
-        self.state.metadata(number, found.slot)
+        let node = self.state.node_at(number)?;
+        Some(self.state.metadata(number, node))
     }
 
     /// The number of the entry of this name in the directory; None if there is none. The name is
-    /// looked up among all paths, and then in this state.
+    /// looked up among all entries of the directory, and then in this state.
     fn find_number(&self, directory: u64, name: &str) -> Option<u64> {
-        let found = self.state.entry_numbered(directory)?;
-        let id = self.state.path_names().find_number(found.id as u64, name)?;
-        self.state.number_of_path(id)
+        let directory = self.state.directory_at(directory)?;
+        self.state.number_of_name(directory, name)
     }
 
     /// The number of the directory of what has the number; the root's is the root. None if nothing
-    /// has the number. The parent path has a directory in every state that has the entry.
+    /// has the number. The directory of an entry that holds something is in the state.
     fn parent_of(&self, number: u64) -> Option<u64> {
-        let found = self.state.entry_numbered(number)?;
-        let id = self.state.path_names().parent_of(found.id as u64)?;
-        self.state.number_of_path(id)
+        let found = self.state.found_at(number)?;
+        match self.state.entry_of_id(found.id) {
+            None => Some(0),
+            Some(entry) => self.state.number_of_directory(entry.directory),
+        }
     }
 
     /// The name of what has the number; None for the root, and if nothing has the number. It is
-    /// lent from the shared tree of names, since a path has the same name in every state.
+    /// lent from the entries that all states share.
     fn name_of(&self, number: u64) -> Option<&Name> {
-        let found = self.state.entry_numbered(number)?;
-        self.state.path_names().name_of(found.id as u64)
+        let found = self.state.found_at(number)?;
+        let entry = self.state.entry_of_id(found.id)?;
+        Some(&entry.name)
     }
 
     /// The directory's first entry after `last`, or the first of all if that is None; None if none
@@ -81,8 +85,8 @@ impl TreeRead for StateTree {
         last: Option<&Name>,
         bound: Option<&Name>,
     ) -> Option<ListedEntry<'_>> {
-        let found = self.state.entry_numbered(directory)?;
-        entry_after_id(&self.state, found.id as u64, last, bound)
+        let directory = self.state.directory_at(directory)?;
+        entry_after_in(&self.state, directory, last, bound)
     }
 
     /// How many files and directories the state has, including the root.
@@ -105,18 +109,28 @@ impl TreeRead for StateTree {
         offset: u64,
         count: usize,
     ) -> Result<Option<Vec<u8>>, AllocError> {
-        let Some(found) = self.state.entry_numbered(number) else {
+        let Some(node) = self.state.node_at(number) else {
             return Ok(None);
         };
-        let bytes = self.state.read(alloc, found.slot, offset, count)?;
+        let bytes = self.state.read(alloc, node, offset, count)?;
         Ok(bytes)
     }
 }
 
-/// As `StateTree::entry_after`, of a directory that is given by its path's id.
-fn entry_after_id<'a>(
+/// Whether the name comes before the bound, if there is one.
+fn is_before(name: &Name, bound: Option<&Name>) -> bool
+    ensures { IsTrue result ↔ IsBeforeBound (option_copied bound.entry) name.now }
+{
+    match bound {
+        None => true,
+        Some(bound) => name.as_str() < bound.as_str(),
+    }
+}
+
+/// As `StateTree::entry_after`, of a directory that is given by its own number.
+fn entry_after_in<'a>(
     state: &'a State,
-    directory: u64,
+    directory: u32,
     last: Option<&Name>,
     bound: Option<&Name>,
 ) -> Option<ListedEntry<'a>>
@@ -126,16 +140,16 @@ fn entry_after_id<'a>(
     ensures number { IfSome result
         (λ e. number_shown state.now directory (entry_name e) ≡ Some e.number) }
 {
-    let names = state.path_names();
-    let mut from = last;
-    loop {
-        let entry = names.entry_after(directory, from, bound)?;
-        if let Some(number) = state.number_of_path(entry.number) {
-            return Some(ListedEntry {
-                name: entry.name,
-                number,
-            });
+    let entries = state.entries();
+    let (first, end) = range_after(entries, directory, last);
+    for place in first..end {
+        let name = &entries[place].name;
+        if !is_before(name, bound) {
+            return None;
         }
-        from = Some(entry.name);
+        if let Some(number) = state.number_of_place(place) {
+            return Some(ListedEntry { name, number });
+        }
     }
+    None
 }

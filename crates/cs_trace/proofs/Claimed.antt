@@ -6,12 +6,14 @@ use Rattle.cs_names.specs.Laws.{user_name_in-legal}
 use Rattle.cs_names.specs.Legal.{IsUserName}
 use Rattle.cs_tree_model.specs.Tree.{Path}
 use Rattle.cs_trace_lines.specs.Lines.{Claims}
-use Rattle.cs_trace.specs.Judging.{IsPastNames, or_bad_name, rights_in, with_path}
-use Rattle.cs_trace.specs.Names.{are_user_names, claims_by, entry_path_of, new_path_of, rights_of}
+use Rattle.cs_trace.specs.Judging.{or_bad_name, rights_in, with_path}
+use Rattle.cs_trace.specs.Kept.{Freely}
+use Rattle.cs_start.specs.Names.{entry_path_of}
+use Rattle.cs_trace.specs.Names.{are_user_names, claims_by, new_path_of, rights_of}
 use Rattle.cs_trace.specs.Outcomes.{Fails, Gives, Leaves}
 use Rattle.cs_trace.specs.declared.fault.TraceFaultKind.{TraceFaultKind}
 use Rattle.cs_trace.specs.declared.fault.TraceFaultKind.TheVariants.{BadName}
-use Rattle.cs_trace.specs.declared.operation.Rights.{Rights}
+use Rattle.cs_start.specs.declared.rights.Rights.{Rights}
 
 legal_again : (rights : Rights) → IsUserName rights.owner → IsUserName rights.group → rights_in (claims_by rights) ≡ Ok rights
 legal_again rights owner group = rw (user_name_in-legal rights.owner owner, user_name_in-legal rights.group group) refl
@@ -62,50 +64,47 @@ leaves_fault {expected = expected} {May = May} r new kind e fails = subst (λ s.
 -- ---- the header
 
 fails_header_by : {A : Type 0} (x : A) (claims : Claims) (kind : TraceFaultKind) (legal : Bool)
-    → Fails (if legal then Ok (rights_of claims) else Err BadName) kind IsOk → Fails (if legal then Ok x else Err BadName) kind IsOk
+    → Fails (if legal then Ok (rights_of claims) else Err BadName) kind IsOk → Fails (if legal then Ok x else Err BadName) kind Freely
 fails_header_by x claims kind true fails = record {
   fault = λ other. absurd (let e = fails.fault other in cc);
-  memory = λ is. fails.memory is;
+  memory = λ is. tt;
 }
-fails_header_by x claims kind false fails = record { fault = λ other. let e = fails.fault other in cc; memory = λ is. fails.memory is }
+fails_header_by x claims kind false fails = record { fault = λ other. let e = fails.fault other in cc; memory = λ is. tt }
 
 pub fails_header : {A : Type 0} (x : A) (claims : Claims) (kind : TraceFaultKind)
-    → Fails (rights_in claims) kind IsOk → Fails (if are_user_names claims then Ok x else Err BadName) kind IsOk
+    → Fails (rights_in claims) kind IsOk → Fails (if are_user_names claims then Ok x else Err BadName) kind Freely
 fails_header x claims kind fails = fails_header_by x claims kind (are_user_names claims) fails
 
 -- ---- a line with a path and rights
 
 module _ {A : Type 0} (f : Path → Claims → Result A TraceFaultKind) (claims : Claims) where
   lost_by : (o : Option Path) (kind : TraceFaultKind) → or_bad_name o ≡ Err kind
-      → Fails (with_path (option_and_then (λ p. if are_user_names claims then Some p else None) o) (λ q. f q claims)) kind IsPastNames
-  lost_by None kind e = record { fault = λ _. cc; memory = λ is. absurd (cc) }
+      → Fails (with_path (option_and_then (λ p. if are_user_names claims then Some p else None) o) (λ q. f q claims)) kind Freely
+  lost_by None kind e = record { fault = λ _. cc; memory = λ is. tt }
   lost_by (Some q) kind e = absurd (cc)
 
   -- the path isn't legal
   pub path_fails : (text : List ℕ) (kind : TraceFaultKind) → or_bad_name (entry_path_of text) ≡ Err kind
-      → Fails (with_path (new_path_of text claims) (λ q. f q claims)) kind IsPastNames
+      → Fails (with_path (new_path_of text claims) (λ q. f q claims)) kind Freely
   path_fails text kind e = lost_by (entry_path_of text) kind e
 
-  fails_by : (p : Path) (kind : TraceFaultKind) (legal : Bool) → IsPastNames (f p claims)
+  fails_by : (p : Path) (kind : TraceFaultKind) (legal : Bool)
       → Fails (if legal then Ok (rights_of claims) else Err BadName) kind IsOk
-      → Fails (with_path (if legal then Some p else None) (λ q. f q claims)) kind IsPastNames
-  fails_by p kind true past fails = record { fault = λ other. absurd (let e = fails.fault other in cc); memory = λ _. past }
-  fails_by p kind false past fails = record {
-    fault = λ other. let e = fails.fault other in cc;
-    memory = λ is. absurd (let e = fails.memory is in cc);
-  }
+      → Fails (with_path (if legal then Some p else None) (λ q. f q claims)) kind Freely
+  fails_by p kind true fails = record { fault = λ other. absurd (let e = fails.fault other in cc); memory = λ _. tt }
+  fails_by p kind false fails = record { fault = λ other. let e = fails.fault other in cc; memory = λ is. tt }
 
-  fails_at : (o : Option Path) (p : Path) (kind : TraceFaultKind) → or_bad_name o ≡ Ok p → ((q : Path) → IsPastNames (f q claims))
+  fails_at : (o : Option Path) (p : Path) (kind : TraceFaultKind) → or_bad_name o ≡ Ok p
       → Fails (rights_in claims) kind IsOk
-      → Fails (with_path (option_and_then (λ q. if are_user_names claims then Some q else None) o) (λ q. f q claims)) kind IsPastNames
-  fails_at None p kind path past fails = absurd (cc)
-  fails_at (Some q) p kind path past fails = fails_by q kind (are_user_names claims) (past q) fails
+      → Fails (with_path (option_and_then (λ q. if are_user_names claims then Some q else None) o) (λ q. f q claims)) kind Freely
+  fails_at None p kind path fails = absurd (cc)
+  fails_at (Some q) p kind path fails = fails_by q kind (are_user_names claims) fails
 
   -- the path is legal, and the rights fail
   pub rights_fail : (text : List ℕ) (p : Path) (kind : TraceFaultKind) → or_bad_name (entry_path_of text) ≡ Ok p
-      → ((q : Path) → IsPastNames (f q claims)) → Fails (rights_in claims) kind IsOk
-      → Fails (with_path (new_path_of text claims) (λ q. f q claims)) kind IsPastNames
-  rights_fail text p kind path past fails = fails_at (entry_path_of text) p kind path past fails
+      → Fails (rights_in claims) kind IsOk
+      → Fails (with_path (new_path_of text claims) (λ q. f q claims)) kind Freely
+  rights_fail text p kind path fails = fails_at (entry_path_of text) p kind path fails
 
   found_at : (o : Option Path) (p : Path) (legal : Bool) → or_bad_name o ≡ Ok p → legal ≡ true
       → with_path (option_and_then (λ q. if legal then Some q else None) o) (λ q. f q claims) ≡ f p claims

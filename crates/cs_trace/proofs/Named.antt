@@ -1,124 +1,117 @@
--- The entries of one directory as `Siblings` keeps them: by legal names, in the order of names.
-use Rattle.std.proofs.Common.{◌≡◌, ◌||◌, Bool, true, false, cond, List, [], ◌∷◌, ◌++◌, None, Some}
-use Rattle.std.proofs.Common.{length, refl, sym, ap, ◌∙◌, arith}
-use Rattle.std.specs.declared.cmp.Ordering.TheVariants.{Less, Equal, Greater}
-use Rattle.std.specs.BTreeMap.{BTreeMap, UpdatesBy, get_by_text, insert_entry}
-use Rattle.std.specs.Cmp.{tied_itself}
-use Rattle.std.specs.FinMap.{entries, find, get, get-from_entries, get-insert, get-remove}
-use Rattle.std.specs.List.{AllByRecursion, list_any, starts_with}
-use Rattle.std.specs.List.Sorted.{IsStrictlySortedBy}
-use Rattle.std.specs.Map.{keys_of, remove_entry}
-use Rattle.std.specs.Ordering.{eq_by_cmp, match_ordering, ordering_then}
-use Rattle.std.specs.String.{string_bytes, string_cmp}
-use Rattle.std.specs.declared.string.String.{String}
-use Rattle.cs_tree_model.specs.Laws.Nexts.{total}
-use Rattle.cs_tree_model.specs.Maps.Texts.{by_bytes, get_seen, seen, seen_insert, seen_remove}
-use Rattle.cs_tree_model.specs.Tree.{NameBytes, Path, name_cmp, path_cmp}
-use Rattle.cs_names.specs.Legal.{IsLegalName}
-use Rattle.cs_names.specs.Texts.{same_bytes}
-use Rattle.cs_tree_model.specs.Maps.Values.{map_values}
-use Rattle.cs_trace.specs.Below.{has_below, is_below}
-use Rattle.cs_trace.specs.Entries.{node_of}
-use Rattle.cs_trace.specs.Siblings.{HaveLegalNames, in_directory}
-use Rattle.cs_trace.specs.declared.entry.StartEntry.{StartEntry}
-use Rattle.cs_trace.proofs.Beneath.{below-name}
-use Rattle.cs_trace.proofs.InDirectory.{Named, whole}
-use Rattle.cs_trace.proofs.Trees.{has_below-start}
-use Rattle.cs_trace.proofs.Unions.{any-entries}
-use Rattle.cs_trace.proofs.Views.{entries-keyed}
+-- Paths that have a name: their directories, and what their entries hold.
+use Rattle.std.proofs.Common.{◌≡◌, ◌≢◌, ℕ, ◌==◌, Bool, true, false, List, [], ◌∷◌, ◌++◌, Option, None, Some, Result, Ok, Err, length}
+use Rattle.std.proofs.Common.{refl, sym, ap, ◌∙◌, subst, arith, ⊎_elim}
+use Rattle.std.specs.Option.{option_and_then}
+use Rattle.std.specs.Prelude.{if◌then◌else◌}
+use Rattle.std.specs.Result.{result_ok}
+use Rattle.cs_entries.specs.DirEntries.{last_name}
+use Rattle.cs_entries.specs.Entries.{Entries}
+use Rattle.cs_entries.specs.Laws.Paths.{IsMore, at_more, in_directory, last_cases}
+use Rattle.cs_entries.specs.Paths.{at_path, entry_in}
+use Rattle.cs_entries.specs.declared.node.Node.{Node}
+use Rattle.cs_entries.specs.declared.node.Node.TheVariants.{Directory}
+use Rattle.cs_names.proofs.Joined.{AreLegalNames-front}
+use Rattle.cs_names.specs.Joined.{AreLegalNames}
+use Rattle.cs_names.specs.Laws.{IsLegalName-name_in, name_in-same}
+use Rattle.cs_names.specs.Legal.{IsLegalName, name_in}
+use Rattle.cs_names.specs.Paths.{name_before, names_in, path_in}
+use Rattle.cs_names.specs.Pieces.{pieces}
+use Rattle.cs_names.specs.declared.fault.NameFault.{NameFault}
+use Rattle.cs_names.specs.declared.fault.NameFault.TheVariants.{Forbidden}
+use Rattle.cs_start.specs.Names.{below_root, entry_path_of, path_of}
+use Rattle.cs_tree_model.specs.Laws.Reads.{parent_of_snoc}
+use Rattle.cs_tree_model.specs.Tree.{Path, parent_path}
+use Rattle.cs_trace_lines.specs.Lines.{Claims}
+use Rattle.cs_trace.specs.Names.{are_user_names, new_path_of}
+use Rattle.cs_trace.proofs.StartTables.{last_of_snoc}
 
-or_false : (b : Bool) → (b || false) ≡ b
-or_false true = refl
-or_false false = refl
+pub whole_path : (p : Path) → p ≢ [] → parent_path p ++ last_name p ∷ [] ≡ p
+whole_path p named = ⊎_elim
+    (λ (none : p ≡ []). absurd (named none))
+    (λ (w : IsMore p).
+    (let front = ap parent_path w.is ∙ parent_of_snoc w.front w.last in
+    let last = ap last_name w.is ∙ last_of_snoc w.front w.last in
+    (λ i. front i ++ last i ∷ []) ∙ sym w.is))
+    (last_cases p)
 
-or_same : (b : Bool) → (b || b) ≡ b
-or_same true = refl
-or_same false = refl
+some_path : (front : Path) (name : List ℕ) → front ++ name ∷ [] ≢ []
+some_path [] name none = absurd (cc)
+some_path (x ∷ front) name none = absurd (cc)
 
--- ---- a change of one name
+-- a path that has a last name
+pub record HasLast (p front : Path) (name : List ℕ) : Type 0 where
+  pub parent : parent_path p ≡ front
+  pub last : last_name p ≡ name
+  pub some : p ≢ []
 
-module _ {Y X : Type 0} (m n : BTreeMap (String Y) X) (k : NameBytes) where
-  pub find-inserted : (v : X) → UpdatesBy string_cmp (λ l. name_cmp k (string_bytes l)) m n (Some v) → (x : NameBytes)
-      → find name_cmp x (by_bytes n.entries) ≡ cond (eq_by_cmp name_cmp x k) (Some v) (find name_cmp x (by_bytes m.entries))
-  find-inserted v h x =
-      sym (get-from_entries total (by_bytes n.entries) x)
-      ∙ ap (λ l. get l x) (seen_insert m n k v h)
-      ∙ get-insert total (seen m) k v x
-      ∙ ap (cond (eq_by_cmp name_cmp x k) (Some v)) (get-from_entries total (by_bytes m.entries) x)
+pub has_last : (p front : Path) (name : List ℕ) → p ≡ front ++ name ∷ [] → HasLast p front name
+has_last p front name is = record {
+  parent = ap parent_path is ∙ parent_of_snoc front name;
+  last = ap last_name is ∙ last_of_snoc front name;
+  some = λ none. some_path front name (sym is ∙ none);
+}
 
-  pub find-removed : UpdatesBy string_cmp (λ l. name_cmp k (string_bytes l)) m n None → (x : NameBytes)
-      → find name_cmp x (by_bytes n.entries) ≡ cond (eq_by_cmp name_cmp x k) None (find name_cmp x (by_bytes m.entries))
-  find-removed h x =
-      sym (get-from_entries total (by_bytes n.entries) x)
-      ∙ ap (λ l. get l x) (seen_remove m n k h)
-      ∙ get-remove total (seen m) k x
-      ∙ ap (cond (eq_by_cmp name_cmp x k) None) (get-from_entries total (by_bytes m.entries) x)
+-- what is at a path is what its entry holds
+pub at_entry : (m : Entries) (p : Path) (d : ℕ) → p ≢ [] → at_path m (parent_path p) ≡ Some (Directory d)
+    → at_path m p ≡ m (entry_in d (last_name p))
+at_entry m p d named above =
+    ap (at_path m) (sym (whole_path p named)) ∙ at_more m (parent_path p) (last_name p) d above
 
-pub find-text : {Y X : Type 0} (m : BTreeMap (String Y) X) (k : NameBytes) → get_by_text m k ≡ find name_cmp k (by_bytes m.entries)
-find-text m k = sym (get_seen m k) ∙ get-from_entries total (by_bytes m.entries) k
+-- above what is there is a directory
+pub above_is : (m : Entries) (p : Path) (node : Node) → p ≢ [] → at_path m p ≡ Some node
+    → (d : ℕ) × (at_path m (parent_path p) ≡ Some (Directory d))
+above_is m p node named at =
+    let i = in_directory m (parent_path p) (last_name p) node (ap (at_path m) (whole_path p named) ∙ at) in
+    (i.directory, i.above)
 
-name_less : (c : Path) (n x : NameBytes) → name_cmp n x ≡ Less → path_cmp (c ++ n ∷ []) (c ++ x ∷ []) ≡ Less
-name_less [] n x is = ap (λ o. ordering_then o Equal) is
-name_less (y ∷ c) n x is =
-    ap (λ o. ordering_then o (path_cmp (c ++ n ∷ []) (c ++ x ∷ []))) (tied_itself total y) ∙ name_less c n x is
+-- ---- names that are read are legal
 
-any_name : (d q : Path) (e : NameBytes × StartEntry) (es : Named)
-    → list_any (λ e. is_below q e.0) (in_directory d (e ∷ es)) ≡ starts_with same_bytes d q
-any_name d q e [] = ap (λ b. b || false) (below-name q d e.0) ∙ or_false (starts_with same_bytes d q)
-any_name d q e (f ∷ es) = (λ i. below-name q d e.0 i || any_name d q f es i) ∙ or_same (starts_with same_bytes d q)
+names_by : (text : List ℕ) (p : Path) (first : Result (List ℕ) NameFault) (others : Result Path NameFault) → name_in text ≡ first
+    → ((q : Path) → others ≡ Ok q → AreLegalNames q) → name_before first others ≡ Ok p → AreLegalNames p
+names_by text p (Err fault) others is rest e = absurd (cc)
+names_by text p (Ok name) (Err fault) is rest e = absurd (cc)
+names_by text p (Ok name) (Ok more) is rest e =
+    let whole : name ∷ more ≡ p = cc in
+    let same = name_in-same text name is in
+    subst AreLegalNames whole (subst IsLegalName same (IsLegalName-name_in text (is ∙ ap Ok (sym same))), rest more refl)
 
--- ---- each name is legal
+legal_names : (texts p : Path) → names_in texts ≡ Ok p → AreLegalNames p
+legal_names [] p e = let none : [] ≡ p = cc in subst AreLegalNames none tt
+legal_names (text ∷ texts) p e = names_by text p (name_in text) (names_in texts) refl (legal_names texts) e
 
-module _ {Y : Type 0} where
-  pub names-insert : (k : String Y) (v : StartEntry) (es : List (String Y × StartEntry)) → IsLegalName (string_bytes k)
-      → HaveLegalNames (by_bytes es) → HaveLegalNames (by_bytes (insert_entry string_cmp es k v))
-  names-insert k v [] legal all = (legal, tt)
-  names-insert k v (e ∷ es) legal all =
-      elim (string_cmp k e.0)
-      as (λ o. HaveLegalNames (by_bytes (match_ordering o ((k, v) ∷ e ∷ es) ((e.0, v) ∷ es) (e ∷ insert_entry string_cmp es k v)))) [
-        | Less ↦ (legal, all)
-        | Equal ↦ all
-        | Greater ↦ (all.0, names-insert k v es legal all.1)
-      ]
+legal_by : (slash alone : Bool) (rest : List ℕ) (p : Path)
+    → (if slash then (if alone then Ok [] else names_in (pieces 47 rest)) else Err Forbidden) ≡ Ok p → AreLegalNames p
+legal_by false alone rest p e = absurd (cc)
+legal_by true true rest p e = let none : [] ≡ p = cc in subst AreLegalNames none tt
+legal_by true false rest p e = legal_names (pieces 47 rest) p e
 
-  pub names-remove : (test : String Y → Bool) (es : List (String Y × StartEntry))
-      → HaveLegalNames (by_bytes es) → HaveLegalNames (by_bytes (remove_entry test es))
-  names-remove test [] all = tt
-  names-remove test (e ∷ es) all =
-      elim (test e.0) as (λ b. HaveLegalNames (by_bytes (cond b es (e ∷ remove_entry test es)))) [
-        | true ↦ all.1
-        | false ↦ (all.0, names-remove test es all.1)
-      ]
+legal_text : (text : List ℕ) (p : Path) → path_in text ≡ Ok p → AreLegalNames p
+legal_text [] p e = absurd (cc)
+legal_text (c ∷ rest) p e = legal_by (c == 47) (length rest == 0) rest p e
 
-module _ {Y : Type 0} (d : Path) where
-  -- ---- the entries in the order of paths
+ok_is : (r : Result Path NameFault) (p : Path) → result_ok r ≡ Some p → r ≡ Ok p
+ok_is (Ok q) p e = let same : q ≡ p = cc in ap Ok same
+ok_is (Err fault) p e = absurd (cc)
 
-  all_less : (k : String Y) (es : List (String Y × StartEntry)) → AllByRecursion (λ l. string_cmp k l ≡ Less) (keys_of es)
-      → AllByRecursion (λ l. path_cmp (d ++ string_bytes k ∷ []) l ≡ Less) (keys_of (in_directory d (by_bytes es)))
-  all_less k [] all = tt
-  all_less k (e ∷ es) all = (name_less d (string_bytes k) (string_bytes e.0) all.0, all_less k es all.1)
+below_is : (read : Option Path) (p : Path) → option_and_then below_root read ≡ Some p → (read ≡ Some p) × (p ≢ [])
+below_is None p e = absurd (cc)
+below_is (Some []) p e = absurd (cc)
+below_is (Some (x ∷ names)) p e =
+    let same : x ∷ names ≡ p = cc in (ap Some same, λ none. let no : x ∷ names ≡ [] = same ∙ none in absurd (cc))
 
-  sorted_paths : (es : List (String Y × StartEntry)) → IsStrictlySortedBy string_cmp (keys_of es)
-      → IsStrictlySortedBy path_cmp (keys_of (in_directory d (by_bytes es)))
-  unfolding IsStrictlySortedBy
-  sorted_paths [] sorted = tt
-  sorted_paths (e ∷ es) sorted = (all_less e.0 es sorted.0, sorted_paths es sorted.1)
+-- the path of an entry has a last name, which isn't empty
+pub entry_named : (text : List ℕ) (p : Path) → entry_path_of text ≡ Some p → (p ≢ []) × (last_name p ≢ [])
+entry_named text p e =
+    let read = below_is (path_of text) p e in
+    let legal = legal_text text p (ok_is (path_in text) p read.0) in
+    let last = (AreLegalNames-front (parent_path p) (last_name p) (subst AreLegalNames (sym (whole_path p read.1)) legal)).1 in
+    (read.1, λ none. (let some = last.some in omega (arith, some, ap length none)))
 
-  pub entries-whole : (es : List (String Y × StartEntry)) → IsStrictlySortedBy string_cmp (keys_of es)
-      → entries (whole d (by_bytes es)) ≡ in_directory d (by_bytes es)
-  entries-whole es sorted = entries-keyed (in_directory d (by_bytes es)) (sorted_paths es sorted)
-
-  -- ---- what is below a path
-
-  pub below-nothing : (q : Path) (es : List (String Y × StartEntry)) → length es ≡ 0
-      → false ≡ has_below (map_values node_of (whole d (by_bytes es))) q
-  below-nothing q [] none = sym (any-entries {X = StartEntry} (is_below q) []) ∙ has_below-start q (whole d [])
-  below-nothing q (e ∷ es) none = absurd (omega arith)
-
-  pub below-whole : (q : Path) (es : List (String Y × StartEntry)) → (length es ≡ 0 → ⊥)
-      → starts_with same_bytes d q ≡ has_below (map_values node_of (whole d (by_bytes es))) q
-  below-whole q [] some = absurd (some refl)
-  below-whole q (e ∷ es) some =
-      sym (any_name d q (string_bytes e.0, e.1) (by_bytes es))
-      ∙ sym (any-entries (is_below q) (in_directory d (by_bytes (e ∷ es))))
-      ∙ has_below-start q (whole d (by_bytes (e ∷ es)))
+-- the same of the path of a new entry
+pub named_new : (text : List ℕ) (claims : Claims) (p : Path) → new_path_of text claims ≡ Some p → (p ≢ []) × (last_name p ≢ [])
+named_new text claims p is = entry_named text p (by (are_user_names claims) (entry_path_of text) is)
+  where
+    by : (legal : Bool) (o : Option Path) → option_and_then (λ q. if legal then Some q else None) o ≡ Some p → o ≡ Some p
+    by legal None e = absurd (cc)
+    by true (Some q) e = e
+    by false (Some q) e = absurd (cc)

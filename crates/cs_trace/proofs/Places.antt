@@ -5,7 +5,7 @@ use Rattle.std.proofs.lemmas.Bool.{eqb-true, eq-eqb, false≢true}
 use Rattle.std.proofs.lemmas.List.{ext_get_or, get_or-append-add, get_or-map, get_or-replicate, get_or-set_other, get_or-set_same}
 use Rattle.std.proofs.lemmas.List.{get_or_append_left, length-map, length-set}
 use Rattle.std.proofs.lemmas.List.{length-replicate}
-use Rattle.std.proofs.lemmas.Option.{same_Some, slice_get-map, slice_get_cases}
+use Rattle.std.proofs.lemmas.Option.{slice_get-map, slice_get_cases}
 use Rattle.std.specs.FinMap.{entries}
 use Rattle.std.specs.List.{slice_get}
 use Rattle.std.specs.Option.{option_or}
@@ -15,14 +15,13 @@ use Rattle.cs_tree_model.specs.Listing.{IsListing}
 use Rattle.cs_tree_model.specs.Maps.Values.{entries-map_values, map_entries}
 use Rattle.cs_tree_model.specs.Tree.{Path, path_cmp}
 use Rattle.cs_tree_model.specs.declared.record.Record.{Record}
-use Rattle.cs_trace.specs.Entries.{Entries, nodes_in, record_of, records_in}
-use Rattle.cs_trace.specs.Owned.{is_own, or_root, own_in, own_paths, with_place, with_places}
-use Rattle.cs_trace.specs.States.{State}
-use Rattle.cs_trace.specs.Traces.{IsTrace, Trace, path_at, trace_of_state}
-use Rattle.cs_trace.specs.declared.entry.StartEntry.{StartEntry}
-use Rattle.cs_trace.specs.declared.operation.Node.{Node}
-use Rattle.cs_trace.specs.declared.operation.Node.TheVariants.{Directory, File}
-use Rattle.cs_trace.proofs.Owned.{Listed, length-own_paths}
+use Rattle.cs_start.specs.Entries.{StartEntries, nodes_in, record_of, records_in}
+use Rattle.cs_start.specs.Owned.{is_own, number_of, or_root, own_in, own_paths, with_place, with_places}
+use Rattle.cs_trace.specs.State.{State}
+use Rattle.cs_trace.specs.Traces.{IsFileNumbered, IsTrace, Trace, path_at, trace_of_state}
+use Rattle.cs_start.specs.declared.entry.StartEntry.{StartEntry}
+use Rattle.cs_entries.specs.declared.node.Node.{Node}
+use Rattle.cs_start.proofs.Owned.{Listed, length-own_paths}
 
 -- ---- one entry
 
@@ -31,7 +30,7 @@ length-placed_by true ps number k = length-set ps number k
 length-placed_by false ps number k = refl
 
 length-with_place : (ps : List ℕ) (k : ℕ) (e : StartEntry) → length (with_place ps k e) ≡ length ps
-length-with_place ps k e = length-placed_by e.own ps e.number k
+length-with_place ps k e = length-placed_by e.own ps (number_of e.node) k
 
 length-with_places : (ps : List ℕ) (k : ℕ) (es : Listed) → length (with_places ps k es) ≡ length ps
 length-with_places ps k [] = refl
@@ -67,7 +66,7 @@ module _ {X : Type 0} (all : List (Path × X)) (n : ℕ) where
       place_of (k + 1) es (with_place ps k e.1) (subst (λ l. n < l) (sym (length-with_place ps k e.1)) low)
       (λ j. let next : k + 1 + j ≡ k + suc j = omega arith in ap (path_at all) next ∙ at (suc j))
       ∙ or_both (own_in n es) (if is_own n e.1 then Some e.0 else None) _ (path_at all (get_or ps n 0))
-      (placed_by e.1.own (e.1.number == n) e.1.number k e.0 ps low here refl)
+      (placed_by e.1.own (number_of e.1.node == n) (number_of e.1.node) k e.0 ps low here refl)
 
 -- ---- all entries
 
@@ -80,7 +79,7 @@ root_first : (rs : List (Path × Record)) → IsListing rs → path_at rs 0 ≡ 
 root_first [] is = absurd is
 root_first (r ∷ rs) is = is.0.path
 
-own_at : (m : Entries) (count n : ℕ) (same : Bool) → n == count ≡ same → n < suc count
+own_at : (m : StartEntries) (count n : ℕ) (same : Bool) → n == count ≡ same → n < suc count
     → (n < count → get_or (own_paths m count) n [] ≡ or_root (own_in n (entries m)))
     → get_or (own_paths m count ++ or_root (own_in count (entries m)) ∷ []) n [] ≡ or_root (own_in n (entries m))
 own_at m count n true is low old =
@@ -96,7 +95,7 @@ own_at m count n false is low old =
     (subst (λ l. n < l) (sym (length-own_paths m count)) other)
     ∙ old other
 
-get-own_paths : (m : Entries) (count n : ℕ) → n < count → get_or (own_paths m count) n [] ≡ or_root (own_in n (entries m))
+get-own_paths : (m : StartEntries) (count n : ℕ) → n < count → get_or (own_paths m count) n [] ≡ or_root (own_in n (entries m))
 get-own_paths m zero n low = absurd (omega (arith, low))
 get-own_paths m (suc count) n low = own_at m count n (n == count) refl low (get-own_paths m count n)
 
@@ -104,7 +103,7 @@ or_nothing : (o : Option Path) (p : Path) → p ≡ [] → path_or o p ≡ or_ro
 or_nothing None p is = is
 or_nothing (Some q) p is = refl
 
-module _ (m : Entries) (rs : List (Path × Record)) (count : ℕ) (is : rs ≡ records_in m) (listing : IsListing rs) where
+module _ (m : StartEntries) (rs : List (Path × Record)) (count : ℕ) (is : rs ≡ records_in m) (listing : IsListing rs) where
   abbrev pub places : List ℕ
   places = with_places (replicate count 0) 0 (entries m)
 
@@ -175,11 +174,8 @@ module _ (rs : List (Path × Record)) (places : List ℕ) (n : ℕ) where
       (λ (past : (length rs ≤ place) × (slice_get rs place ≡ None)). absurd (no_record past.1))
       (slice_get_cases rs place).1
     where
-      not_same : (k : ℕ) → Directory ≡ File k → ⊥
-      not_same k is = absurd (cc)
-
       no_record : slice_get rs place ≡ None → ⊥
       no_record past =
           let root : slice_get t.files n ≡ Some [] =
           ap (λ ps. slice_get ps n) files ∙ placed_at (Some place) at ∙ ap Some (path_past rs place past) in
-          not_same n (same_Some Directory (File n) (sym whole.nested.root ∙ whole.numbered n [] root))
+          subst (IsFileNumbered n) whole.root (whole.numbered n [] root)

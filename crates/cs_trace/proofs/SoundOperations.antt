@@ -1,150 +1,350 @@
--- What each operation leaves is still short, known, counted and octal.
-use Rattle.std.proofs.Common.{◌≡◌, ◌≢◌, ℕ, zero, suc, ◌+◌, ◌<◌, ◌≤◌, true, false, List, [], ◌∷◌, ◌++◌, length, ⊎_elim}
-use Rattle.std.proofs.Common.{Option, None, Some, refl, sym, ap, ◌∙◌, subst, arith, length-append}
-use Rattle.std.proofs.lemmas.Option.{same_Some}
+-- What a legal operation leaves: a tree, whose files and directories have numbers that were given.
+use Rattle.std.proofs.Common.{◌≡◌, ◌≢◌, ◌⊎◌, ℕ, zero, suc, ◌+◌, ◌<◌, ◌≤◌, ◌==◌, Bool, true, false, cond, List, [], ◌∷◌, ◌++◌, length}
+use Rattle.std.proofs.Common.{Option, None, Some, refl, sym, ap, ◌∙◌, subst, arith, ⊎_elim, inl, inr, length-append}
+use Rattle.std.proofs.lemmas.Bool.{cases_lt, eq-eqb, eqb-true, false≢true}
 use Rattle.std.proofs.lemmas.List.{length-set}
-use Rattle.std.specs.FinMap.{get, insert, remove}
+use Rattle.std.proofs.lemmas.Option.{same_Some}
+use Rattle.std.specs.FinMap.{get}
 use Rattle.std.specs.List.{slice_get}
-use Rattle.std.specs.Option.{option_map_or}
-use Rattle.std.specs.Ordering.{eq_by_cmp}
-use Rattle.std.specs.Prelude.{slice_set}
-use Rattle.cs_names.specs.declared.limits.TheConstants.{TRACE_PATH_NAMES}
-use Rattle.cs_tree_model.specs.Laws.Fresh.{not_both}
-use Rattle.cs_tree_model.specs.Laws.Paths.{path_cases, path_exact, path_total}
-use Rattle.cs_tree_model.specs.Maps.Changes.{get-remove_same, get-remove_other}
-use Rattle.cs_tree_model.specs.Tree.{Path, path_cmp}
-use Rattle.cs_trace.specs.Attributes.{Attributes, attributes_after}
-use Rattle.cs_trace.specs.Judging.{AreShort}
-use Rattle.cs_trace.specs.Operations.{AreLegal, IsLegal, Paths, made_by, moved, paths_after, paths_after_all, sizes_after}
-use Rattle.cs_trace.specs.Operations.{sizes_after_all, written_size}
-use Rattle.cs_trace.specs.declared.operation.Node.{Node}
-use Rattle.cs_trace.specs.declared.operation.Node.TheVariants.{Directory, File}
-use Rattle.cs_trace.specs.declared.operation.Operation.{Operation as Resolved}
+use Rattle.std.specs.Prelude.{if◌then◌else◌}
+use Rattle.cs_entries.specs.DirEntries.{entry_of, root_home}
+use Rattle.cs_entries.specs.declared.entry.Entry.{Entry}
+use Rattle.cs_entries.specs.Entries.{Entries, EntryOp, after, entry_eq, put}
+use Rattle.cs_entries.specs.Entries as entry
+use Rattle.cs_entries.specs.Laws.One.{entry_cases}
+use Rattle.cs_entries.specs.Laws.Records.{table_step}
+use Rattle.cs_entries.specs.Laws.Trees.{tree_after}
+use Rattle.cs_entries.specs.Legal.{IsTree}
+use Rattle.cs_entries.specs.Legal.{IsLegal as IsLegalEntryOp}
+use Rattle.cs_entries.specs.Tables.{held_in, table_after}
+use Rattle.cs_entries.specs.declared.entry.DirEntry.{DirEntry}
+use Rattle.cs_entries.specs.declared.node.FileKind.{FileKind}
+use Rattle.cs_entries.specs.declared.node.FileKind.TheVariants as kinds
+use Rattle.cs_entries.specs.declared.node.Node.{Node}
+use Rattle.cs_entries.specs.declared.node.Node.TheVariants.{Directory, File}
+use Rattle.cs_trace.specs.Operations.{AreLegal, FileSystem, IsLegal, MayReplace, entry_op, homes_after, made_by, place_of, sizes_after}
+use Rattle.cs_trace.specs.Operations.{system_after, system_after_all, written_size}
+use Rattle.cs_trace.specs.declared.operation.Operation.{Operation}
 use Rattle.cs_trace.specs.declared.operation.Operation.TheVariants as op
-use Rattle.cs_trace.specs.declared.operation.Rights.{Rights}
-use Rattle.cs_trace.specs.declared.operation.Target.TheVariants as targets
-use Rattle.cs_trace.proofs.Resolved.{AreKnown, AreOctal, MakesShort}
-use Rattle.cs_trace.proofs.Sound.{each_of, file_number, pushed_octal, not_file}
+use Rattle.cs_trace_lines.specs.Versions.{is_fourth}
+use Rattle.cs_trace_lines.specs.declared.version.Version.{Version}
+use Rattle.cs_trace.proofs.Homed.{place_within}
+use Rattle.cs_trace.proofs.Sound.{IsNow}
+use Rattle.cs_trace.proofs.Taken.{place_at}
 
-pub legal_push : (m : Paths) (sizes : List ℕ) (ops : List Resolved) (o : Resolved) → AreLegal m sizes ops
-    → IsLegal (paths_after_all m ops) (sizes_after_all sizes ops) o → AreLegal m sizes (ops ++ o ∷ [])
-legal_push m sizes [] o all last = (last, tt)
-legal_push m sizes (x ∷ ops) o all last = (all.0, legal_push (paths_after m x) (sizes_after sizes x) ops o all.1 last)
+pub legal_push : (version : Version) (fs : FileSystem) (ops : List Operation) (o : Operation) → AreLegal version fs ops
+    → IsLegal version (system_after_all fs ops) o → AreLegal version fs (ops ++ o ∷ [])
+legal_push version fs [] o all last = (last, tt)
+legal_push version fs (x ∷ ops) o all last = (all.0, legal_push version (system_after fs x) ops o all.1 last)
 
-stood : (m : Paths) (p q : Path) (node : Node) → get (remove m p) q ≡ Some node → get m q ≡ Some node
-stood m p q node there = ⊎_elim
-    (λ (one : (eq_by_cmp path_cmp q p ≡ true) × (q ≡ p)). absurd
-    (not_both _ node (get-remove_same path_total path_exact m p) (ap (get (remove m p)) (sym one.1) ∙ there)))
-    (λ (two : (eq_by_cmp path_cmp q p ≡ false) × (q ≢ p)). sym (get-remove_other path_total path_exact m q p two.1) ∙ there)
-    (path_cases q p)
+-- ---- lists that grow
 
--- what holds of each path, and of the moved node at its new path, holds after a move
-moved_each : (m : Paths) (p q : Path) (P : Path → Node → Type 0) → ((r : Path) (node : Node) → get m r ≡ Some node → P r node)
-    → ((node : Node) → P p node → P q node)
-    → (here : Option Node) → get m p ≡ here → (r : Path) (node : Node)
-    → get (option_map_or (λ n. insert (remove m p) q n) here m) r ≡ Some node → P r node
-moved_each m p q P all goes None at r node there = all r node there
-moved_each m p q P all goes (Some n) at r node there =
-    each_of (remove m p) q n P (goes n (all p n at)) (λ s w apart old. all s w (stood m p s w old)) r node there
+pub slice_get-push_old : {X : Type 0} (xs : List X) (x : X) (n : ℕ) (y : X) → slice_get xs n ≡ Some y → slice_get (xs ++ x ∷ []) n ≡ Some y
+slice_get-push_old [] x n y is = absurd (cc)
+slice_get-push_old (z ∷ xs) x zero y is = is
+slice_get-push_old (z ∷ xs) x (suc n) y is = slice_get-push_old xs x n y is
 
-pub short_after : (m : Paths) (o : Resolved) → AreShort m → MakesShort o → AreShort (paths_after m o)
-short_after m (op.Creat p file rights) short new =
-    each_of m p (File file) (λ q _. length q ≤ TRACE_PATH_NAMES) new (λ q node apart there. short q node there)
-short_after m (op.Mkdir p rights) short new =
-    each_of m p Directory (λ q _. length q ≤ TRACE_PATH_NAMES) new (λ q node apart there. short q node there)
-short_after m (op.Link p file) short new =
-    each_of m p (File file) (λ q _. length q ≤ TRACE_PATH_NAMES) new (λ q node apart there. short q node there)
-short_after m (op.Unlink p) short new = λ q node there. short q node (stood m p q node there)
-short_after m (op.Rmdir p) short new = λ q node there. short q node (stood m p q node there)
-short_after m (op.Rename p q) short new = moved_each m p q (λ r _. length r ≤ TRACE_PATH_NAMES) short (λ _ _. new) (get m p) refl
-short_after m (op.Write file size offset bytes) short new = short
-short_after m (op.Truncate file size to) short new = short
-short_after m (op.SetAttr target before after) short new = short
-short_after m (op.Sync covered) short new = short
-short_after m op.Say short new = short
+pub slice_get-push_new : {X : Type 0} (xs : List X) (x : X) → slice_get (xs ++ x ∷ []) (length xs) ≡ Some x
+slice_get-push_new [] x = refl
+slice_get-push_new (z ∷ xs) x = slice_get-push_new xs x
 
-abbrev IsBelow : ℕ → Path → Node → Type 0
-IsBelow count p node = (file : ℕ) → node ≡ File file → file < count
+pub slice_get-push : {X : Type 0} (xs : List X) (x : X) (n : ℕ) (y : X) → slice_get (xs ++ x ∷ []) n ≡ Some y
+    → (slice_get xs n ≡ Some y) ⊎ ((n ≡ length xs) × (y ≡ x))
+slice_get-push [] x zero y is = inr (refl, sym (same_Some x y is))
+slice_get-push [] x (suc n) y is = absurd (cc)
+slice_get-push (z ∷ xs) x zero y is = inl is
+slice_get-push (z ∷ xs) x (suc n) y is = ⊎_elim (λ old. inl old) (λ new. inr (ap suc new.0, new.1)) (slice_get-push xs x n y is)
 
-all_below : (m : Paths) (sizes : List ℕ) → AreKnown m sizes → (p : Path) (node : Node) → get m p ≡ Some node → IsBelow (length sizes) p node
-all_below m sizes known p node there file is = known p file (there ∙ ap Some is)
+-- ---- what is there afterwards was there before, or came
 
-known_of : (m : Paths) (sizes : List ℕ) → ((p : Path) (node : Node) → get m p ≡ Some node → IsBelow (length sizes) p node)
-    → AreKnown m sizes
-known_of m sizes all p file there = all p (File file) there file refl
+node_is : (a b : Node) → Some a ≡ Some b → a ≡ b
+node_is a b h = cc
 
-more_known : (m : Paths) (sizes more : List ℕ) → length sizes ≤ length more → AreKnown m sizes → AreKnown m more
-more_known m sizes more longer known p file there = let low = known p file there in omega arith
+no_node : (node : Node) → None ≡ Some node → ⊥
+no_node node h = cc
 
-pub known_after : (m : Paths) (sizes : List ℕ) (o : Resolved) → AreKnown m sizes → IsLegal m sizes o
-    → AreKnown (paths_after m o) (sizes_after sizes o)
-known_after m sizes (op.Creat p file rights) known fits =
-    known_of (insert m p (File file)) (sizes ++ 0 ∷ []) (each_of m p (File file) (IsBelow (length (sizes ++ 0 ∷ [])))
-    (λ n is. let same = file_number file n is in omega (arith, same, fits.1, length-append sizes (0 ∷ [])))
-    (λ q node apart there n is. let low = all_below m sizes known q node there n is in omega (arith, low, length-append sizes (0 ∷ []))))
-known_after m sizes (op.Mkdir p rights) known fits =
-    known_of (insert m p Directory) sizes (each_of m p Directory (IsBelow (length sizes)) (λ n is. not_file n is)
-    (λ q node apart there. all_below m sizes known q node there))
-known_after m sizes (op.Link p file) known fits =
-    known_of (insert m p (File file)) sizes (each_of m p (File file) (IsBelow (length sizes))
-    (λ n is. let same = file_number file n is in omega (arith, same, fits.2)) (λ q node apart there. all_below m sizes known q node there))
-known_after m sizes (op.Unlink p) known fits = λ q file there. known q file (stood m p q (File file) there)
-known_after m sizes (op.Rmdir p) known fits = λ q file there. known q file (stood m p q (File file) there)
-known_after m sizes (op.Rename p q) known fits =
-    known_of (moved p q m) sizes (moved_each m p q (IsBelow (length sizes)) (all_below m sizes known) (λ node low. low) (get m p) refl)
-known_after m sizes (op.Write file size offset bytes) known fits =
-    more_known m sizes _ (omega (arith, length-set sizes file (written_size size offset bytes))) known
-known_after m sizes (op.Truncate file size to) known fits = more_known m sizes _ (omega (arith, length-set sizes file to)) known
-known_after m sizes (op.SetAttr target before after) known fits = known
-known_after m sizes (op.Sync covered) known fits = known
-known_after m sizes op.Say known fits = known
+no_file : (d : ℕ) (kind : FileKind) (file : ℕ) → Directory d ≡ File kind file → ⊥
+no_file d kind file h = cc
 
-pub counted_after : (sizes : List ℕ) (made : ℕ) (o : Resolved) → length sizes ≤ made → length (sizes_after sizes o) ≤ made + made_by o
-counted_after sizes made (op.Creat p file rights) few = omega (arith, length-append sizes (0 ∷ []))
-counted_after sizes made (op.Mkdir p rights) few = omega arith
-counted_after sizes made (op.Link p file) few = omega arith
-counted_after sizes made (op.Unlink p) few = omega arith
-counted_after sizes made (op.Rmdir p) few = omega arith
-counted_after sizes made (op.Rename p q) few = omega arith
-counted_after sizes made (op.Write file size offset bytes) few = omega (arith, length-set sizes file (written_size size offset bytes))
-counted_after sizes made (op.Truncate file size to) few = omega (arith, length-set sizes file to)
-counted_after sizes made (op.SetAttr target before after) few = omega arith
-counted_after sizes made (op.Sync covered) few = omega arith
-counted_after sizes made op.Say few = omega arith
+same_file : (k l : FileKind) (a b : ℕ) → File k a ≡ File l b → a ≡ b
+same_file k l a b h = cc
 
--- these rights in place of those at the number
-set_octal : (rs : List Rights) (k : ℕ) (r : Rights) → ((n : ℕ) (q : Rights) → slice_get rs n ≡ Some q → q.permissions ≤ 511)
-    → r.permissions ≤ 511
-    → (n : ℕ) (q : Rights) → slice_get (slice_set rs k r) n ≡ Some q → q.permissions ≤ 511
-set_octal [] k r old octal n q at = old n q at
-set_octal (x ∷ rs) zero r old octal zero q at = subst (λ (w : Rights). w.permissions ≤ 511) (same_Some r q at) octal
-set_octal (x ∷ rs) zero r old octal (suc n) q at = old (suc n) q at
-set_octal (x ∷ rs) (suc k) r old octal zero q at = old zero q at
-set_octal (x ∷ rs) (suc k) r old octal (suc n) q at = set_octal rs k r (λ m w there. old (suc m) w there) octal n q at
+same_directory : (a b : ℕ) → Directory a ≡ Directory b → a ≡ b
+same_directory a b h = cc
 
-pub rights_after : (m : Paths) (sizes : List ℕ) (a : Attributes) (o : Resolved) → AreOctal a → IsLegal m sizes o
-    → AreOctal (attributes_after a o)
-rights_after m sizes a (op.Creat p file rights) old fits =
-    record { files = pushed_octal a.files rights old.files fits.2; directories = old.directories }
-rights_after m sizes a (op.Mkdir p rights) old fits =
-    record {
-      files = old.files;
-      directories = each_of a.directories p rights (λ q r. r.permissions ≤ 511) fits.1
-          (λ q r apart there. old.directories q r there);
-    }
-rights_after m sizes a (op.Link p file) old fits = old
-rights_after m sizes a (op.Unlink p) old fits = old
-rights_after m sizes a (op.Rmdir p) old fits = old
-rights_after m sizes a (op.Rename p q) old fits = old
-rights_after m sizes a (op.Write file size offset bytes) old fits = old
-rights_after m sizes a (op.Truncate file size to) old fits = old
-rights_after m sizes a (op.SetAttr (targets.File file) before after) old fits =
-    record { files = set_octal a.files file after old.files fits.2; directories = old.directories }
-rights_after m sizes a (op.SetAttr (targets.Directory p) before after) old fits =
-    record {
-      files = old.files;
-      directories = each_of a.directories p after (λ q r. r.permissions ≤ 511) fits.1
-          (λ q r apart there. old.directories q r there);
-    }
-rights_after m sizes a (op.Sync covered) old fits = old
-rights_after m sizes a op.Say old fits = old
+module _ (m : Entries) where
+  abbrev pub Comes : EntryOp → Entry → Node → Type 0
+  Comes (entry.Create f n) e node = (f ≡ e) × (n ≡ node)
+  Comes (entry.Link f kind file) e node = (f ≡ e) × (File kind file ≡ node)
+  Comes (entry.Move a b n old) e node = (b ≡ e) × (m a ≡ Some node)
+  Comes _ e node = ⊥
+
+  pub after_cases : (o : EntryOp) (e : Entry) (node : Node) → after m o e ≡ Some node → (m e ≡ Some node) ⊎ Comes o e node
+  after_cases (entry.Create f n) e node is = ⊎_elim
+      (λ (one : (entry_eq f e ≡ true) × (f ≡ e)).
+      inr (one.1, node_is n node (sym (ap (λ b. cond b (Some n) (m e)) one.0) ∙ is)))
+      (λ (two : (entry_eq f e ≡ false) × (f ≢ e)). inl (sym (ap (λ b. cond b (Some n) (m e)) two.0) ∙ is))
+      (entry_cases f e)
+  after_cases (entry.Link f kind file) e node is = ⊎_elim
+      (λ (one : (entry_eq f e ≡ true) × (f ≡ e)).
+      inr (one.1, node_is (File kind file) node (sym (ap (λ b. cond b (Some (File kind file)) (m e)) one.0) ∙ is)))
+      (λ (two : (entry_eq f e ≡ false) × (f ≢ e)). inl (sym (ap (λ b. cond b (Some (File kind file)) (m e)) two.0) ∙ is))
+      (entry_cases f e)
+  after_cases (entry.Delete f n) e node is = ⊎_elim
+      (λ (one : (entry_eq f e ≡ true) × (f ≡ e)). absurd (no_node node (sym (ap (λ b. cond b None (m e)) one.0) ∙ is)))
+      (λ (two : (entry_eq f e ≡ false) × (f ≢ e)). inl (sym (ap (λ b. cond b None (m e)) two.0) ∙ is))
+      (entry_cases f e)
+  after_cases (entry.Move a b n old) e node is = ⊎_elim
+      (λ (one : (entry_eq b e ≡ true) × (b ≡ e)). inr (one.1, sym (ap (λ t. cond t (m a) (put m a None e)) one.0) ∙ is))
+      (λ (two : (entry_eq b e ≡ false) × (b ≢ e)). (let there = sym (ap (λ t. cond t (m a) (put m a None e)) two.0) ∙ is in ⊎_elim
+      (λ (here : (entry_eq a e ≡ true) × (a ≡ e)). absurd (no_node node (sym (ap (λ t. cond t None (m e)) here.0) ∙ there)))
+      (λ (other : (entry_eq a e ≡ false) × (a ≢ e)). inl (sym (ap (λ t. cond t None (m e)) other.0) ∙ there))
+      (entry_cases a e)))
+      (entry_cases b e)
+  after_cases entry.Other e node is = inl is
+
+-- ---- sizes and homes grow
+
+sizes_grow : (sizes : List ℕ) (o : Operation) → length sizes ≤ length (sizes_after sizes o)
+sizes_grow sizes (op.Creat e file rights) = omega (arith, length-append sizes (0 ∷ []))
+sizes_grow sizes (op.Mkdir e directory rights) = omega arith
+sizes_grow sizes (op.Symlink e file rights target) = omega (arith, length-append sizes (length target ∷ []))
+sizes_grow sizes (op.Link e file) = omega arith
+sizes_grow sizes (op.Unlink e kind file) = omega arith
+sizes_grow sizes (op.Rmdir e directory) = omega arith
+sizes_grow sizes (op.Rename a b node old) = omega arith
+sizes_grow sizes (op.Write file size offset bytes) = omega (arith, length-set sizes file (written_size size offset bytes))
+sizes_grow sizes (op.Truncate file size to) = omega (arith, length-set sizes file to)
+sizes_grow sizes (op.SetAttr target before after) = omega arith
+sizes_grow sizes (op.Sync covered) = omega arith
+sizes_grow sizes op.Say = omega arith
+
+push_grows : (next : Bool) (homes : List Entry) (e : Entry) → length homes ≤ length (if next then homes ++ e ∷ [] else homes)
+push_grows true homes e = omega (arith, length-append homes (e ∷ []))
+push_grows false homes e = omega arith
+
+homes_grow : (homes : List Entry) (o : Operation) → length homes ≤ length (homes_after homes o)
+homes_grow homes (op.Mkdir e directory rights) = push_grows (directory == length homes) homes (entry_of e)
+homes_grow homes (op.Creat e file rights) = omega arith
+homes_grow homes (op.Symlink e file rights target) = omega arith
+homes_grow homes (op.Link e file) = omega arith
+homes_grow homes (op.Unlink e kind file) = omega arith
+homes_grow homes (op.Rmdir e directory) = omega arith
+homes_grow homes (op.Rename a b node old) = omega arith
+homes_grow homes (op.Write file size offset bytes) = omega arith
+homes_grow homes (op.Truncate file size to) = omega arith
+homes_grow homes (op.SetAttr target before after) = omega arith
+homes_grow homes (op.Sync covered) = omega arith
+homes_grow homes op.Say = omega arith
+
+push_keeps : (next : Bool) (homes : List Entry) (e : Entry) (n : ℕ) (f : Entry) → slice_get homes n ≡ Some f
+    → slice_get (if next then homes ++ e ∷ [] else homes) n ≡ Some f
+push_keeps true homes e n f at = slice_get-push_old homes e n f at
+push_keeps false homes e n f at = at
+
+homes_keep : (homes : List Entry) (o : Operation) (n : ℕ) (f : Entry) → slice_get homes n ≡ Some f → slice_get (homes_after homes o) n
+    ≡ Some f
+homes_keep homes (op.Mkdir e directory rights) n f at = push_keeps (directory == length homes) homes (entry_of e) n f at
+homes_keep homes (op.Creat e file rights) n f at = at
+homes_keep homes (op.Symlink e file rights target) n f at = at
+homes_keep homes (op.Link e file) n f at = at
+homes_keep homes (op.Unlink e kind file) n f at = at
+homes_keep homes (op.Rmdir e directory) n f at = at
+homes_keep homes (op.Rename a b node old) n f at = at
+homes_keep homes (op.Write file size offset bytes) n f at = at
+homes_keep homes (op.Truncate file size to) n f at = at
+homes_keep homes (op.SetAttr target before after) n f at = at
+homes_keep homes (op.Sync covered) n f at = at
+homes_keep homes op.Say n f at = at
+
+-- a directory that is made has its home, old or new
+made_home : (homes : List Entry) (e : Entry) (d : ℕ) (next : Bool) → d == length homes ≡ next → (d ≡ place_of e homes) ⊎ (d ≡ length homes)
+    → (d < length (if next then homes ++ e ∷ [] else homes)) × (slice_get (if next then homes ++ e ∷ [] else homes) d ≡ Some e)
+made_home homes e d true is from =
+    let same = eqb-true d (length homes) is in
+    (omega (arith, same, length-append homes (e ∷ [])), ap (slice_get (homes ++ e ∷ [])) same ∙ slice_get-push_new homes e)
+made_home homes e d false is from = ⊎_elim
+    (λ (at : d ≡ place_of e homes).
+    (let apart : d ≢ length homes = λ same. false≢true (sym is ∙ eq_test d (length homes) same) in
+    let low : place_of e homes < length homes = below d (place_of e homes) (length homes) at apart (place_within e homes) in
+    (omega (arith, at, low), ap (slice_get homes) at ∙ place_at e homes low)))
+    (λ (same : d ≡ length homes). absurd (false≢true (sym is ∙ eq_test d (length homes) same)))
+    from
+  where
+    eq_test : (a b : ℕ) → a ≡ b → a == b ≡ true
+    eq_test a b h = eq-eqb a b h
+
+    below : (d p n : ℕ) → d ≡ p → d ≢ n → p ≤ n → p < n
+    below d p n at apart low = ⊎_elim
+        (λ (less : p < n). less)
+        (λ (more : n ≤ p). (let same : p ≡ n = omega (arith, low, more) in absurd (apart (at ∙ same))))
+        (cases_lt p n)
+
+made_by_version : (fourth : Bool) (homes : List Entry) (e : Entry) (d : ℕ) → d ≡ (if fourth then length homes else place_of e homes)
+    → (d ≡ place_of e homes) ⊎ (d ≡ length homes)
+made_by_version true homes e d is = inr is
+made_by_version false homes e d is = inl is
+
+-- in the fourth version the home of a new directory is a new one
+fourth_home : (homes : List Entry) (e : Entry) (d : ℕ) (next : Bool) → d == length homes ≡ next → d ≡ length homes
+    → d < length (if next then homes ++ e ∷ [] else homes)
+fourth_home homes e d next is same = (made_home homes e d next is (inr same)).0
+
+-- ---- the next system
+
+-- the number of a file or a directory was given
+abbrev pub IsGivenIn : FileSystem → Node → Type 0
+IsGivenIn fs (Directory d) = d < length fs.homes
+IsGivenIn fs (File kind file) = file < length fs.sizes
+
+-- what an operation on entries leaves, with lists that keep what they had
+module _ (version : Version) (fs next : FileSystem) (now : IsNow version fs) (o : EntryOp) (legal : IsLegalEntryOp (held_in fs.entries) o)
+    (entries_are : next.entries ≡ table_after fs.entries o)
+    (sizes_grown : length fs.sizes ≤ length next.sizes)
+    (homes_kept : (n : ℕ) (f : Entry) → slice_get fs.homes n ≡ Some f → slice_get next.homes n ≡ Some f)
+    (homes_grown : length fs.homes ≤ length next.homes)
+    (given : (e : Entry) (node : Node) → Comes (held_in fs.entries) o e node → IsGivenIn next node)
+    (placed : is_fourth version ≡ false → (e : Entry) (d : ℕ) → Comes (held_in fs.entries) o e (Directory d)
+    → slice_get next.homes d ≡ Some e) where
+  abbrev m : Entries
+  m = held_in fs.entries
+
+  held_next : (e : Entry) → get next.entries e ≡ after m o e
+  held_next e = ap (λ t. get t e) entries_are ∙ table_step fs.entries o legal e
+
+  old_given : (e : Entry) (node : Node) → m e ≡ Some node → IsGivenIn next node
+  old_given e (Directory d) held = (let low = now.directories e d held in omega (arith, low, homes_grown))
+  old_given e (File kind file) held = (let low = now.files e kind file held in omega (arith, low, sizes_grown))
+
+  all_given : (e : Entry) (node : Node) → get next.entries e ≡ Some node → IsGivenIn next node
+  all_given e node at = ⊎_elim
+      (λ (old : m e ≡ Some node). old_given e node old)
+      (λ (new : Comes m o e node). given e node new)
+      (after_cases m o e node (sym (held_next e) ∙ at))
+
+  pub now_by : IsNow version next
+  now_by = record {
+    tree = subst IsTree (λ i e. sym (held_next e) i) (tree_after m o now.tree legal);
+    files = λ e kind file at. all_given e (File kind file) at;
+    directories = λ e d at. all_given e (Directory d) at;
+    rooted = (let some = now.rooted in omega (arith, some, homes_grown));
+    root = homes_kept 0 root_home now.root;
+    placed = λ early e d at. ⊎_elim
+        (λ (old : m e ≡ Some (Directory d)). homes_kept d e (now.placed early e d old))
+        (λ (new : Comes m o e (Directory d)). placed early e d new)
+        (after_cases m o e (Directory d) (sym (held_next e) ∙ at));
+  }
+
+module _ (version : Version) (fs : FileSystem) (now : IsNow version fs) where
+  abbrev held : Entries
+  held = held_in fs.entries
+
+  there_given : (e : Entry) (node : Node) → held e ≡ Some node → IsGivenIn fs node
+  there_given e (Directory d) at = now.directories e d at
+  there_given e (File kind file) at = now.files e kind file at
+
+  moved_given : (a b : DirEntry) (node : Node) (old : Option Node) (same : Bool)
+      → IsLegalEntryOp held (if same then entry.Other else entry.Move (entry_of a) (entry_of b) node old) → (e : Entry) (n : Node)
+      → Comes held (if same then entry.Other else entry.Move (entry_of a) (entry_of b) node old) e n
+      → (f : Entry) × (held f ≡ Some n)
+  moved_given a b node old true legal e n comes = absurd comes
+  moved_given a b node old false legal e n comes = (entry_of a, comes.1)
+
+  -- before the fourth version no directory is moved
+  moved_placed : (a b : DirEntry) (node : Node) (old : Option Node) (same : Bool) → is_fourth version ≡ false → MayReplace version node old
+      → IsLegalEntryOp held (if same then entry.Other else entry.Move (entry_of a) (entry_of b) node old) → (e : Entry) (d : ℕ)
+      → Comes held (if same then entry.Other else entry.Move (entry_of a) (entry_of b) node old) e (Directory d) → ⊥
+  moved_placed a b node old true early may legal e d comes = absurd comes
+  moved_placed a b (File kind file) old false early may legal e d comes =
+      no_file d kind file (node_is (Directory d) (File kind file) (sym comes.1 ∙ legal.1))
+  moved_placed a b (Directory c) None false early may legal e d comes = absurd (false≢true (sym early ∙ may))
+  moved_placed a b (Directory c) (Some (Directory k)) false early may legal e d comes = absurd (false≢true (sym early ∙ may))
+  moved_placed a b (Directory c) (Some (File kind file)) false early may legal e d comes = absurd may
+
+  come_given : (o : Operation) (legal : IsLegal version fs o) (e : Entry) (node : Node) → Comes held (entry_op o) e node
+      → IsGivenIn (system_after fs o) node
+  come_given (op.Creat f file rights) legal e node comes =
+      subst (IsGivenIn (system_after fs (op.Creat f file rights))) comes.1
+      (omega (arith, legal.fitting.0, length-append fs.sizes (0 ∷ [])))
+  come_given (op.Mkdir f directory rights) legal e node comes =
+      subst (IsGivenIn (system_after fs (op.Mkdir f directory rights))) comes.1
+      (made_home fs.homes (entry_of f) directory (directory == length fs.homes) refl
+      (made_by_version (is_fourth version) fs.homes (entry_of f) directory legal.fitting.0)).0
+  come_given (op.Symlink f file rights target) legal e node comes =
+      subst (IsGivenIn (system_after fs (op.Symlink f file rights target))) comes.1
+      (omega (arith, legal.fitting.1, length-append fs.sizes (length target ∷ [])))
+  come_given (op.Link f file) legal e node comes =
+      subst (IsGivenIn (system_after fs (op.Link f file))) comes.1 legal.fitting.2
+  come_given (op.Unlink f kind file) legal e node comes = absurd comes
+  come_given (op.Rmdir f directory) legal e node comes = absurd comes
+  come_given (op.Rename a b n old) legal e node comes =
+      (let from = moved_given a b n old (entry_eq (entry_of a) (entry_of b)) legal.entry e node comes in
+      there_given from.0 node from.1)
+  come_given (op.Write file size offset bytes) legal e node comes = absurd comes
+  come_given (op.Truncate file size to) legal e node comes = absurd comes
+  come_given (op.SetAttr target before after) legal e node comes = absurd comes
+  come_given (op.Sync covered) legal e node comes = absurd comes
+  come_given op.Say legal e node comes = absurd comes
+
+  come_placed : (o : Operation) (legal : IsLegal version fs o) → is_fourth version ≡ false → (e : Entry) (d : ℕ)
+      → Comes held (entry_op o) e (Directory d) → slice_get (homes_after fs.homes o) d ≡ Some e
+  come_placed (op.Creat f file rights) legal early e d comes = absurd (no_file d kinds.Regular file (sym comes.1))
+  come_placed (op.Mkdir f directory rights) legal early e d comes =
+      (let same = same_directory directory d comes.1 in
+      let home = made_home fs.homes (entry_of f) directory (directory == length fs.homes) refl
+      (made_by_version (is_fourth version) fs.homes (entry_of f) directory legal.fitting.0) in
+      ap (slice_get (homes_after fs.homes (op.Mkdir f directory rights))) (sym same) ∙ home.1 ∙ ap Some comes.0)
+  come_placed (op.Symlink f file rights target) legal early e d comes = absurd (no_file d kinds.Symlink file (sym comes.1))
+  come_placed (op.Link f file) legal early e d comes = absurd (no_file d kinds.Regular file (sym comes.1))
+  come_placed (op.Unlink f kind file) legal early e d comes = absurd comes
+  come_placed (op.Rmdir f directory) legal early e d comes = absurd comes
+  come_placed (op.Rename a b n old) legal early e d comes =
+      absurd (moved_placed a b n old (entry_eq (entry_of a) (entry_of b)) early legal.fitting.0 legal.entry e d comes)
+  come_placed (op.Write file size offset bytes) legal early e d comes = absurd comes
+  come_placed (op.Truncate file size to) legal early e d comes = absurd comes
+  come_placed (op.SetAttr target before after) legal early e d comes = absurd comes
+  come_placed (op.Sync covered) legal early e d comes = absurd comes
+  come_placed op.Say legal early e d comes = absurd comes
+
+  pub now_after : (o : Operation) → IsLegal version fs o → IsNow version (system_after fs o)
+  now_after o legal =
+      now_by version fs (system_after fs o) now (entry_op o) legal.entry refl (sizes_grow fs.sizes o) (homes_keep fs.homes o)
+      (homes_grow fs.homes o) (come_given o legal) (come_placed o legal)
+
+-- ---- counts
+
+pub counted_after : (version : Version) (sizes : List ℕ) (made : ℕ) (o : Operation) → length sizes ≤ made
+    → length (sizes_after sizes o) ≤ made + made_by version o
+counted_after version sizes made (op.Creat e file rights) few = omega (arith, few, length-append sizes (0 ∷ []))
+counted_after version sizes made (op.Mkdir e directory rights) few = omega (arith, few)
+counted_after version sizes made (op.Symlink e file rights target) few = omega (arith, few, length-append sizes (length target ∷ []))
+counted_after version sizes made (op.Link e file) few = omega (arith, few)
+counted_after version sizes made (op.Unlink e kind file) few = omega (arith, few)
+counted_after version sizes made (op.Rmdir e directory) few = omega (arith, few)
+counted_after version sizes made (op.Rename a b node old) few = omega (arith, few)
+counted_after version sizes made (op.Write file size offset bytes) few =
+    omega (arith, few, length-set sizes file (written_size size offset bytes))
+counted_after version sizes made (op.Truncate file size to) few = omega (arith, few, length-set sizes file to)
+counted_after version sizes made (op.SetAttr target before after) few = omega (arith, few)
+counted_after version sizes made (op.Sync covered) few = omega (arith, few)
+counted_after version sizes made op.Say few = omega (arith, few)
+
+push_counts : (next : Bool) (homes : List Entry) (e : Entry) (made : ℕ) → length homes ≤ made
+    → length (if next then homes ++ e ∷ [] else homes) ≤ made + 1
+push_counts true homes e made few = omega (arith, few, length-append homes (e ∷ []))
+push_counts false homes e made few = omega (arith, few)
+
+pub housed_after : (version : Version) (homes : List Entry) (made : ℕ) (o : Operation) → length homes ≤ made
+    → length (homes_after homes o) ≤ made + made_by version o
+housed_after version homes made (op.Mkdir e directory rights) few = push_counts (directory == length homes) homes (entry_of e) made few
+housed_after version homes made (op.Creat e file rights) few = omega (arith, few)
+housed_after version homes made (op.Symlink e file rights target) few = omega (arith, few)
+housed_after version homes made (op.Link e file) few = omega (arith, few)
+housed_after version homes made (op.Unlink e kind file) few = omega (arith, few)
+housed_after version homes made (op.Rmdir e directory) few = omega (arith, few)
+housed_after version homes made (op.Rename a b node old) few = omega (arith, few)
+housed_after version homes made (op.Write file size offset bytes) few = omega (arith, few)
+housed_after version homes made (op.Truncate file size to) few = omega (arith, few)
+housed_after version homes made (op.SetAttr target before after) few = omega (arith, few)
+housed_after version homes made (op.Sync covered) few = omega (arith, few)
+housed_after version homes made op.Say few = omega (arith, few)

@@ -12,16 +12,16 @@ use Rattle.std.specs.Option.{option_map_or}
 use Rattle.std.specs.Ordering.{eq_by_cmp, is_lt}
 use Rattle.std.specs.declared.cmp.Ordering.{Ordering}
 use Rattle.std.specs.declared.cmp.Ordering.TheVariants.{Less, Equal, Greater}
-use Rattle.cs_names.specs.declared.limits.TheConstants.{FILE_BYTES}
 use Rattle.cs_tree_model.specs.Fresh.{fresh_record, with_numbers_from}
 use Rattle.cs_tree_model.specs.Laws.Paths.{path_cases, path_total}
 use Rattle.cs_tree_model.specs.Tree.{Path, path_cmp}
 use Rattle.cs_tree_model.specs.declared.record.Record.{Record}
 use Rattle.cs_tree_model.specs.Maps.Orders.{both_first, both_second, less_of}
-use Rattle.cs_trace.specs.Entries.{Entries, node_by, node_of, record_of, size_of}
-use Rattle.cs_trace.specs.Traces.{IsNodeOf, IsUnchanged, StandsAs}
-use Rattle.cs_trace.specs.declared.entry.StartEntry.{StartEntry}
-use Rattle.cs_trace.specs.declared.operation.Node.{Node}
+use Rattle.cs_start.specs.Entries.{StartEntries, record_of, size_of}
+use Rattle.cs_trace.specs.Traces.{IsNodeOf, IsRecordOf, IsUnchanged, StandsAs}
+use Rattle.cs_start.specs.declared.entry.StartEntry.{StartEntry}
+use Rattle.cs_entries.specs.declared.node.Node.{Node}
+use Rattle.cs_entries.specs.declared.node.Node.TheVariants.{Directory, File}
 
 -- ---- in the order of their paths
 
@@ -74,7 +74,7 @@ found_at (f ∷ es) sorted (suc n) e at =
     ∙ found_at es (both_second _ _ sorted) n e at)
     (path_cases e.0 f.0)
 
-pub get_at : (m : Entries) (n : ℕ) (e : Path × StartEntry) → slice_get (entries m) n ≡ Some e → get m e.0 ≡ Some e.1
+pub get_at : (m : StartEntries) (n : ℕ) (e : Path × StartEntry) → slice_get (entries m) n ≡ Some e → get m e.0 ≡ Some e.1
 get_at m n e at = get-entries m e.0 ∙ found_at (entries m) (entries_sorted m) n e at
 
 -- the record at a place is a fresh one of the entry there
@@ -102,45 +102,49 @@ numbers k (suc n) (e ∷ es) r at =
 
 -- ---- what they are
 
-unchanged_by : (n : ℕ) (e : StartEntry) (r : Record) → e.rights.permissions ≤ 511 → r ≡ fresh_record n (record_of e) → IsUnchanged n r
+-- a directory has no bytes, and a file or a symbolic link has some, or none yet
+abbrev pub FitsNode : Node → Option (List ℕ) → Type 0
+FitsNode (Directory d) content = content ≡ None
+FitsNode (File kind file) content = (bytes : List ℕ) × (content ≡ Some bytes)
+
+unchanged_by : (n : ℕ) (e : StartEntry) (r : Record) → e.rights.permissions ≤ 511 → r ≡ fresh_record n (record_of e)
+    → IsUnchanged n e.node r
 unchanged_by n e r low is =
-    subst (IsUnchanged n) (sym is) (record { fresh = refl; permissions = e.rights.permissions; octal = low; mode = refl })
+    subst (IsUnchanged n e.node) (sym is) (record { fresh = refl; permissions = e.rights.permissions; octal = low; mode = refl })
 
-kind_by : (content : Option (List ℕ)) (number : ℕ) (r : Record) → r.content ≡ content → IsNodeOf (node_by content number) r
-kind_by None number r is = is
-kind_by (Some bytes) number r is = (bytes, is)
+kind_by : (node : Node) (content : Option (List ℕ)) (r : Record) → FitsNode node content → r.content ≡ content → IsNodeOf node r
+kind_by (Directory d) content r fits is = is ∙ fits
+kind_by (File kind file) content r fits is = (fits.0, is ∙ fits.1)
 
-module _ (m : Entries) (octal : (p : Path) (e : StartEntry) → get m p ≡ Some e → e.rights.permissions ≤ 511) where
-  pub unchanged_at : (n : ℕ) (r : Path × Record) → slice_get (numbered_from 0 (entries m)) n ≡ Some r → IsUnchanged n r.1
-  unchanged_at n r at =
-      let there = numbers 0 n (entries m) r at in
+module _ (m : StartEntries) (octal : (p : Path) (e : StartEntry) → get m p ≡ Some e → e.rights.permissions ≤ 511)
+    (kinds : (p : Path) (e : StartEntry) → get m p ≡ Some e → FitsNode e.node e.content) where
+  node_at_place : (n : ℕ) (node : Node) (e : Path × StartEntry) → slice_get (map (λ f. f.1.node) (entries m)) n ≡ Some node
+      → slice_get (entries m) n ≡ Some e → e.1.node ≡ node
+  node_at_place n node e at there =
+      let same : option_map (λ (f : Path × StartEntry). f.1.node) (slice_get (entries m) n) ≡ Some node =
+      sym (slice_get-map (λ f. f.1.node) (entries m) n) ∙ at in
+      same_Some e.1.node node (sym (ap (option_map (λ (f : Path × StartEntry). f.1.node)) there) ∙ same)
+
+  pub record_at_place : (n : ℕ) (node : Node) (r : Path × Record) → slice_get (map (λ f. f.1.node) (entries m)) n ≡ Some node
+      → slice_get (numbered_from 0 (entries m)) n ≡ Some r → IsRecordOf n node r.1
+  record_at_place n node r at beside =
+      let there = numbers 0 n (entries m) r beside in
+      let e = there.entry in
+      let found = get_at m n e there.at in
+      let same = node_at_place n node e at there.at in
       let zero_more : 0 + n ≡ n = omega arith in
-      unchanged_by n there.entry.1 r.1 (octal there.entry.0 there.entry.1 (get_at m n there.entry there.at))
-      (ap (λ (x : Path × Record). x.1) there.is ∙ ap (λ i. fresh_record i (record_of there.entry.1)) zero_more)
+      let is = ap (λ (x : Path × Record). x.1) there.is ∙ ap (λ i. fresh_record i (record_of e.1)) zero_more in
+      subst (λ w. IsRecordOf n w r.1) same (record {
+        unchanged = unchanged_by n e.1 r.1 (octal e.0 e.1 found) is;
+        kind = kind_by e.1.node e.1.content r.1 (kinds e.0 e.1 found) (ap (λ (x : Record). x.content) is);
+      })
 
-module _ (es : List (Path × StartEntry)) where
-  node_by_place : (n : ℕ) (node : Node) (e : Path × StartEntry) → slice_get (map (λ f. node_of f.1) es) n ≡ Some node
-      → slice_get es n ≡ Some e
-      → node ≡ node_of e.1
-  node_by_place n node e at there =
-      let same : option_map (λ (f : Path × StartEntry). node_of f.1) (slice_get es n) ≡ Some node =
-      sym (slice_get-map (λ f. node_of f.1) es n)
-      ∙ at in
-      same_Some node (node_of e.1) (sym same ∙ ap (option_map (λ (f : Path × StartEntry). node_of f.1)) there)
+pub stands_by : (n : ℕ) (o : Option StartEntry) → ((e : StartEntry) → o ≡ Some e → FitsNode e.node e.content)
+    → StandsAs (option_map (λ e. e.node) o) (option_map (fresh_record n) (option_map record_of o))
+stands_by n None kinds = tt
+stands_by n (Some e) kinds = kind_by e.node e.content (fresh_record n (record_of e)) (kinds e refl) refl
 
-  pub kind_at : (n : ℕ) (node : Node) (r : Path × Record) → slice_get (map (λ f. node_of f.1) es) n ≡ Some node
-      → slice_get (numbered_from 0 es) n ≡ Some r → IsNodeOf node r.1
-  kind_at n node r at beside =
-      let there = numbers 0 n es r beside in
-      let same = node_by_place n node there.entry at there.at in
-      subst (λ w. IsNodeOf w r.1) (sym same) (kind_by there.entry.1.content there.entry.1.number r.1
-      (ap (λ (x : Path × Record). x.1.content) there.is))
-
-pub stands_by : (n : ℕ) (o : Option StartEntry) → StandsAs (option_map node_of o) (option_map (fresh_record n) (option_map record_of o))
-stands_by n None = tt
-stands_by n (Some e) = kind_by e.content e.number (fresh_record n (record_of e)) refl
-
-pub small_by : (o : Option StartEntry) → ((e : StartEntry) → o ≡ Some e → size_of e.content ≤ FILE_BYTES)
-    → option_map_or (λ e. size_of e.content) o 0 ≤ FILE_BYTES
-small_by None small = omega arith
-small_by (Some e) small = small e refl
+pub small_by : (most : ℕ) (o : Option StartEntry) → ((e : StartEntry) → o ≡ Some e → size_of e.content ≤ most)
+    → option_map_or (λ e. size_of e.content) o 0 ≤ most
+small_by most None small = omega arith
+small_by most (Some e) small = small e refl

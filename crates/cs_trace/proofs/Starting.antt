@@ -1,92 +1,169 @@
--- One entry more, before the first operation.
-use Rattle.std.proofs.Common.{◌≡◌, ℕ, ◌+◌, false, List, [], ◌∷◌, ◌++◌, length, Option, None, Some, option_map, refl, sym, ap, ◌∙◌, subst}
-use Rattle.std.proofs.lemmas.Bool.{false≢true}
-use Rattle.std.specs.FinMap.{entries, get, get-empty, insert}
+-- One entry more at the start, by what is at its path.
+use Rattle.std.proofs.Common.{◌≡◌, ◌≢◌, ℕ, Bool, true, false, List, [], ◌∷◌, length, Option, None, Some, Result, Ok, Err, refl, sym, ap, ◌∙◌}
+use Rattle.std.specs.FinMap.{get, insert}
 use Rattle.std.specs.Option.{is_some}
-use Rattle.cs_tree_model.specs.Maps.Values.{get-map_values}
-use Rattle.cs_tree_model.specs.Tree.{Path, path_cmp}
-use Rattle.cs_trace.specs.Attributes.{kept_in}
-use Rattle.cs_trace.specs.Entries.{node_by, node_of}
-use Rattle.cs_trace.specs.Kept.{IsBounded, IsStarting, with_node}
-use Rattle.cs_trace.specs.Owned.{AreBelow, count_with, own_paths, sizes_with}
-use Rattle.cs_trace.specs.States.{State, number_for, with_entry}
-use Rattle.cs_trace.specs.declared.entry.StartEntry.{StartEntry}
-use Rattle.cs_trace_lines.specs.declared.version.Version.{Version}
-use Rattle.cs_trace.proofs.Owned.{length-own_paths, next-paths, other-paths}
+use Rattle.std.specs.Prelude.{◌||◌, nat_lt}
+use Rattle.cs_entries.specs.DirEntries.{entry_of, last_name}
+use Rattle.cs_entries.specs.Entries.{Entries}
+use Rattle.cs_entries.specs.Laws.Records.{entry_exact, entry_total}
+use Rattle.cs_entries.specs.Paths.{at_path, down, entry_in}
+use Rattle.cs_entries.specs.Tables.{Table, held_in}
+use Rattle.cs_entries.specs.declared.entry.Entry.{Entry}
+use Rattle.cs_entries.specs.declared.node.Node.{Node}
+use Rattle.cs_entries.specs.declared.node.Node.TheVariants.{Directory, File}
+use Rattle.cs_start.specs.Entries.{size_of}
+use Rattle.cs_start.specs.Owned.{number_of}
+use Rattle.cs_start.specs.declared.entry.StartEntry.{StartEntry}
+use Rattle.cs_tree_model.specs.Maps.Changes.{get-insert_other}
+use Rattle.cs_tree_model.specs.Tree.{Path, parent_path}
+use Rattle.cs_trace.specs.Judging.{and_then, directory_number, entry_at, entry_below, free_at, has_too_many_names, is_too_much, node_at, parent_by, unless_too_large, vacant_by}
+use Rattle.cs_trace.specs.Kept.{IsStarting, free_number}
+use Rattle.cs_trace.specs.Limits.{most_bytes}
+use Rattle.cs_trace.specs.State.{State}
+use Rattle.cs_trace.specs.Operations.{number_for}
+use Rattle.cs_trace.specs.Putting.{node_by}
+use Rattle.cs_trace.specs.States.{bytes_of, entry_for, is_leaf, node_for, start_at, start_file_at, start_link_at, system_with}
+use Rattle.cs_trace.specs.States.{with_entry, with_held, with_link, with_start}
+use Rattle.cs_trace.specs.declared.fault.TraceFaultKind.{TraceFaultKind}
+use Rattle.cs_trace.specs.declared.fault.TraceFaultKind.TheVariants.{Exists, TooLarge}
+use Rattle.cs_trace_lines.specs.Lines.{Claims, OfDirectory, OfFile, OfSymlink, StartContent}
+use Rattle.cs_trace.proofs.Entering.{refused_at}
+use Rattle.cs_trace.proofs.Named.{at_entry}
+use Rattle.cs_trace.proofs.StartNext.{put_held}
 
-pub nothing : {X : Type 0} (o : Option X) → is_some o ≡ false → o ≡ None
-nothing None is = refl
-nothing (Some x) is = absurd (false≢true (sym is))
+-- ---- with an entry more, paths lead where they led
 
-none_by : (o : Option StartEntry) → option_map node_of o ≡ None → o ≡ None
-none_by None is = refl
-none_by (Some e) is = absurd (cc)
+no_value : (node : Node) → None ≡ Some node → ⊥
+no_value node h = cc
 
-no-entry : (s : State) → IsStarting s → (p : Path) → get s.paths p ≡ None → get s.start p ≡ None
-no-entry s starting p none =
-    none_by (get s.start p)
-    (sym (get-map_values path_cmp node_of s.start p) ∙ ap (λ m. get m p) (sym starting.paths) ∙ none)
+pub down_none : (m : Entries) (q : Path) → down m None q ≡ None
+down_none m [] = refl
+down_none m (x ∷ q) = down_none m q
 
-module _ (s : State) (count : ℕ) (files : s.files ≡ own_paths s.start count) (starting : IsStarting s) (p : Path) (e : StartEntry)
-    (free : get s.paths p ≡ None) where
-  none : get s.start p ≡ None
-  none = no-entry s starting p free
+down_more : (m next : Entries) → ((e : Entry) (node : Node) → m e ≡ Some node → next e ≡ Some node) → (o : Option Node) (q : Path)
+    (node : Node) → down m o q ≡ Some node → down next o q ≡ Some node
+down_more m next more o [] node is = is
+down_more m next more None (x ∷ q) node is = absurd (no_value node (sym (down_none m q) ∙ is))
+down_more m next more (Some (File kind file)) (x ∷ q) node is = absurd (no_value node (sym (down_none m q) ∙ is))
+down_more m next more (Some (Directory d)) (x ∷ q) node is =
+    by (m (entry_in d x)) refl (λ v. down_more m next more (Some v) q node)
+  where
+    by : (o : Option Node) → m (entry_in d x) ≡ o → ((v : Node) → down m (Some v) q ≡ Some node → down next (Some v) q ≡ Some node)
+        → down next (next (entry_in d x)) q ≡ Some node
+    by None e rest = absurd (no_value node (sym (down_none m q) ∙ sym (ap (λ o. down m o q) e) ∙ is))
+    by (Some v) e rest =
+        ap (λ o. down next o q) (more (entry_in d x) v e) ∙ rest v (sym (ap (λ o. down m o q) e) ∙ is)
 
-  counted : length s.files ≡ count
-  counted = ap length files ∙ length-own_paths s.start count
+still_leads : (t : Table) (e : Entry) (v : Node) → get t e ≡ None → (q : Path) (node : Node) → at_path (held_in t) q ≡ Some node
+    → at_path (held_in (insert t e v)) q ≡ Some node
+still_leads t e v free q node is =
+    down_more (held_in t) (held_in (insert t e v))
+    (λ f old there. get-insert_other entry_total entry_exact t f e v (λ same. no_value old (sym free ∙ ap (get t) (sym same) ∙ there))
+    ∙ there)
+    (Some (Directory 0)) q node is
 
-  put_by : (content : Option (List ℕ)) → e.content ≡ content → e.own ≡ is_some content → e.number ≡ number_for s content → record s {
-    start = insert s.start p e;
-    files = own_paths (insert s.start p e) (count_with count s.sizes content);
-    paths = insert s.paths p (node_of e);
-    sizes = sizes_with s.sizes content;
-    made = s.made + 1;
-    attributes = kept_in s.version s.attributes (with_node s.attributes (node_of e) p e.rights);
-  } ≡ with_entry s p e content
-  put_by None has own number = λ i. record s {
-    start = insert s.start p e;
-    files = (other-paths s.start p e count own none ∙ sym files) i;
-    paths = insert s.paths p (node_of e);
-    made = s.made + 1;
-    attributes = kept_in s.version s.attributes (with_node s.attributes (node_by (has i) e.number) p e.rights);
-  }
-  put_by (Some bytes) has own number = λ i. record s {
-    start = insert s.start p e;
-    files =
-        (ap (λ n. own_paths (insert s.start p e) (n + 1)) even
-        ∙ next-paths s.start p e count below own (number ∙ even) none
-        ∙ ap (λ ps. ps ++ p ∷ []) (sym files)) i;
-    paths = insert s.paths p (node_of e);
-    sizes = s.sizes ++ length bytes ∷ [];
-    made = s.made + 1;
-    attributes = kept_in s.version s.attributes (with_node s.attributes (node_by (has i) e.number) p e.rights);
-  }
+entries_with : (s : State) (p : Path) (node : Node) (content : Option (List ℕ)) → (system_with s p node content).entries
+    ≡ with_held s p node
+entries_with s p (Directory d) content = refl
+entries_with s p (File kind file) content = refl
+
+-- a link of the start, if its path isn't free
+pub start_refused : (s : State) (p q : Path) (found : StartEntry × ℕ) (kind : TraceFaultKind) → start_file_at (get s.start p) ≡ Ok found
+    → free_number s.system.entries q ≡ Err kind → start_link_at s p q ≡ Err kind
+start_refused s p q found kind is fault = λ i.
+    and_then (is i) (λ e. and_then (refused_at s q kind fault i) (λ _.
+    unless_too_large (has_too_many_names p || is_too_much s.made q) (with_link s q (record e.0 { own = false }) e.1)))
+
+module _ (s : State) (p : Path) (d : ℕ) (named : p ≢ [])
+    (above : at_path (held_in s.system.entries) (parent_path p) ≡ Some (Directory d)) where
+  -- the entry of the path
+  pub entry_is : entry_at s p ≡ entry_below d p
+  entry_is = ap (λ o. entry_below (directory_number o) p) above
+
+  held_is : at_path (held_in s.system.entries) p ≡ get s.system.entries (entry_in d (last_name p))
+  held_is = at_entry (held_in s.system.entries) p d named above
+
+  no_entry : (e : StartEntry) → None ≡ Some e.node → ⊥
+  no_entry e h = cc
+
+  -- nothing there now, and nothing there at the start
+  pub absent : IsStarting s → get s.system.entries (entry_in d (last_name p)) ≡ None → get s.start p ≡ None
+  absent starting none = by (get s.start p) refl
     where
-      even : length s.sizes ≡ count
-      even = starting.even ∙ counted
+      by : (o : Option StartEntry) → get s.start p ≡ o → get s.start p ≡ None
+      by None is = is
+      by (Some e) is = absurd (no_entry e (sym (held_is ∙ none) ∙ starting.stands p e is))
 
-      below : AreBelow (entries s.start) count
-      below = subst (AreBelow (entries s.start)) counted starting.below
+  free_by : (here : Option Node) → at_path (held_in s.system.entries) p ≡ here
+      → free_at s p ≡ and_then (vacant_by here) (λ _. Ok (entry_below d p))
+  free_by here is =
+      (λ i. and_then (and_then (parent_by (above i)) (λ directory. Ok (entry_below directory p)))
+      (λ e. and_then (vacant_by (is i)) (λ _. Ok e)))
 
-  pub put-entry : e.own ≡ is_some e.content → e.number ≡ number_for s e.content → record s {
-    start = insert s.start p e;
-    files = own_paths (insert s.start p e) (count_with count s.sizes e.content);
-    paths = insert s.paths p (node_of e);
-    sizes = sizes_with s.sizes e.content;
-    made = s.made + 1;
-    attributes = kept_in s.version s.attributes (with_node s.attributes (node_of e) p e.rights);
-  } ≡ with_entry s p e e.content
-  put-entry = put_by e.content refl
+  -- the directory of a new entry is still there
+  pub remembered : (e : StartEntry) → get s.system.entries (entry_in d (last_name p)) ≡ None → (next : State) → next ≡ with_entry s p e
+      → at_path (held_in next.system.entries) (parent_path p) ≡ Some (Directory d)
+  remembered e none next is =
+      ap (λ (x : State). at_path (held_in x.system.entries) (parent_path p)) is
+      ∙ ap (λ t. at_path (held_in t) (parent_path p))
+      (entries_with s p e.node e.content ∙ sym (put_held s p d (last_name p) named entry_is refl e.node))
+      ∙ still_leads s.system.entries (entry_in d (last_name p)) e.node none (parent_path p) (Directory d) above
 
-  pub put-link : e.own ≡ false → own_paths (insert s.start p e) count ≡ s.files
-  put-link further = other-paths s.start p e count further none ∙ sym files
+  -- ---- what a start line makes there
 
--- ---- before the first line, and before the first operation
+  pub node_is : (content : StartContent) → node_by s (entry_in d (last_name p)) content ≡ node_for s p content
+  node_is OfDirectory = ap (λ e. Directory (number_for s.version s.system.homes (entry_of e))) (sym entry_is)
+  node_is (OfFile bytes) = refl
+  node_is (OfSymlink target) = refl
 
-pub at-first : (s : State) → IsBounded s → s.made ≡ 0 → (version : Version) → IsStarting (record s { version = version })
-at-first s bounded none version =
-    let starting = bounded.starting (ap (λ (m : State). m.operations) (bounded.fresh none)) in
-    record { paths = starting.paths; even = starting.even; below = starting.below }
+  pub started_is : (claims : Claims) (content : StartContent)
+      → with_entry s p (entry_for (node_by s (entry_in d (last_name p)) content) claims content) ≡ with_start s p claims content
+  started_is claims content = ap (λ node. with_entry s p (entry_for node claims content)) (node_is content)
 
-pub nothing-first : (s : State) → IsBounded s → s.made ≡ 0 → (p : Path) → get s.paths p ≡ None
-nothing-first s bounded none p = ap (λ (m : State). get m.paths p) (bounded.fresh none) ∙ get-empty path_cmp p
+  module _ (claims : Claims) (content : StartContent) where
+    abbrev large : Bool
+    large = is_too_much s.made p || nat_lt (most_bytes s.version) (size_of (bytes_of content))
+
+    abbrev entered : Result State TraceFaultKind
+    entered = start_at s p claims content
+
+    pub start_exists : (node : Node) → get s.system.entries (entry_in d (last_name p)) ≡ Some node → entered ≡ Err Exists
+    start_exists node held =
+        ap (λ r. and_then r (λ _. unless_too_large large (with_start s p claims content))) (free_by (Some node) (held_is ∙ held))
+
+    pub start_large : get s.system.entries (entry_in d (last_name p)) ≡ None → large ≡ true → entered ≡ Err TooLarge
+    start_large none too =
+        ap (λ r. and_then r (λ _. unless_too_large large (with_start s p claims content))) (free_by None (held_is ∙ none))
+        ∙ ap (λ b. unless_too_large b (with_start s p claims content)) too
+
+    pub start_added : get s.system.entries (entry_in d (last_name p)) ≡ None → large ≡ false → entered ≡ Ok (with_start s p claims content)
+    start_added none small =
+        ap (λ r. and_then r (λ _. unless_too_large large (with_start s p claims content))) (free_by None (held_is ∙ none))
+        ∙ ap (λ b. unless_too_large b (with_start s p claims content)) small
+
+    pub start_taken : is_some (get s.system.entries (entry_in d (last_name p))) ≡ true → entered ≡ Err Exists
+    start_taken taken = by (get s.system.entries (entry_in d (last_name p))) refl taken
+      where
+        by : (o : Option Node) → get s.system.entries (entry_in d (last_name p)) ≡ o → is_some o ≡ true → entered ≡ Err Exists
+        by (Some node) is some = start_exists node is
+        by None is some = absurd (cc)
+
+    -- what was added is the next state
+    pub start_next : (e : StartEntry) (next : State) → get s.system.entries (entry_in d (last_name p)) ≡ None → large ≡ false
+        → e ≡ entry_for (node_by s (entry_in d (last_name p)) content) claims content → next ≡ with_entry s p e → entered ≡ Ok next
+    start_next e next none little made put =
+        start_added none little ∙ ap Ok (sym (put ∙ ap (with_entry s p) made ∙ started_is claims content))
+
+    -- the same by what is at the path
+    pub exists_at : (node : Node) → at_path (held_in s.system.entries) p ≡ Some node → entered ≡ Err Exists
+    exists_at node at = start_exists node (sym held_is ∙ at)
+
+    pub large_at : at_path (held_in s.system.entries) p ≡ None → large ≡ true → entered ≡ Err TooLarge
+    large_at at too = start_large (sym held_is ∙ at) too
+
+-- a file or a symbolic link has the next number
+pub number_next : (s : State) (e : Entry) (content : StartContent) → is_leaf (node_by s e content) ≡ true
+    → number_of (node_by s e content) ≡ length s.system.sizes
+number_next s e OfDirectory leaf = absurd (cc)
+number_next s e (OfFile bytes) leaf = refl
+number_next s e (OfSymlink target) leaf = refl

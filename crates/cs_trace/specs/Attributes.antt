@@ -1,56 +1,46 @@
 -- Owner, group and permissions of each file and directory, and what an operation leaves of them.
-use Rattle.std.specs.Prelude.{ℕ, List, [], ◌∷◌, ◌++◌, Option, refl, slice_get, slice_set}
-use Rattle.std.specs.Coded.{Coded, code_by, coded×, coded_ℕ, coded_list}
-use Rattle.std.specs.FinMap.{FinMap, code, empty, get, insert}
-use Rattle.cs_tree_model.specs.Tree.{Path, path_cmp}
-use Rattle.cs_trace.specs.declared.operation.Node.{Node}
-use Rattle.cs_trace.specs.declared.operation.Node.TheVariants.{Directory, File}
+use Rattle.std.specs.Prelude.{ℕ, ◌==◌, List, [], ◌∷◌, ◌++◌, Option, length, slice_get, slice_set}
+use Rattle.std.specs.Prelude.{if◌then◌else◌}
+use Rattle.cs_entries.specs.declared.node.Node.{Node}
+use Rattle.cs_entries.specs.declared.node.Node.TheVariants.{Directory, File}
+use Rattle.cs_tree_model.specs.Tree.{Path}
 use Rattle.cs_trace.specs.declared.operation.Operation.{Operation}
-use Rattle.cs_trace.specs.declared.operation.Operation.TheVariants.{Creat, Mkdir, SetAttr}
-use Rattle.cs_trace.specs.declared.operation.Rights.{Rights}
+use Rattle.cs_trace.specs.declared.operation.Operation.TheVariants.{Creat, Mkdir, SetAttr, Symlink}
+use Rattle.cs_start.specs.declared.rights.Rights.{Rights}
 use Rattle.cs_trace.specs.declared.operation.Target.{Target}
 use Rattle.cs_trace.specs.declared.operation.Target.TheVariants as targets
 use Rattle.cs_trace_lines.specs.declared.version.Version.{Version}
 use Rattle.cs_trace_lines.specs.declared.version.Version.TheVariants.{First}
 
--- owner, group and permissions of the last directory at each path
-abbrev pub Directories : Type 0
-Directories = FinMap path_cmp Rights
-
-abbrev pub rights_code : Coded Rights
-rights_code = code_by
-    (List ℕ × (List ℕ × ℕ))
-    (coded× (coded_list coded_ℕ) (coded× (coded_list coded_ℕ) coded_ℕ))
-    (λ r. (r.owner, (r.group, r.permissions)))
-    (λ p. record { owner = p.0; group = p.1.0; permissions = p.1.1 })
-    (λ _. refl)
-
-abbrev pub directories_code : Coded Directories
-directories_code = code (coded_list (coded_list coded_ℕ)) rights_code
-
--- each file's, by its number, and each directory's, by its path
+-- each file's and symbolic link's, and each directory's, by its number
 pub record Attributes : Type 0 where
   pub files : List Rights
-  pub directories : Directories
+  pub directories : List Rights
 
 abbrev pub no_attributes : Attributes
-no_attributes = record { files = []; directories = empty }
+no_attributes = record { files = []; directories = [] }
 
--- a new file has the next number
+-- a new file or symbolic link has the next number
 abbrev pub with_file : Attributes → Rights → Attributes
 with_file a rights = record a { files = a.files ++ rights ∷ [] }
 
-abbrev pub with_directory : Attributes → Path → Rights → Attributes
-with_directory a p rights = record a { directories = insert a.directories p rights }
+-- the rights of a directory of the number, which may be the next one
+abbrev pub rights_with : List Rights → ℕ → Rights → List Rights
+rights_with all number rights =
+    if number == length all then all ++ rights ∷ [] else slice_set all number rights
+
+abbrev pub with_directory : Attributes → ℕ → Rights → Attributes
+with_directory a number rights = record a { directories = rights_with a.directories number rights }
 
 -- the attributes with these rights in place of those before
 abbrev pub with_set : Attributes → Target → Rights → Attributes
 with_set a (targets.File file) rights = record a { files = slice_set a.files file rights }
-with_set a (targets.Directory p) rights = with_directory a p rights
+with_set a (targets.Directory number path) rights = with_directory a number rights
 
 abbrev pub attributes_after : Attributes → Operation → Attributes
-attributes_after a (Creat p file rights) = with_file a rights
-attributes_after a (Mkdir p rights) = with_directory a p rights
+attributes_after a (Creat e file rights) = with_file a rights
+attributes_after a (Symlink e file rights target) = with_file a rights
+attributes_after a (Mkdir e directory rights) = with_directory a directory rights
 attributes_after a (SetAttr target before after) = with_set a target after
 attributes_after a _ = a
 
@@ -59,12 +49,12 @@ abbrev pub kept_in : Version → Attributes → Attributes → Attributes
 kept_in First before after = before
 kept_in _ before after = after
 
--- those of the file or directory at a path
-abbrev pub rights_at : Attributes → Node → Path → Option Rights
-rights_at a Directory p = get a.directories p
-rights_at a (File file) p = slice_get a.files file
+-- those of a file or a directory
+abbrev pub rights_at : Attributes → Node → Option Rights
+rights_at a (Directory number) = slice_get a.directories number
+rights_at a (File kind file) = slice_get a.files file
 
 -- the file or directory at a path, as a chmod and a chown name it
 abbrev pub target_of : Node → Path → Target
-target_of Directory p = targets.Directory p
-target_of (File file) p = targets.File file
+target_of (Directory number) p = targets.Directory number p
+target_of (File kind file) p = targets.File file

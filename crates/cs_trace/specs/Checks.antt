@@ -1,28 +1,35 @@
 -- Each line's checks, in their order: the first that it fails is its fault.
-use Rattle.std.specs.Prelude.{◌≡◌, ◌⊎◌, ℕ, ◌-◌, ◌<◌, ◌≤◌, ◌==◌, ◌||◌, not, Bool, true, false, List}
-use Rattle.std.specs.Prelude.{[], ◌∷◌, ◌++◌, length, nat_lt, take, Option, Some, None, is_none}
-use Rattle.std.specs.Prelude.{is_some, slice_index_or, unwrap_or, if◌then◌else◌, Ok}
+use Rattle.std.specs.Prelude.{◌≡◌, ◌⊎◌, ℕ, ◌-◌, ◌<◌, ◌≤◌, ◌==◌, ◌||◌, ◌&&◌, not, Bool, true, false}
+use Rattle.std.specs.Prelude.{List, [], ◌∷◌, ◌++◌, length, nat_lt, nat_le, take, Option, Some, None}
+use Rattle.std.specs.Prelude.{is_none, is_some, slice_index_or, unwrap_or, if◌then◌else◌, Ok}
 use Rattle.std.specs.FinMap.{get}
 use Rattle.std.specs.Option.{option_map}
-use Rattle.cs_names.specs.declared.limits.TheConstants.{FILE_BYTES, SAY_BYTES}
+use Rattle.cs_entries.specs.declared.node.FileKind.TheVariants.{Regular, Symlink}
+use Rattle.cs_entries.specs.declared.node.Node.{Node}
+use Rattle.cs_entries.specs.declared.node.Node.TheVariants.{Directory, File}
+use Rattle.cs_entries.specs.Tables.{has_entries}
+use Rattle.cs_names.specs.Paths.{path_eq}
+use Rattle.cs_names.specs.declared.limits.TheConstants.{SAY_BYTES, TREE_RECORDS}
 use Rattle.cs_tree_model.specs.Tree.{Path, parent_path}
-use Rattle.cs_trace.specs.Attributes.{Attributes}
-use Rattle.cs_trace.specs.Below.{has_below}
-use Rattle.cs_trace.specs.Entries.{node_of, size_of}
-use Rattle.cs_trace.specs.Judging.{ends_above, has_too_many_names, node_and_rights_at, is_too_much}
+use Rattle.cs_start.specs.Below.{is_below}
+use Rattle.cs_start.specs.Entries.{size_of}
+use Rattle.cs_trace.specs.Judging.{directory_number, ends_above, has_too_many_names}
+use Rattle.cs_trace.specs.Judging.{held_by, is_path_of, is_too_much, may_set, node_at}
+use Rattle.cs_trace.specs.Limits.{most_bytes}
 use Rattle.cs_trace_lines.specs.Lines as line
-use Rattle.cs_trace_lines.specs.Lines.{Line, OperationLine, is_blank, line_in}
-use Rattle.cs_trace.specs.Names.{are_user_names, entry_path_of, new_path_of, path_of, set_path_of}
-use Rattle.cs_trace.specs.Operations.{Paths}
-use Rattle.cs_trace.specs.States.{State, state_in}
+use Rattle.cs_trace_lines.specs.Lines.{Change, Line, OperationLine, StartContent, is_blank, line_in}
+use Rattle.cs_trace_lines.specs.Versions.{is_fourth}
+use Rattle.cs_start.specs.Names.{entry_path_of, path_of}
+use Rattle.cs_trace.specs.Names.{are_user_names, new_path_of, set_path_of}
+use Rattle.cs_trace.specs.State.{State}
+use Rattle.cs_trace.specs.States.{bytes_of, state_in}
+use Rattle.cs_start.specs.declared.entry.StartEntry.{StartEntry}
 use Rattle.cs_trace.specs.declared.fault.TraceFault.{TraceFault}
 use Rattle.cs_trace.specs.declared.fault.TraceFaultKind.{TraceFaultKind}
 use Rattle.cs_trace.specs.declared.fault.TraceFaultKind.TheVariants.{Syntax, UnknownOp, BadName}
 use Rattle.cs_trace.specs.declared.fault.TraceFaultKind.TheVariants.{NoParent, NotDir, Exists}
 use Rattle.cs_trace.specs.declared.fault.TraceFaultKind.TheVariants.{Missing, NotFile, NotEmpty}
 use Rattle.cs_trace.specs.declared.fault.TraceFaultKind.TheVariants.{TooLarge}
-use Rattle.cs_trace.specs.declared.operation.Node.{Node}
-use Rattle.cs_trace.specs.declared.operation.Node.TheVariants.{Directory, File}
 
 -- whether a line fails, and the fault that it then has
 abbrev pub Check : Type 0
@@ -35,34 +42,45 @@ first_fault (c ∷ cs) = if c.0 then Some c.1 else first_fault cs
 
 -- ---- what is at a path
 
-abbrev pub is_file : Option Node → Bool
-is_file None = false
-is_file (Some Directory) = false
-is_file (Some (File file)) = true
+-- a file or a symbolic link
+abbrev pub is_leaf : Option Node → Bool
+is_leaf None = false
+is_leaf (Some (Directory d)) = false
+is_leaf (Some (File kind file)) = true
+
+abbrev pub is_symlink : Option Node → Bool
+is_symlink (Some (File Symlink file)) = true
+is_symlink _ = false
 
 abbrev pub is_directory : Option Node → Bool
 is_directory None = false
-is_directory (Some Directory) = true
-is_directory (Some (File file)) = false
+is_directory (Some (Directory d)) = true
+is_directory (Some (File kind file)) = false
 
--- what a new entry needs of the directory above it, and of its path
+-- what a path needs of the directory above it
+abbrev pub above_checks : Option Node → List Check
+above_checks above = (is_none above, NoParent) ∷ (is_leaf above, NotDir) ∷ []
+
+-- and what a new entry needs of the path, too
 abbrev pub new_checks : Option Node → Option Node → List Check
-new_checks above here =
-    (is_none above, NoParent) ∷ (is_file above, NotDir) ∷ (is_some here, Exists) ∷ []
+new_checks above here = above_checks above ++ (is_some here, Exists) ∷ []
 
--- what needs a file
+-- what needs a file that is no symbolic link
 abbrev pub file_checks : Option Node → List Check
-file_checks here = (is_none here, Missing) ∷ (is_directory here, NotFile) ∷ []
+file_checks here = (is_none here, Missing) ∷ (is_directory here || is_symlink here, NotFile) ∷ []
 
--- what a file needs of the directory above its new path, and of the path
-abbrev pub target_checks : Option Node → Option Node → List Check
-target_checks above here =
-    (is_none above, NoParent) ∷ (is_file above, NotDir) ∷ (is_directory here, NotFile) ∷ []
+-- what needs a file or a symbolic link
+abbrev pub leaf_checks : Option Node → List Check
+leaf_checks here = (is_none here, Missing) ∷ (is_directory here, NotFile) ∷ []
 
--- what needs a directory that is empty; whether something is below it
-abbrev pub emptied_checks : Option Node → Bool → List Check
-emptied_checks here below =
-    (is_none here, Missing) ∷ (is_file here, NotDir) ∷ (below, NotEmpty) ∷ []
+-- the directory here has an entry
+abbrev pub is_filled : State → Option Node → Bool
+is_filled s here = is_directory here && has_entries s.system.entries (directory_number here)
+
+-- what needs a directory that is empty
+abbrev pub emptied_checks : State → Option Node → List Check
+emptied_checks s here =
+    (is_none here, Missing) ∷ (is_leaf here, NotDir) ∷ (is_filled s here, NotEmpty) ∷ []
 
 -- ---- operations
 
@@ -73,46 +91,101 @@ limit large = (large, TooLarge) ∷ []
 abbrev pub on_path : Option Path → (Path → List Check) → List Check
 on_path path checks = (is_none path, BadName) ∷ checks (unwrap_or path [])
 
-abbrev pub made_checks : Paths → ℕ → Path → List Check
-made_checks m made p = new_checks (get m (parent_path p)) (get m p) ++ limit (is_too_much made p)
+abbrev pub made_checks : State → Path → List Check
+made_checks s p =
+    new_checks (node_at s (parent_path p)) (node_at s p) ++ limit (is_too_much s.made p)
 
--- a file gets one path more, q; what is at the path that it has
-abbrev pub linked_checks : Paths → ℕ → Option Node → Path → List Check
-linked_checks m made here q = file_checks here ++ made_checks m made q
+-- a file gets one path more, q; what is at the path p that it has
+abbrev pub linked_checks : State → Path → Option Node → Path → List Check
+linked_checks s p here q =
+    file_checks here
+    ++ (new_checks (node_at s (parent_path q)) (node_at s q)
+    ++ limit (has_too_many_names p || is_too_much s.made q))
 
-abbrev pub moved_checks : Paths → Path → Path → List Check
-moved_checks m p q =
-    file_checks (get m p)
-    ++ (target_checks (get m (parent_path q)) (get m q) ++ limit (has_too_many_names q))
+-- both have a number, and it isn't the same
+abbrev pub are_apart : Option Node → Option Node → Bool
+are_apart above beside = not (directory_number above == directory_number beside)
 
-abbrev pub written_checks : Paths → Bool → Path → List Check
-written_checks m large p = file_checks (get m p) ++ limit large
+-- a rename into another directory makes a record in the fourth version, unless it does nothing
+abbrev pub is_too_much_to_move : State → Bool → Path → Path → Bool
+is_too_much_to_move s nothing p q =
+    is_fourth s.version && not nothing
+    && are_apart (node_at s (parent_path p)) (node_at s (parent_path q)) && nat_le TREE_RECORDS s.made
 
-abbrev pub operation_checks : Paths → ℕ → Attributes → OperationLine → List Check
-operation_checks m made a (line.Creat text claims) =
-    on_path (new_path_of text claims) (made_checks m made)
-operation_checks m made a (line.Mkdir text claims) =
-    on_path (new_path_of text claims) (made_checks m made)
-operation_checks m made a (line.Link from to) =
-    on_path (entry_path_of from) (λ p. on_path (entry_path_of to) (linked_checks m made (get m p)))
-operation_checks m made a (line.Unlink text) =
-    on_path (entry_path_of text) (λ p. file_checks (get m p))
-operation_checks m made a (line.Rmdir text) =
-    on_path (entry_path_of text) (λ p. emptied_checks (get m p) (has_below m p))
-operation_checks m made a (line.Rename from to) =
-    on_path (entry_path_of from) (λ p. on_path (entry_path_of to) (moved_checks m p))
-operation_checks m made a (line.Write text offset bytes) =
-    on_path (entry_path_of text) (written_checks m (ends_above offset bytes))
-operation_checks m made a (line.Truncate text size) =
-    on_path (entry_path_of text) (written_checks m (nat_lt FILE_BYTES size))
-operation_checks m made a (line.SetAttr text change) =
-    on_path (set_path_of text change) (λ p. (is_none (node_and_rights_at m a p), Missing) ∷ [])
-operation_checks m made a (line.Fsync text) =
-    on_path (path_of text) (λ p. (is_none (get m p), Missing) ∷ [])
-operation_checks m made a (line.FsyncRange text offset count) =
-    on_path (entry_path_of text) (λ p. file_checks (get m p))
-operation_checks m made a line.Sync = []
-operation_checks m made a (line.Say text) = limit (nat_lt SAY_BYTES (length text))
+abbrev pub move_limit : State → Bool → Path → Path → List Check
+move_limit s nothing p q =
+    limit (has_too_many_names p || has_too_many_names q || is_too_much_to_move s nothing p q)
+
+-- a file is moved onto nothing, a file or a symbolic link
+abbrev pub moved_file_checks : State → ℕ → Path → Path → List Check
+moved_file_checks s file p q =
+    above_checks (node_at s (parent_path q))
+    ++ ((is_directory (node_at s q), NotFile) ∷ move_limit s (is_path_of file (node_at s q)) p q)
+
+-- a directory is moved onto nothing or an empty directory, and not below itself; to itself it is
+-- moved whatever is in it
+abbrev pub moved_directory_checks : State → Path → Path → List Check
+moved_directory_checks s p q =
+    above_checks (node_at s (parent_path q))
+    ++ ((is_below p q, BadName) ∷ (is_leaf (node_at s q), NotDir)
+    ∷ (not (path_eq p q) && is_filled s (node_at s q), NotEmpty) ∷ move_limit s (path_eq p q) p q)
+
+abbrev pub moved_checks_by : State → Path → Path → Option Node → List Check
+moved_checks_by s p q None = (true, Missing) ∷ []
+moved_checks_by s p q (Some (File kind file)) = moved_file_checks s file p q
+moved_checks_by s p q (Some (Directory d)) =
+    if is_fourth s.version then moved_directory_checks s p q else (true, NotFile) ∷ []
+
+abbrev pub moved_checks : State → Path → Path → List Check
+moved_checks s p q = moved_checks_by s p q (node_at s p)
+
+abbrev pub written_checks : State → Bool → Path → List Check
+written_checks s large p = file_checks (node_at s p) ++ limit (has_too_many_names p || large)
+
+-- a mode isn't set of a symbolic link; what has no rights that are known is missing
+abbrev pub set_checks_of : State → Path → Change → Node → List Check
+set_checks_of s p change node =
+    (not (may_set change node), NotFile) ∷ (is_none (held_by s.attributes p node), Missing)
+    ∷ limit (has_too_many_names p)
+
+abbrev pub set_checks_by : State → Path → Change → Option Node → List Check
+set_checks_by s p change None = (true, Missing) ∷ []
+set_checks_by s p change (Some node) = set_checks_of s p change node
+
+abbrev pub synced_checks : State → Path → List Check
+synced_checks s p =
+    (is_none (node_at s p), Missing) ∷ (is_symlink (node_at s p), NotFile)
+    ∷ limit (has_too_many_names p)
+
+abbrev pub operation_checks : State → OperationLine → List Check
+operation_checks s (line.Creat text claims) = on_path (new_path_of text claims) (made_checks s)
+operation_checks s (line.Mkdir text claims) = on_path (new_path_of text claims) (made_checks s)
+operation_checks s (line.Symlink text claims target) =
+    on_path (new_path_of text claims) (made_checks s)
+operation_checks s (line.Link from to) =
+    on_path (entry_path_of from) (λ p.
+    on_path (entry_path_of to) (linked_checks s p (node_at s p)))
+operation_checks s (line.Unlink text) =
+    on_path (entry_path_of text) (λ p.
+    leaf_checks (node_at s p) ++ limit (has_too_many_names p))
+operation_checks s (line.Rmdir text) =
+    on_path (entry_path_of text) (λ p.
+    emptied_checks s (node_at s p) ++ limit (has_too_many_names p))
+operation_checks s (line.Rename from to) =
+    on_path (entry_path_of from) (λ p. on_path (entry_path_of to) (moved_checks s p))
+operation_checks s (line.Write text offset bytes) =
+    on_path (entry_path_of text) (written_checks s (ends_above s.version offset bytes))
+operation_checks s (line.Truncate text size) =
+    on_path (entry_path_of text) (written_checks s (nat_lt (most_bytes s.version) size))
+operation_checks s (line.SetAttr text change) =
+    on_path (set_path_of text change) (λ p. set_checks_by s p change (node_at s p))
+operation_checks s (line.Fsync text) = on_path (path_of text) (synced_checks s)
+operation_checks s (line.Fdatasync text) =
+    on_path (entry_path_of text) (written_checks s false)
+operation_checks s (line.FsyncRange text offset count) =
+    on_path (entry_path_of text) (written_checks s false)
+operation_checks s line.Sync = []
+operation_checks s (line.Say text) = limit (nat_lt SAY_BYTES (length text))
 
 -- ---- lines
 
@@ -125,10 +198,10 @@ first_checks _ = (true, Syntax) ∷ []
 abbrev pub is_late : State → Bool
 is_late s = not (length s.operations == 0)
 
-abbrev pub start_checks : State → Option (List ℕ) → Path → List Check
+abbrev pub start_checks : State → StartContent → Path → List Check
 start_checks s content p =
-    new_checks (get s.paths (parent_path p)) (get s.paths p)
-    ++ limit (is_too_much s.made p || nat_lt FILE_BYTES (size_of content))
+    new_checks (node_at s (parent_path p)) (node_at s p)
+    ++ limit (is_too_much s.made p || nat_lt (most_bytes s.version) (size_of (bytes_of content)))
 
 abbrev pub later_checks : State → Line → List Check
 later_checks s (line.Header version claims) = (true, Syntax) ∷ []
@@ -137,9 +210,9 @@ later_checks s (line.Start l) =
 later_checks s (line.StartLink path from) =
     (is_late s, Syntax)
     ∷ on_path (entry_path_of path) (λ q. on_path (entry_path_of from) (λ p.
-    linked_checks s.paths s.made (option_map node_of (get s.start p)) q))
+    linked_checks s p (option_map (λ (e : StartEntry). e.node) (get s.start p)) q))
 later_checks s line.UnknownStart = (is_late s, Syntax) ∷ (true, UnknownOp) ∷ []
-later_checks s (line.Operation l) = operation_checks s.paths s.made s.attributes l
+later_checks s (line.Operation l) = operation_checks s l
 later_checks s line.UnknownOperation = (true, UnknownOp) ∷ []
 
 abbrev pub line_checks : State → Option Line → List Check

@@ -1,105 +1,114 @@
 -- The state after the lines of a trace, one after another.
-use Rattle.std.specs.Prelude.{ℕ, ◌+◌, ◌==◌, List, [], ◌∷◌, ◌++◌, length, nat_lt, ◌||◌, Option, Some, false}
-use Rattle.std.specs.Prelude.{None, if◌then◌else◌, Result, Ok, Err}
-use Rattle.std.specs.FinMap.{empty, get, insert}
+use Rattle.std.specs.Prelude.{ℕ, ◌+◌, ◌==◌, List, [], ◌∷◌, ◌++◌, length, nat_lt, ◌||◌, Option, Some}
+use Rattle.std.specs.Prelude.{None, false, true, Bool, if◌then◌else◌, Result, Ok, Err}
+use Rattle.std.specs.FinMap.{get, insert}
 use Rattle.std.specs.List.{slice_split}
-use Rattle.std.specs.Option.{is_some, option_map_or}
-use Rattle.cs_names.specs.declared.limits.TheConstants.{FILE_BYTES}
+use Rattle.std.specs.Option.{option_map_or}
+use Rattle.cs_entries.specs.declared.node.FileKind.TheVariants.{Regular, Symlink}
+use Rattle.cs_entries.specs.declared.node.Node.{Node}
+use Rattle.cs_entries.specs.declared.node.Node.TheVariants.{Directory, File}
+use Rattle.cs_entries.specs.DirEntries.{entry_of}
+use Rattle.cs_entries.specs.Tables.{Table}
 use Rattle.cs_tree_model.specs.Tree.{Path}
-use Rattle.cs_trace.specs.Attributes.{Attributes, attributes_after, kept_in, no_attributes}
+use Rattle.cs_trace.specs.Attributes.{Attributes, attributes_after, kept_in}
 use Rattle.cs_trace.specs.Attributes.{with_directory, with_file}
-use Rattle.cs_trace.specs.Entries.{Entries, node_of, size_of}
-use Rattle.cs_trace.specs.Judging.{and_then, free_at, is_too_much, resolve, unless_too_large}
-use Rattle.cs_trace.specs.Judging.{with_path}
+use Rattle.cs_start.specs.Entries.{size_of}
+use Rattle.cs_trace.specs.Judging.{and_then, entry_at, free_at, has_too_many_names, is_too_much}
+use Rattle.cs_trace.specs.Judging.{resolve, unless_too_large, with_path}
+use Rattle.cs_trace.specs.Limits.{most_bytes}
 use Rattle.cs_trace_lines.specs.Lines.{Claims, Header, Line, Operation, Start, StartLine, StartLink}
+use Rattle.cs_trace_lines.specs.Lines.{StartContent, OfDirectory, OfFile, OfSymlink}
 use Rattle.cs_trace_lines.specs.Lines.{UnknownOperation, UnknownStart, is_blank, line_in}
-use Rattle.cs_trace.specs.Names.{are_user_names, entry_path_of, new_path_of, rights_of}
-use Rattle.cs_trace.specs.Operations.{Paths, made_by, paths_after, sizes_after}
-use Rattle.cs_trace.specs.declared.entry.StartEntry.{StartEntry}
+use Rattle.cs_start.specs.Names.{entry_path_of}
+use Rattle.cs_trace.specs.Names.{are_user_names, new_path_of, rights_of}
+use Rattle.cs_trace.specs.Operations.{FileSystem, made_by, number_for, system_after}
+use Rattle.cs_trace.specs.State.{State, empty_state}
+use Rattle.cs_start.specs.declared.entry.StartEntry.{StartEntry}
 use Rattle.cs_trace.specs.declared.fault.TraceFault.{TraceFault}
 use Rattle.cs_trace.specs.declared.fault.TraceFaultKind.{TraceFaultKind}
 use Rattle.cs_trace.specs.declared.fault.TraceFaultKind.TheVariants.{Syntax, UnknownOp, BadName}
 use Rattle.cs_trace.specs.declared.fault.TraceFaultKind.TheVariants.{Missing, NotFile}
 use Rattle.cs_trace.specs.declared.operation.Operation.{Operation as Resolved}
 use Rattle.cs_trace_lines.specs.declared.version.Version.{Version}
-use Rattle.cs_trace_lines.specs.declared.version.Version.TheVariants.{First}
-
--- the state after the lines so far: the version; the entries at the start, the path that each of
--- its files was made at, by their numbers, and the further paths of them with the file's number;
--- what is at each path now, each file's size by its number, how many records were ever made, and
--- owner, group and permissions of files and directories, if the version needs them; the operations
-pub record State : Type 0 where
-  pub version : Version
-  pub start : Entries
-  pub files : List Path
-  pub links : List (Path × ℕ)
-  pub paths : Paths
-  pub sizes : List ℕ
-  pub made : ℕ
-  pub attributes : Attributes
-  pub operations : List Resolved
-
-abbrev pub empty_state : State
-empty_state = record {
-  version = First;
-  start = empty;
-  files = [];
-  links = [];
-  paths = empty;
-  sizes = [];
-  made = 0;
-  attributes = no_attributes;
-  operations = [];
-}
 
 -- ---- one line more
 
--- a directory, or a file with its bytes, at the start
-abbrev pub with_entry : State → Path → StartEntry → Option (List ℕ) → State
-with_entry s p e None = record s {
-  start = insert s.start p e;
-  paths = insert s.paths p (node_of e);
-  made = s.made + 1;
-  attributes = kept_in s.version s.attributes (with_directory s.attributes p e.rights);
+-- the bytes of a file or a symbolic link
+abbrev pub bytes_of : StartContent → Option (List ℕ)
+bytes_of OfDirectory = None
+bytes_of (OfFile bytes) = Some bytes
+bytes_of (OfSymlink target) = Some target
+
+-- what a start line makes: a file or a symbolic link has the next number of a file
+abbrev pub node_for : State → Path → StartContent → Node
+node_for s p OfDirectory =
+    Directory (number_for s.version s.system.homes (entry_of (entry_at s p)))
+node_for s p (OfFile bytes) = File Regular (length s.system.sizes)
+node_for s p (OfSymlink target) = File Symlink (length s.system.sizes)
+
+-- the root has no entry
+abbrev pub with_held : State → Path → Node → Table
+with_held s [] node = s.system.entries
+with_held s (name ∷ names) node =
+    insert s.system.entries (entry_of (entry_at s (name ∷ names))) node
+
+-- a file or a symbolic link has so many bytes, and a directory its home
+abbrev pub system_with : State → Path → Node → Option (List ℕ) → FileSystem
+system_with s p (Directory d) bytes = record s.system {
+  entries = with_held s p (Directory d);
+  homes = s.system.homes ++ entry_of (entry_at s p) ∷ [];
 }
-with_entry s p e (Some bytes) = record s {
-  start = insert s.start p e;
-  files = s.files ++ p ∷ [];
-  paths = insert s.paths p (node_of e);
-  sizes = s.sizes ++ length bytes ∷ [];
-  made = s.made + 1;
-  attributes = kept_in s.version s.attributes (with_file s.attributes e.rights);
+system_with s p (File kind file) bytes = record s.system {
+  entries = with_held s p (File kind file);
+  sizes = s.system.sizes ++ size_of bytes ∷ [];
 }
 
--- a file takes the next number; a directory has none
-abbrev pub number_for : State → Option (List ℕ) → ℕ
-number_for s None = 0
-number_for s (Some bytes) = length s.sizes
+abbrev pub files_with : List Path → Path → Node → List Path
+files_with files p (Directory d) = files
+files_with files p (File kind file) = files ++ p ∷ []
 
-abbrev pub entry_for : State → Claims → Option (List ℕ) → StartEntry
-entry_for s claims content =
-    record {
-      number = number_for s content;
-      own = is_some content;
-      rights = rights_of claims;
-      content = content;
-    }
+abbrev pub attributes_with : Attributes → StartEntry → Node → Attributes
+attributes_with a e (Directory d) = with_directory a d e.rights
+attributes_with a e (File kind file) = with_file a e.rights
 
-abbrev pub with_start : State → Path → Claims → Option (List ℕ) → State
-with_start s p claims content = with_entry s p (entry_for s claims content) content
+-- a directory, a file or a symbolic link at the start
+abbrev pub with_entry : State → Path → StartEntry → State
+with_entry s p e = record s {
+  start = insert s.start p e;
+  files = files_with s.files p e.node;
+  system = system_with s p e.node e.content;
+  made = s.made + 1;
+  attributes = kept_in s.version s.attributes (attributes_with s.attributes e e.node);
+}
+
+-- files and symbolic links are made at their own paths
+abbrev pub is_leaf : Node → Bool
+is_leaf (Directory d) = false
+is_leaf (File kind file) = true
+
+abbrev pub entry_for : Node → Claims → StartContent → StartEntry
+entry_for node claims content = record {
+  node = node;
+  own = is_leaf node;
+  rights = rights_of claims;
+  content = bytes_of content;
+}
+
+abbrev pub with_start : State → Path → Claims → StartContent → State
+with_start s p claims content = with_entry s p (entry_for (node_for s p content) claims content)
 
 -- one path more, p, for a file at the start: a record of its own, with what the file has
-abbrev pub with_link : State → Path → StartEntry → State
-with_link s p e = record s {
+abbrev pub with_link : State → Path → StartEntry → ℕ → State
+with_link s p e file = record s {
   start = insert s.start p e;
-  links = s.links ++ (p, e.number) ∷ [];
-  paths = insert s.paths p (node_of e);
+  links = s.links ++ (p, file) ∷ [];
+  system = record s.system { entries = with_held s p e.node };
   made = s.made + 1;
 }
 
 -- a trace of this version, with only the root
 abbrev pub after_header : State → Version → Claims → State
-after_header s version claims = with_start (record s { version = version }) [] claims None
+after_header s version claims = with_start (record s { version = version }) [] claims OfDirectory
 
 -- the first line is the header, which sets the version and adds the root
 abbrev pub first_step : State → Line → Result State TraceFaultKind
@@ -107,11 +116,12 @@ first_step s (Header version claims) =
     if are_user_names claims then Ok (after_header s version claims) else Err BadName
 first_step s _ = Err Syntax
 
--- a file or a directory at the start, if its names are legal
-abbrev pub start_at : State → Path → Claims → Option (List ℕ) → Result State TraceFaultKind
+-- a file, a symbolic link or a directory at the start, if its names are legal
+abbrev pub start_at : State → Path → Claims → StartContent → Result State TraceFaultKind
 start_at s p claims content =
-    and_then (free_at s.paths p) (λ _.
-    unless_too_large (is_too_much s.made p || nat_lt FILE_BYTES (size_of content))
+    and_then (free_at s p) (λ _.
+    unless_too_large
+    (is_too_much s.made p || nat_lt (most_bytes s.version) (size_of (bytes_of content)))
     (with_start s p claims content))
 
 abbrev pub start_step : State → StartLine → Result State TraceFaultKind
@@ -119,20 +129,22 @@ start_step s line =
     with_path (new_path_of line.path line.claims) (λ p. start_at s p line.claims line.content)
 
 -- the file at a path of the start
-abbrev pub start_file_by : StartEntry → Option (List ℕ) → Result StartEntry TraceFaultKind
-start_file_by e None = Err NotFile
-start_file_by e (Some bytes) = Ok e
+abbrev pub start_file_by : StartEntry → Node → Result (StartEntry × ℕ) TraceFaultKind
+start_file_by e (Directory d) = Err NotFile
+start_file_by e (File Symlink file) = Err NotFile
+start_file_by e (File Regular file) = Ok (e, file)
 
-abbrev pub start_file_at : Option StartEntry → Result StartEntry TraceFaultKind
+abbrev pub start_file_at : Option StartEntry → Result (StartEntry × ℕ) TraceFaultKind
 start_file_at None = Err Missing
-start_file_at (Some e) = start_file_by e e.content
+start_file_at (Some e) = start_file_by e e.node
 
 -- one path more, q, for the file at p of the start
 abbrev pub start_link_at : State → Path → Path → Result State TraceFaultKind
 start_link_at s p q =
     and_then (start_file_at (get s.start p)) (λ e.
-    and_then (free_at s.paths q) (λ _.
-    unless_too_large (is_too_much s.made q) (with_link s q (record e { own = false }))))
+    and_then (free_at s q) (λ _.
+    unless_too_large (has_too_many_names p || is_too_much s.made q)
+    (with_link s q (record e.0 { own = false }) e.1)))
 
 abbrev pub start_link_step : State → List ℕ → List ℕ → Result State TraceFaultKind
 start_link_step s path from =
@@ -140,9 +152,8 @@ start_link_step s path from =
 
 abbrev pub after_operation : State → Resolved → State
 after_operation s o = record s {
-  paths = paths_after s.paths o;
-  sizes = sizes_after s.sizes o;
-  made = s.made + made_by o;
+  system = system_after s.system o;
+  made = s.made + made_by s.version o;
   attributes = kept_in s.version s.attributes (attributes_after s.attributes o);
   operations = s.operations ++ o ∷ [];
 }
@@ -155,7 +166,7 @@ later_step s (StartLink path from) =
     if length s.operations == 0 then start_link_step s path from else Err Syntax
 later_step s UnknownStart = if length s.operations == 0 then Err UnknownOp else Err Syntax
 later_step s (Operation line) =
-    and_then (resolve s.paths s.sizes s.made s.attributes line) (λ o. Ok (after_operation s o))
+    and_then (resolve s line) (λ o. Ok (after_operation s o))
 later_step s UnknownOperation = Err UnknownOp
 
 abbrev pub line_step : State → Line → Result State TraceFaultKind

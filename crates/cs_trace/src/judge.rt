@@ -1,86 +1,145 @@
-//! What an operation needs of the files and directories that are there, and the limits of a trace.
-ghost use Rattle.std.specs.Prelude.{◌≡◌, ◌||◌, IfErr, IfOk, Err, Ok, length, nat_le, nat_lt};
-ghost use Rattle.std.specs.FinMap as map;
+//! What an operation needs of what is at its paths, and the limits of a trace.
+ghost use Rattle.std.specs.Prelude.{◌≡◌, ◌||◌, nat_le, nat_lt};
+ghost use Rattle.cs_entries.specs.Paths.{at_path};
+ghost use Rattle.cs_entries.specs.Tables.{held_in};
 ghost use Rattle.cs_names.specs.declared.limits.TheConstants.{TRACE_PATH_NAMES, TREE_RECORDS};
+ghost use Rattle.cs_trace.specs.Judging.{directory_number, emptied_by, ends_above, entry_below};
+ghost use Rattle.cs_trace.specs.Judging.{file_by, is_path_of, leaf_by, parent_by, size_in};
+ghost use Rattle.cs_trace.specs.Judging.{under_directory, under_file};
+ghost use Rattle.cs_trace.specs.Kept.{free_number, parent_number};
 ghost use Rattle.cs_tree_model.specs.Tree.{parent_path};
-ghost use Rattle.cs_trace.specs.Judging.{emptied_at, ends_above, file_at, free_at, is_path_of};
-ghost use Rattle.cs_trace.specs.Judging.{size_in, target_at};
 
 use crate::fault::TraceFaultKind;
-use crate::operation::Node;
+use crate::limits::most_bytes;
 use crate::tree::Tree;
+use cs_entries::{DirEntry, FileKind, Node};
 use cs_names::Path;
-use cs_names::limits::{FILE_BYTES, TRACE_PATH_NAMES, TREE_RECORDS};
+use cs_names::limits::{TRACE_PATH_NAMES, TREE_RECORDS};
+use cs_trace_lines::Version;
 
-/// The number of the file at the path now. Nothing there is Missing, and a directory is NotFile, as
-/// in `start_file`.
+/// The number of the regular file here. Nothing is Missing; a directory and a symbolic link are
+/// NotFile.
+pub(crate) fn file_by(here: Option<Node>) -> Result<u32, TraceFaultKind>
+    ensures { result ≡ file_by here }
+{
+    match here {
+        None => Err(TraceFaultKind::Missing),
+        Some(Node::Directory(_) | Node::File(FileKind::Symlink, _)) => Err(TraceFaultKind::NotFile),
+        Some(Node::File(FileKind::Regular, file)) => Ok(file),
+    }
+}
+
+/// The number of the regular file at the path (`file_by`).
 pub(crate) fn file_at(tree: &Tree, path: &Path) -> Result<u32, TraceFaultKind>
-    ensures { result ≡ file_at tree.now.nodes path.now }
+    ensures { result ≡ file_by (at_path (held_in tree.now) path.now) }
 {
-    match tree.get(path) {
+    file_by(tree.at(path.names()))
+}
+
+/// The file or symbolic link at the path. Nothing is Missing, and a directory is NotFile.
+pub(crate) fn leaf_at(tree: &Tree, path: &Path) -> Result<(FileKind, u32), TraceFaultKind>
+    ensures { result ≡ leaf_by (at_path (held_in tree.now) path.now) }
+{
+    match tree.at(path.names()) {
         None => Err(TraceFaultKind::Missing),
-        Some(Node::Directory) => Err(TraceFaultKind::NotFile),
-        Some(Node::File(file)) => Ok(file),
+        Some(Node::Directory(_)) => Err(TraceFaultKind::NotFile),
+        Some(Node::File(kind, file)) => Ok((kind, file)),
     }
 }
 
-/// Checks that a new entry may be made at the path, whose parent path is `above`. Nothing at the
-/// parent path is NoParent, a file there is NotDir (as in `find_above`), and anything at the path
-/// itself is Exists.
-pub(crate) fn check_free(tree: &Tree, above: &Path, path: &Path) -> Result<(), TraceFaultKind>
-    requires { above.now ≡ parent_path path.now }
-    ensures { result ≡ free_at tree.now.nodes path.now }
+/// The number of the directory above, which is here. Nothing is NoParent, and a file or a symbolic
+/// link is NotDir.
+pub(crate) fn parent_by(here: Option<Node>) -> Result<u32, TraceFaultKind>
+    ensures { result ≡ parent_by here }
 {
-    match (tree.get(above), tree.get(path)) {
-        (None, _) => Err(TraceFaultKind::NoParent),
-        (Some(Node::File(_)), _) => Err(TraceFaultKind::NotDir),
-        (Some(Node::Directory), Some(_)) => Err(TraceFaultKind::Exists),
-        (Some(Node::Directory), None) => Ok(()),
+    match here {
+        None => Err(TraceFaultKind::NoParent),
+        Some(Node::File(..)) => Err(TraceFaultKind::NotDir),
+        Some(Node::Directory(directory)) => Ok(directory),
     }
 }
 
-/// Checks that a file may be moved to the path, whose parent path is `above`; it may replace a
-/// file. Nothing at the parent path is NoParent, a file there is NotDir, and a directory at the
-/// path itself is NotFile. Returns what is at the path: a file, or None.
-pub(crate) fn check_target(
+/// The number of the directory above the path (`parent_by`); of the root, of the root itself.
+pub(crate) fn parent_of(tree: &Tree, path: &Path) -> Result<u32, TraceFaultKind>
+    ensures { result ≡ parent_number tree.now path.now }
+{
+    parent_by(tree.at(path.names().parent()))
+}
+
+/// The number of the directory above the path, at which nothing may be: that is Exists, after the
+/// faults of `parent_of`.
+pub(crate) fn free_in(tree: &Tree, path: &Path) -> Result<u32, TraceFaultKind>
+    ensures { result ≡ free_number tree.now path.now }
+{
+    let directory = parent_of(tree, path)?;
+    match tree.at(path.names()) {
+        Some(_) => Err(TraceFaultKind::Exists),
+        None => Ok(directory),
+    }
+}
+
+/// The entry of a path whose directory is there.
+pub(crate) fn entry_at(tree: &Tree, path: Path) -> DirEntry
+    ensures { result
+        ≡ entry_below (directory_number (at_path (held_in tree.now) (parent_path path))) path }
+{
+    let directory = match tree.at(path.names().parent()) {
+        Some(Node::Directory(directory)) => directory,
+        _ => 0,
+    };
+    DirEntry { directory, path }
+}
+
+/// What a file may be moved onto: nothing, a file or a symbolic link. A directory is NotFile.
+pub(crate) fn under_file(here: Option<Node>) -> Result<Option<Node>, TraceFaultKind>
+    ensures { result ≡ under_file here }
+{
+    match here {
+        Some(Node::Directory(_)) => Err(TraceFaultKind::NotFile),
+        _ => Ok(here),
+    }
+}
+
+/// The number of the empty directory here. Nothing is Missing, a file or a symbolic link is NotDir,
+/// and a directory with an entry is NotEmpty.
+pub(crate) fn emptied_by(tree: &Tree, here: Option<Node>) -> Result<u32, TraceFaultKind>
+    ensures { result ≡ emptied_by tree.now here }
+{
+    match here {
+        None => Err(TraceFaultKind::Missing),
+        Some(Node::File(..)) => Err(TraceFaultKind::NotDir),
+        Some(Node::Directory(directory)) => {
+            if tree.has_entries(directory) {
+                return Err(TraceFaultKind::NotEmpty);
+            }
+            Ok(directory)
+        }
+    }
+}
+
+/// What a directory may be moved onto: nothing, or an empty directory. A file or a symbolic link is
+/// NotDir, and a directory with an entry is NotEmpty.
+pub(crate) fn under_directory(
     tree: &Tree,
-    above: &Path,
-    path: &Path,
+    here: Option<Node>,
 ) -> Result<Option<Node>, TraceFaultKind>
-    requires { above.now ≡ parent_path path.now }
-    ensures there { IfOk result (λ there. there ≡ map.get tree.now.nodes path.now) }
-    ensures passed { IfOk result (λ _. target_at tree.now.nodes path.now ≡ Ok tt) }
-    ensures fault { IfErr result (λ kind. target_at tree.now.nodes path.now ≡ Err kind) }
+    ensures { result ≡ under_directory tree.now here }
 {
-    match (tree.get(above), tree.get(path)) {
-        (None, _) => Err(TraceFaultKind::NoParent),
-        (Some(Node::File(_)), _) => Err(TraceFaultKind::NotDir),
-        (Some(Node::Directory), Some(Node::Directory)) => Err(TraceFaultKind::NotFile),
-        (Some(Node::Directory), there) => Ok(there),
+    if here.is_none() {
+        return Ok(None);
     }
+    let directory = emptied_by(tree, here)?;
+    Ok(Some(Node::Directory(directory)))
 }
 
-/// Checks that an empty directory is at the path. Nothing there is Missing, a file is NotDir, and a
-/// directory with something in it is NotEmpty.
-pub(crate) fn check_emptied(tree: &Tree, path: &Path) -> Result<(), TraceFaultKind>
-    ensures { result ≡ emptied_at tree.now.nodes path.now }
+/// Whether this is the file of that number. False for a directory, and for None, which means that
+/// nothing is there.
+pub(crate) fn is_path_of(file: u32, here: Option<Node>) -> bool
+    ensures { result ≡ is_path_of file here }
 {
-    match tree.get(path) {
-        None => Err(TraceFaultKind::Missing),
-        Some(Node::File(_)) => Err(TraceFaultKind::NotDir),
-        Some(Node::Directory) if tree.has_below(path) => Err(TraceFaultKind::NotEmpty),
-        Some(Node::Directory) => Ok(()),
-    }
-}
-
-/// Whether a path with this node is one of the file of that number. False for a directory, and for
-/// None, which means that nothing is at the path.
-pub(crate) fn is_path_of(file: u32, node: Option<Node>) -> bool
-    ensures { result ≡ is_path_of file node }
-{
-    match node {
-        None | Some(Node::Directory) => false,
-        Some(Node::File(other)) => other == file,
+    match here {
+        None | Some(Node::Directory(_)) => false,
+        Some(Node::File(_, other)) => other == file,
     }
 }
 
@@ -99,13 +158,14 @@ pub(crate) fn is_over_limits(made: usize, names: usize) -> bool
     are_too_many_names(names) || made >= TREE_RECORDS
 }
 
-/// Whether a write of these bytes at the offset ends above FILE_BYTES, the greatest size of a file.
-/// A write of no byte never does, at any offset.
-pub(crate) fn ends_above(offset: u64, bytes: &[u8]) -> bool
-    ensures { result ≡ ends_above offset bytes.now }
+/// Whether a write of these bytes at the offset ends above the greatest size of a file. A write of
+/// no byte never does, at any offset.
+pub(crate) fn ends_above(version: Version, offset: u64, bytes: &[u8]) -> bool
+    ensures { result ≡ ends_above version offset bytes.now }
 {
+    let most = most_bytes(version);
     let count = bytes.len() as u64;
-    count > 0 && (offset > FILE_BYTES || count > FILE_BYTES - offset)
+    count > 0 && (offset > most || count > most - offset)
 }
 
 /// The size in bytes of the file of that number. If there is no such file, 0; callers pass files of

@@ -1,33 +1,34 @@
 //! Reads and checks the trace of a storage application: the files and directories at its start, and
-//! its operations. How a line is read by itself is in cs_trace_lines.
+//! its operations. How a line is read by itself is in cs_trace_lines; how the start is kept, in
+//! cs_start; what the entries of directories hold, in cs_entries.
 #![tactic(auto)]
 
 mod attributes;
-mod by_path;
-mod entries;
-mod entry;
 pub mod fault;
+mod homes;
 mod judge;
-mod last_directory;
+mod limits;
 mod lines;
+mod making;
+mod moves;
 mod names;
 pub mod operation;
-mod path_text;
-mod placed;
 mod put_start;
+mod renaming;
 mod resolve;
-mod shared;
-mod shared_rights;
-mod siblings;
+mod rights;
 mod start;
-mod start_lists;
-pub mod start_records;
+mod start_entries;
 mod state;
+#[cfg(test)]
+mod tests;
 pub mod trace;
 mod tree;
 
+pub use cs_entries::{DirEntry, FileKind, Node};
+pub use cs_start::{Rights, Start};
 pub use cs_trace_lines::{BlockSize, Profile, Version};
 pub use fault::{TraceFault, TraceFaultKind};
-pub use operation::{Covers, Node, Operation, Rights, Target};
-pub use start_records::Start;
+pub use limits::{LARGE_FILE_BYTES, most_bytes};
+pub use operation::{Covers, Operation, Target};
 pub use trace::{Trace, read_trace};

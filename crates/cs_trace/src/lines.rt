@@ -1,8 +1,7 @@
 //! Applies the lines of a trace, one after another, to the state of the lines so far. A fault ends
 //! the trace, so no clause says what it leaves of the state.
 ghost use Rattle.std.specs.Prelude.{◌≡◌, ◌≢◌, false, IfErr, IfOk, None, Some, Ok, Err, length};
-ghost use Rattle.cs_trace.specs.Judging.{IsPastNames};
-ghost use Rattle.cs_trace.specs.Kept.{IsBounded, state_of};
+ghost use Rattle.cs_trace.specs.Kept.{Freely, IsBounded, state_of};
 ghost use Rattle.cs_trace_lines.specs.Lines.{is_blank, line_in};
 ghost use Rattle.cs_trace.specs.Outcomes.{Leaves};
 ghost use Rattle.cs_trace_lines.specs.Said.{line_value, operation_value};
@@ -35,6 +34,7 @@ fn line_by_itself(alloc: Global, version: Version, text: &str) -> Result<Line, T
 
 /// Checks the line of an operation in the state (`resolve`, whose faults it returns), and applies
 /// the operation (`LinesSoFar::apply`).
+#[tactic(auto, using(crate::proofs::Within::resolve_within))]
 fn apply_operation(
     alloc: Global,
     state: &mut LinesSoFar,
@@ -43,7 +43,7 @@ fn apply_operation(
     requires { IsBounded (state_of state.old) }
     ensures { Leaves
         (later_step (state_of state.old) (said.Operation (operation_value line)))
-        result (state_of state.new) IsPastNames }
+        result (state_of state.new) Freely }
 {
     let operation = resolve(alloc, state, line)?;
     state.apply(alloc, operation)?;
@@ -57,7 +57,7 @@ fn apply_first(alloc: Global, state: &mut LinesSoFar, line: Line) -> Result<(), 
     requires first { state.old.made ≡ 0 }
     ensures { Leaves
         (first_step (state_of state.old) (line_value line))
-        result (state_of state.new) IsPastNames }
+        result (state_of state.new) Freely }
 {
     match line {
         Line::Header(version, claims) => apply_header(alloc, state, version, claims),
@@ -73,7 +73,7 @@ fn apply_later(alloc: Global, state: &mut LinesSoFar, line: Line) -> Result<(), 
     requires { IsBounded (state_of state.old) }
     ensures { Leaves
         (later_step (state_of state.old) (line_value line))
-        result (state_of state.new) IsPastNames }
+        result (state_of state.new) Freely }
 {
     let is_start = state.operations.is_empty();
     match line {

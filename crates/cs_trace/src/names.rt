@@ -1,12 +1,14 @@
-//! The names of users and groups in a line: checked without taking memory, and then moved or
-//! copied.
+//! The names in a line: paths, users and groups. They are checked without taking memory, and then
+//! moved or copied.
 ghost use Rattle.std.specs.Prelude.{◌≡◌, IfOk, string_bytes};
-ghost use Rattle.cs_trace.specs.Judging.{user_name_or};
+ghost use Rattle.cs_start.specs.Names.{entry_path_of, path_of};
+ghost use Rattle.cs_trace.specs.Judging.{or_bad_name, user_name_or};
 ghost use Rattle.cs_trace.specs.Names.{are_set_names, is_user_name};
 ghost use Rattle.cs_trace_lines.specs.Said.{change_value};
 
 use crate::fault::TraceFaultKind;
 use cs_names::UserName;
+use cs_start::PathText;
 use cs_trace_lines::Change;
 use std::alloc::{AllocError, Global};
 
@@ -41,4 +43,18 @@ pub(crate) fn copy_user_name(alloc: Global, text: &str) -> Result<UserName, Allo
     ensures { IfOk result (λ name. name ≡ text.now) }
 {
     UserName::read(alloc, text.as_bytes()).map_err(|_| AllocError)
+}
+
+/// The path that the text spells, which may be the root. A text that spells none is BadName.
+pub(crate) fn any_path(text: &str) -> Result<PathText<'_>, TraceFaultKind>
+    ensures { result ≡ or_bad_name (path_of text.now) }
+{
+    PathText::of(text).ok_or(TraceFaultKind::BadName)
+}
+
+/// The path that the text spells. The root, and a text that spells none, are BadName.
+pub(crate) fn entry_path(text: &str) -> Result<PathText<'_>, TraceFaultKind>
+    ensures { result ≡ or_bad_name (entry_path_of text.now) }
+{
+    PathText::of_entry(text).ok_or(TraceFaultKind::BadName)
 }

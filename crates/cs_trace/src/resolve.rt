@@ -1,29 +1,30 @@
-//! From the line of an operation to the operation: its paths are checked, then copied, and then
-//! looked up in the tree. A path of too many names (`PathText::is_long`) isn't copied: it is
-//! NoParent if it is new, and otherwise Missing. The state is only read; `LinesSoFar::apply`
-//! changes it.
+//! From the line of an operation to the operation: its names are checked, its paths copied, and
+//! then looked up in the tree. The state is only read; `LinesSoFar::apply` changes it.
 ghost use Rattle.std.specs.Prelude.{◌≡◌, ◌<◌, ◌^◌, length};
-ghost use Rattle.cs_trace.specs.Judging.{AreShort, IsPastNames, creat, fsync, fsync_range};
-ghost use Rattle.cs_trace.specs.Judging.{or_bad_name, link, mkdir, rename, resolve, rmdir, say};
-ghost use Rattle.cs_trace.specs.Judging.{set_attr, truncate, unlink, with_path, write};
-ghost use Rattle.cs_trace.specs.Kept.{IsWithin, attributes_of};
-ghost use Rattle.cs_trace.specs.Names.{claims_by, new_path_of, set_path_of};
+ghost use Rattle.cs_trace.specs.Judging.{fdatasync, fsync, fsync_range, may_set, or_bad_name};
+ghost use Rattle.cs_trace.specs.Judging.{resolve, rmdir, say, set_attr, truncate, unlink, write};
+ghost use Rattle.cs_trace.specs.Kept.{Freely, state_of};
+ghost use Rattle.cs_trace.specs.Names.{set_path_of};
 ghost use Rattle.cs_trace.specs.Outcomes.{Gives};
-ghost use Rattle.cs_trace_lines.specs.Said.{change_value, claims_of, operation_value};
+ghost use Rattle.cs_trace.specs.Resolving.{covers_at, synced_file_at};
+ghost use Rattle.cs_trace_lines.specs.Said.{change_value, operation_value};
 
 use crate::fault::TraceFaultKind;
 use crate::judge::{
-    are_too_many_names, check_emptied, check_free, check_target, ends_above, file_at,
-    is_over_limits, is_path_of, size_in,
+    are_too_many_names, emptied_by, ends_above, entry_at, file_at, leaf_at, size_in,
 };
-use crate::names::are_set_names;
-use crate::operation::{Covers, Node, Operation, Rights, Target};
-use crate::path_text::{PathText, any_path, entry_path};
+use crate::limits::most_bytes;
+use crate::making::{creat, link, mkdir, symlink};
+use crate::names::{any_path, are_set_names, entry_path};
+use crate::operation::{Covers, Operation, Target};
+use crate::renaming::rename;
+use crate::rights::changed_rights;
 use crate::state::LinesSoFar;
-use crate::tree::Tree;
-use cs_names::limits::{FILE_BYTES, SAY_BYTES};
+use cs_entries::{FileKind, Node};
+use cs_names::limits::SAY_BYTES;
 use cs_names::{Bytes, Path};
-use cs_trace_lines::{Change, Claims, OperationLine};
+use cs_start::PathText;
+use cs_trace_lines::{Change, OperationLine};
 use std::alloc::Global;
 
 /// The path of a chmod or a chown, which may be the root. If the path, or the owner or the group
@@ -38,175 +39,43 @@ fn set_path<'a>(text: &'a str, change: &Change) -> Result<PathText<'a>, TraceFau
     Ok(path)
 }
 
-/// The creat of a file at the path, with the next number. The path and its parent are checked as
-/// `check_free` does; then a path of too many names, or one record too many, is TooLarge.
-#[tactic(auto, using(crate::proofs::Past::nothing_above, crate::proofs::Past::past_creat))]
-fn creat_at(
+/// The unlink of the path of a file or a symbolic link. Nothing there is Missing, and a directory is
+/// NotFile.
+fn unlink(
     alloc: Global,
     state: &LinesSoFar,
     path: &PathText<'_>,
-    rights: Rights,
 ) -> Result<Operation, TraceFaultKind>
-    requires short { AreShort state.now.tree.nodes }
-    requires few { length state.now.sizes.items < 2 ^ 32 }
-    ensures { Gives
-        (creat state.now.tree.nodes state.now.made (length state.now.sizes.items)
-        path.now (claims_by rights))
-        result IsPastNames }
+    ensures { Gives (unlink (state_of state.now) path.now) result Freely }
 {
-    let path = path.to_path_or(alloc, TraceFaultKind::NoParent)?;
-    let above = Path::of(alloc, &path.names().parent())?;
-    check_free(&state.tree, &above, &path)?;
-    if is_over_limits(state.made, path.names().len()) {
+    let whole = path.to_path(alloc)?;
+    let (kind, file) = leaf_at(&state.tree, &whole)?;
+    if are_too_many_names(path.len()) {
         return Err(TraceFaultKind::TooLarge);
     }
-    let file = state.sizes.len() as u32;
-    Ok(Operation::Creat { path, file, rights })
+    let entry = entry_at(&state.tree, whole);
+    Ok(Operation::Unlink { entry, kind, file })
 }
 
-/// The creat of a file at the path that the text spells. If the path, the owner or the group isn't
-/// legal, it is BadName; the other faults are those of `creat_at`.
-fn creat(
+/// The rmdir of an empty directory (`emptied_by`).
+fn rmdir(
     alloc: Global,
     state: &LinesSoFar,
-    text: &str,
-    claims: Claims,
-) -> Result<Operation, TraceFaultKind>
-    requires short { AreShort state.now.tree.nodes }
-    requires few { length state.now.sizes.items < 2 ^ 32 }
-    ensures { Gives
-        (with_path (new_path_of text.now (claims_of claims)) (λ p.
-        creat state.now.tree.nodes state.now.made (length state.now.sizes.items)
-        p (claims_of claims)))
-        result IsPastNames }
-{
-    let path = entry_path(text)?;
-    let rights = Rights::of_claims(claims)?;
-    creat_at(alloc, state, &path, rights)
-}
-
-/// The mkdir of a directory at the path, after `made` records. The path and its parent are checked
-/// as `check_free` does; then a path of too many names, or one record too many, is TooLarge.
-#[tactic(auto, using(crate::proofs::Past::nothing_above, crate::proofs::Past::past_mkdir))]
-fn mkdir_at(
-    alloc: Global,
-    tree: &Tree,
-    made: usize,
     path: &PathText<'_>,
-    rights: Rights,
 ) -> Result<Operation, TraceFaultKind>
-    requires { AreShort tree.now.nodes }
-    ensures { Gives (mkdir tree.now.nodes made path.now (claims_by rights)) result IsPastNames }
+    ensures { Gives (rmdir (state_of state.now) path.now) result Freely }
 {
-    let path = path.to_path_or(alloc, TraceFaultKind::NoParent)?;
-    let above = Path::of(alloc, &path.names().parent())?;
-    check_free(tree, &above, &path)?;
-    if is_over_limits(made, path.names().len()) {
+    let whole = path.to_path(alloc)?;
+    let directory = emptied_by(&state.tree, state.tree.at(whole.names()))?;
+    if are_too_many_names(path.len()) {
         return Err(TraceFaultKind::TooLarge);
     }
-    Ok(Operation::Mkdir { path, rights })
+    let entry = entry_at(&state.tree, whole);
+    Ok(Operation::Rmdir { entry, directory })
 }
 
-/// The mkdir of a directory at the path that the text spells. If the path, the owner or the group
-/// isn't legal, it is BadName; the other faults are those of `mkdir_at`.
-fn mkdir(
-    alloc: Global,
-    tree: &Tree,
-    made: usize,
-    text: &str,
-    claims: Claims,
-) -> Result<Operation, TraceFaultKind>
-    requires { AreShort tree.now.nodes }
-    ensures { Gives
-        (with_path (new_path_of text.now (claims_of claims)) (λ p.
-        mkdir tree.now.nodes made p (claims_of claims)))
-        result IsPastNames }
-{
-    let path = entry_path(text)?;
-    let rights = Rights::of_claims(claims)?;
-    mkdir_at(alloc, tree, made, &path, rights)
-}
-
-/// The link that gives the file at `from` one more path, `to`, after `made` records. Nothing at
-/// `from` is Missing, and a directory is NotFile; then `to` is checked as the path of a mkdir.
-#[tactic(auto, using(crate::proofs::Past::nothing_at, crate::proofs::Past::nothing_above, crate::proofs::Past::past_link))]
-fn link(
-    alloc: Global,
-    tree: &Tree,
-    made: usize,
-    from: &PathText<'_>,
-    to: &PathText<'_>,
-) -> Result<Operation, TraceFaultKind>
-    requires { AreShort tree.now.nodes }
-    ensures { Gives (link tree.now.nodes made from.now to.now) result IsPastNames }
-{
-    let from = from.to_path_or(alloc, TraceFaultKind::Missing)?;
-    let file = file_at(tree, &from)?;
-    let path = to.to_path_or(alloc, TraceFaultKind::NoParent)?;
-    let above = Path::of(alloc, &path.names().parent())?;
-    check_free(tree, &above, &path)?;
-    if is_over_limits(made, path.names().len()) {
-        return Err(TraceFaultKind::TooLarge);
-    }
-    Ok(Operation::Link { path, file })
-}
-
-/// The unlink of the path of a file. Nothing there is Missing, and a directory is NotFile.
-#[tactic(auto, using(crate::proofs::Past::nothing_at, crate::proofs::Past::past_unlink))]
-fn unlink(alloc: Global, tree: &Tree, path: &PathText<'_>) -> Result<Operation, TraceFaultKind>
-    requires { AreShort tree.now.nodes }
-    ensures { Gives (unlink tree.now.nodes path.now) result IsPastNames }
-{
-    let path = path.to_path_or(alloc, TraceFaultKind::Missing)?;
-    file_at(tree, &path)?;
-    Ok(Operation::Unlink { path })
-}
-
-/// The rmdir of an empty directory. Nothing at the path is Missing, a file is NotDir, and a
-/// directory with something in it is NotEmpty.
-#[tactic(auto, using(crate::proofs::Past::nothing_at, crate::proofs::Past::past_rmdir))]
-fn rmdir(alloc: Global, tree: &Tree, path: &PathText<'_>) -> Result<Operation, TraceFaultKind>
-    requires { AreShort tree.now.nodes }
-    ensures { Gives (rmdir tree.now.nodes path.now) result IsPastNames }
-{
-    let path = path.to_path_or(alloc, TraceFaultKind::Missing)?;
-    check_emptied(tree, &path)?;
-    Ok(Operation::Rmdir { path })
-}
-
-/// The rename of the file at `from`, which may replace a file at `to`. Nothing at `from` is
-/// Missing, and a directory is NotFile; `to` is checked as `check_target` does, and a `to` of too
-/// many names is TooLarge. If both are paths of one file, the result is a rename of `to` to itself.
-#[tactic(auto, using(crate::proofs::Past::nothing_at, crate::proofs::Past::nothing_above, crate::proofs::Past::past_rename))]
-fn rename(
-    alloc: Global,
-    tree: &Tree,
-    from: &PathText<'_>,
-    to: &PathText<'_>,
-) -> Result<Operation, TraceFaultKind>
-    requires { AreShort tree.now.nodes }
-    ensures { Gives (rename tree.now.nodes from.now to.now) result IsPastNames }
-{
-    let from = from.to_path_or(alloc, TraceFaultKind::Missing)?;
-    let file = file_at(tree, &from)?;
-    let to = to.to_path_or(alloc, TraceFaultKind::NoParent)?;
-    let above = Path::of(alloc, &to.names().parent())?;
-    let there = check_target(tree, &above, &to)?;
-    if are_too_many_names(to.names().len()) {
-        return Err(TraceFaultKind::TooLarge);
-    }
-    // As rename(2), which does nothing if both are paths of one file.
-    let from = if is_path_of(file, there) {
-        to.try_clone(alloc)?
-    } else {
-        from
-    };
-    Ok(Operation::Rename { from, to })
-}
-
-/// The write of bytes at the offset to the file at the path. Nothing there is Missing, a directory
-/// is NotFile, and a write that ends above the greatest size of a file is TooLarge.
-#[tactic(auto, using(crate::proofs::Past::nothing_at, crate::proofs::Past::past_write))]
+/// The write of bytes at the offset to the file at the path. Nothing there is Missing, what is no
+/// regular file is NotFile, and a write that ends above the greatest size of a file is TooLarge.
 fn write(
     alloc: Global,
     state: &LinesSoFar,
@@ -214,14 +83,11 @@ fn write(
     offset: u64,
     bytes: Vec<u8>,
 ) -> Result<Operation, TraceFaultKind>
-    requires { AreShort state.now.tree.nodes }
-    ensures { Gives
-        (write state.now.tree.nodes state.now.sizes.items path.now offset bytes.items)
-        result IsPastNames }
+    ensures { Gives (write (state_of state.now) path.now offset bytes.items) result Freely }
 {
-    let path = path.to_path_or(alloc, TraceFaultKind::Missing)?;
-    let file = file_at(&state.tree, &path)?;
-    if ends_above(offset, &bytes) {
+    let whole = path.to_path(alloc)?;
+    let file = file_at(&state.tree, &whole)?;
+    if are_too_many_names(path.len()) || ends_above(state.version, offset, &bytes) {
         return Err(TraceFaultKind::TooLarge);
     }
     Ok(Operation::Write {
@@ -233,90 +99,141 @@ fn write(
 }
 
 /// The truncate of the file at the path to a new length, which may be greater than its size.
-/// Nothing there is Missing, a directory is NotFile, and a length above FILE_BYTES is TooLarge.
-#[tactic(auto, using(crate::proofs::Past::nothing_at, crate::proofs::Past::past_truncate))]
+/// Nothing there is Missing, what is no regular file is NotFile, and a length above the greatest
+/// size of a file is TooLarge.
 fn truncate(
     alloc: Global,
     state: &LinesSoFar,
     path: &PathText<'_>,
     length: u64,
 ) -> Result<Operation, TraceFaultKind>
-    requires { AreShort state.now.tree.nodes }
-    ensures { Gives
-        (truncate state.now.tree.nodes state.now.sizes.items path.now length)
-        result IsPastNames }
+    ensures { Gives (truncate (state_of state.now) path.now length) result Freely }
 {
-    let path = path.to_path_or(alloc, TraceFaultKind::Missing)?;
-    let file = file_at(&state.tree, &path)?;
-    if length > FILE_BYTES {
+    let whole = path.to_path(alloc)?;
+    let file = file_at(&state.tree, &whole)?;
+    if are_too_many_names(path.len()) || length > most_bytes(state.version) {
         return Err(TraceFaultKind::TooLarge);
     }
     let size = size_in(&state.sizes, file);
     Ok(Operation::Truncate { file, size, length })
 }
 
-/// The chmod or chown of the file or directory at the path, with its rights before and after.
-/// Nothing there is Missing. So is a node without rights; in the versions that have a chmod and a
-/// chown, each node has rights.
-#[tactic(auto, using(crate::proofs::Past::nothing_at, crate::proofs::Past::past_set_attr))]
+/// Whether the change may be made: a symbolic link has no mode that could be set.
+fn may_set(change: &Change, node: Node) -> bool
+    ensures { result ≡ may_set (change_value change.now) node }
+{
+    match (change, node) {
+        (Change::Mode(_), Node::File(FileKind::Symlink, _)) => false,
+        _ => true,
+    }
+}
+
+/// The chmod or chown of what is at the path, with its rights before and after. Nothing there is
+/// Missing, and a chmod of a symbolic link is NotFile. What has no rights is Missing, too; in the
+/// versions that have a chmod and a chown, everything has some.
 fn set_attr(
     alloc: Global,
     state: &LinesSoFar,
     path: &PathText<'_>,
     change: &Change,
 ) -> Result<Operation, TraceFaultKind>
-    requires { AreShort state.now.tree.nodes }
-    ensures { Gives
-        (set_attr state.now.tree.nodes (attributes_of state.now.attributes)
-        path.now (change_value change.now))
-        result IsPastNames }
+    ensures { Gives (set_attr (state_of state.now) path.now (change_value change.now))
+        result Freely }
 {
-    let path = path.to_path_or(alloc, TraceFaultKind::Missing)?;
-    let Some(node) = state.tree.get(&path) else {
+    let whole = path.to_path(alloc)?;
+    let Some(node) = state.tree.at(whole.names()) else {
         return Err(TraceFaultKind::Missing);
     };
-    let Some(rights) = state.attributes.rights(node, &path) else {
+    if !may_set(change, node) {
+        return Err(TraceFaultKind::NotFile);
+    }
+    let Some(rights) = state.attributes.rights(node) else {
         return Err(TraceFaultKind::Missing);
     };
+    if are_too_many_names(path.len()) {
+        return Err(TraceFaultKind::TooLarge);
+    }
     let before = rights.try_clone()?;
-    let after = rights.with_change(alloc, change)?;
+    let after = changed_rights(alloc, rights, change)?;
     Ok(Operation::SetAttr {
-        target: Target::of(node, path),
+        target: Target::of(node, whole),
         before,
         after,
     })
 }
 
-/// The fsync of the file at the path, or of the entries of the directory there. Nothing there is
-/// Missing.
-#[tactic(auto, using(crate::proofs::Past::nothing_at, crate::proofs::Past::past_fsync))]
-fn fsync(alloc: Global, tree: &Tree, path: &PathText<'_>) -> Result<Operation, TraceFaultKind>
-    requires { AreShort tree.now.nodes }
-    ensures { Gives (fsync tree.now.nodes path.now) result IsPastNames }
+/// What an fsync of the path covers: the file there, or the entries of the directory there. Nothing
+/// there is Missing, and a symbolic link is NotFile.
+fn covered_at(state: &LinesSoFar, path: Path) -> Result<Covers, TraceFaultKind>
+    ensures { covers_at (state_of state.now) path ≡ result }
 {
-    let path = path.to_path_or(alloc, TraceFaultKind::Missing)?;
-    match tree.get(&path) {
+    match state.tree.at(path.names()) {
         None => Err(TraceFaultKind::Missing),
-        Some(Node::Directory) => Ok(Operation::Sync(Covers::Directory(path))),
-        Some(Node::File(file)) => Ok(Operation::Sync(Covers::File(file))),
+        Some(Node::File(FileKind::Symlink, _)) => Err(TraceFaultKind::NotFile),
+        Some(Node::File(FileKind::Regular, file)) => Ok(Covers::File(file)),
+        Some(Node::Directory(number)) => Ok(Covers::Directory { number, path }),
     }
 }
 
-/// The sync of `length` bytes of the file at the path, from the offset on. Nothing there is
-/// Missing, and a directory is NotFile. The range may end after the end of the file.
-#[tactic(auto, using(crate::proofs::Past::nothing_at, crate::proofs::Past::past_fsync_range))]
+/// The fsync of the path (`covered_at`).
+#[tactic(auto, using(crate::proofs::Renamed::fsync_fails, crate::proofs::Renamed::fsync_made))]
+fn fsync(
+    alloc: Global,
+    state: &LinesSoFar,
+    path: &PathText<'_>,
+) -> Result<Operation, TraceFaultKind>
+    ensures { Gives (fsync (state_of state.now) path.now) result Freely }
+{
+    let covers = covered_at(state, path.to_path(alloc)?)?;
+    if are_too_many_names(path.len()) {
+        return Err(TraceFaultKind::TooLarge);
+    }
+    Ok(Operation::Sync(covers))
+}
+
+/// The number of the regular file at the path, for an fdatasync and an fsync_range. Nothing there is
+/// Missing, and what is no regular file is NotFile.
+fn synced_file(
+    alloc: Global,
+    state: &LinesSoFar,
+    path: &PathText<'_>,
+) -> Result<u32, TraceFaultKind>
+    ensures { Gives (synced_file_at (state_of state.now) path.now) result Freely }
+{
+    let whole = path.to_path(alloc)?;
+    let file = file_at(&state.tree, &whole)?;
+    if are_too_many_names(path.len()) {
+        return Err(TraceFaultKind::TooLarge);
+    }
+    Ok(file)
+}
+
+/// The fdatasync of the file at the path (`synced_file`).
+#[tactic(auto, using(crate::proofs::Renamed::fdatasync_fails, crate::proofs::Renamed::fdatasync_made))]
+fn fdatasync(
+    alloc: Global,
+    state: &LinesSoFar,
+    path: &PathText<'_>,
+) -> Result<Operation, TraceFaultKind>
+    ensures { Gives (fdatasync (state_of state.now) path.now) result Freely }
+{
+    let file = synced_file(alloc, state, path)?;
+    Ok(Operation::Sync(Covers::Data(file)))
+}
+
+/// The sync of `length` bytes of the file at the path (`synced_file`), from the offset on. The range
+/// may end after the end of the file.
+#[tactic(auto, using(crate::proofs::Renamed::fsync_range_fails, crate::proofs::Renamed::fsync_range_made))]
 fn fsync_range(
     alloc: Global,
-    tree: &Tree,
+    state: &LinesSoFar,
     path: &PathText<'_>,
     offset: u64,
     length: u64,
 ) -> Result<Operation, TraceFaultKind>
-    requires { AreShort tree.now.nodes }
-    ensures { Gives (fsync_range tree.now.nodes path.now offset length) result IsPastNames }
+    ensures { Gives (fsync_range (state_of state.now) path.now offset length) result Freely }
 {
-    let path = path.to_path_or(alloc, TraceFaultKind::Missing)?;
-    let file = file_at(tree, &path)?;
+    let file = synced_file(alloc, state, path)?;
     Ok(Operation::Sync(Covers::Range {
         file,
         offset,
@@ -335,37 +252,30 @@ fn say(text: &str) -> Result<Operation, TraceFaultKind>
 }
 
 /// The operation that the line means in this state, or the fault of the first check that it fails.
-/// It runs out of memory only if no name and no path of the line is BadName.
-#[tactic(auto, using(crate::proofs::Past::past_say))]
 pub(crate) fn resolve(
     alloc: Global,
     state: &LinesSoFar,
     line: OperationLine,
 ) -> Result<Operation, TraceFaultKind>
-    requires short { AreShort state.now.tree.nodes }
-    requires few { length state.now.sizes.items < 2 ^ 32 }
-    ensures { Gives
-        (resolve state.now.tree.nodes state.now.sizes.items state.now.made
-        (attributes_of state.now.attributes) (operation_value line))
-        result IsPastNames }
+    requires files { length state.now.sizes.items < 2 ^ 32 }
+    requires directories { length state.now.homes < 2 ^ 32 }
+    ensures { Gives (resolve (state_of state.now) (operation_value line)) result Freely }
 {
-    let tree = &state.tree;
     match line {
         OperationLine::Creat { path, claims } => creat(alloc, state, &path, claims),
-        OperationLine::Mkdir { path, claims } => mkdir(alloc, tree, state.made, &path, claims),
+        OperationLine::Mkdir { path, claims } => mkdir(alloc, state, &path, claims),
+        OperationLine::Symlink {
+            path,
+            claims,
+            target,
+        } => symlink(alloc, state, &path, claims, target),
         OperationLine::Link { from, to } => {
-            link(
-                alloc,
-                tree,
-                state.made,
-                &entry_path(&from)?,
-                &entry_path(&to)?,
-            )
+            link(alloc, state, &entry_path(&from)?, &entry_path(&to)?)
         }
-        OperationLine::Unlink { path } => unlink(alloc, tree, &entry_path(&path)?),
-        OperationLine::Rmdir { path } => rmdir(alloc, tree, &entry_path(&path)?),
+        OperationLine::Unlink { path } => unlink(alloc, state, &entry_path(&path)?),
+        OperationLine::Rmdir { path } => rmdir(alloc, state, &entry_path(&path)?),
         OperationLine::Rename { from, to } => {
-            rename(alloc, tree, &entry_path(&from)?, &entry_path(&to)?)
+            rename(alloc, state, &entry_path(&from)?, &entry_path(&to)?)
         }
         OperationLine::Write {
             path,
@@ -378,12 +288,13 @@ pub(crate) fn resolve(
         OperationLine::SetAttr { path, change } => {
             set_attr(alloc, state, &set_path(&path, &change)?, &change)
         }
-        OperationLine::Fsync { path } => fsync(alloc, tree, &any_path(&path)?),
+        OperationLine::Fsync { path } => fsync(alloc, state, &any_path(&path)?),
+        OperationLine::Fdatasync { path } => fdatasync(alloc, state, &entry_path(&path)?),
         OperationLine::FsyncRange {
             path,
             offset,
             length,
-        } => fsync_range(alloc, tree, &entry_path(&path)?, offset, length),
+        } => fsync_range(alloc, state, &entry_path(&path)?, offset, length),
         OperationLine::Sync => Ok(Operation::Sync(Covers::All)),
         OperationLine::Say { text } => say(&text),
     }

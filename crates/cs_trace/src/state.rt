@@ -1,18 +1,21 @@
 //! The state after the lines so far of a trace, and what an operation changes in it. An error means
 //! out of memory; then the whole trace is given up, so no clause says what is left of the state.
 //! What the header and the start lines change is in `start`.
-ghost use Rattle.std.specs.Prelude.{◌≡◌, ◌<◌, ◌≤◌, ◌+◌, ◌^◌, IfOk, OnOk, List, ℕ, length};
-ghost use Rattle.std.specs.Prelude.{slice_set};
+ghost use Rattle.std.specs.Prelude.{◌≡◌, ◌<◌, ◌≤◌, ◌+◌, ◌^◌, OnOk, length, slice_set};
 ghost use Rattle.cs_names.specs.declared.limits.TheConstants.{TREE_RECORDS};
-ghost use Rattle.cs_trace.specs.Kept.{IsWithin, state_of};
-ghost use Rattle.cs_trace.specs.Operations.{made_by, paths_after, sizes_after, written_size};
-ghost use Rattle.cs_trace.specs.States.{empty_state, after_operation};
+ghost use Rattle.cs_trace.specs.Attributes.{attributes_after, kept_in};
+ghost use Rattle.cs_trace.specs.Kept.{IsWithin, attributes_of, state_of};
+ghost use Rattle.cs_trace.specs.Operations.{made_by, sizes_after, written_size};
+ghost use Rattle.cs_trace.specs.State.{empty_state};
+ghost use Rattle.cs_trace.specs.States.{after_operation};
 
 use crate::attributes::Attributes;
-use crate::operation::{Node, Operation, Rights};
-use crate::shared::Shared;
+use crate::homes::Homes;
+use crate::moves::{change_entries, change_homes};
+use crate::operation::Operation;
 use crate::tree::Tree;
 use cs_names::{Bytes, Path};
+use cs_start::{Rights, Shared, StartMap};
 use cs_trace_lines::Version;
 use std::alloc::{AllocError, Global};
 
@@ -21,14 +24,18 @@ use std::alloc::{AllocError, Global};
 pub(crate) struct LinesSoFar {
     /// The version of the header; the first version until there is a header.
     pub(crate) version: Version,
-    /// What was at each path at the start, and what is there now.
-    pub(crate) tree: Tree,
-    /// How many files there are at the start. Their paths are only in the tree.
+    /// What was at each path at the start.
+    pub(crate) start: StartMap,
+    /// How many files and symbolic links there are at the start. Their paths are only in `start`.
     pub(crate) file_count: usize,
     /// The further paths of files at the start, each with the file's number.
     pub(crate) links: Vec<(Path, u32)>,
-    /// The size of each file, by its number.
+    /// What each entry holds now.
+    pub(crate) tree: Tree,
+    /// The size of each file, by its number; of a symbolic link, of its target.
     pub(crate) sizes: Vec<u64>,
+    /// The entries at which directories were made.
+    pub(crate) homes: Homes,
     /// How many records were ever made, with those that were removed.
     pub(crate) made: usize,
     /// The rights of the last line that has some, which the next such line may share.
@@ -37,43 +44,6 @@ pub(crate) struct LinesSoFar {
     pub(crate) attributes: Attributes,
     /// The operations, in the order of their lines.
     pub(crate) operations: Vec<Operation>,
-}
-
-/// Moves what is at `from` to `to`, over what is there. If nothing is at `from`, which no checked
-/// rename has, or if both paths are the same, the nodes stay as they are.
-fn move_node(alloc: Global, tree: &mut Tree, from: &Path, to: &Path) -> Result<(), AllocError>
-    ensures start { OnOk result (tree.new.start ≡ tree.old.start) }
-    ensures nodes { OnOk result (tree.new.nodes
-        ≡ paths_after tree.old.nodes (Operation.Rename from.now to.now)) }
-{
-    let Some(node) = tree.remove(alloc, from)? else {
-        return Ok(());
-    };
-    tree.insert(to.try_clone(alloc)?, node)
-}
-
-/// Applies the operation to what is at each path; the start stays as it is.
-fn move_paths(alloc: Global, tree: &mut Tree, operation: &Operation) -> Result<(), AllocError>
-    ensures start { OnOk result (tree.new.start ≡ tree.old.start) }
-    ensures nodes { OnOk result (tree.new.nodes ≡ paths_after tree.old.nodes operation.now) }
-{
-    match operation {
-        Operation::Creat { path, file, .. } => {
-            tree.insert(path.try_clone(alloc)?, Node::File(*file))
-        }
-        Operation::Mkdir { path, .. } => { tree.insert(path.try_clone(alloc)?, Node::Directory) }
-        Operation::Link { path, file } => { tree.insert(path.try_clone(alloc)?, Node::File(*file)) }
-        Operation::Unlink { path } | Operation::Rmdir { path } => {
-            tree.remove(alloc, path)?;
-            Ok(())
-        }
-        Operation::Rename { from, to } => move_node(alloc, tree, from, to),
-        Operation::Write { .. }
-        | Operation::Truncate { .. }
-        | Operation::SetAttr { .. }
-        | Operation::Sync(_)
-        | Operation::Say => Ok(()),
-    }
 }
 
 /// The size of a file that had `size` bytes, after a write of these bytes at the offset. A write of
@@ -100,14 +70,15 @@ fn set_size(sizes: &mut [u64], file: u32, size: u64)
     }
 }
 
-/// Applies the operation to the sizes of the files: a creat adds a size of 0, a write and a
-/// truncate set the size of their file, and the others change nothing.
+/// Applies the operation to the sizes of the files: a creat adds a size of 0 and a symlink that of
+/// its target, a write and a truncate set the size of their file, and the others change nothing.
 fn change_sizes(sizes: &mut Vec<u64>, operation: &Operation) -> Result<(), AllocError>
     requires { IsWithin operation.now }
     ensures { OnOk result (sizes.new.items ≡ sizes_after sizes.old.items operation.now) }
 {
     match operation {
         Operation::Creat { .. } => sizes.push(0)?,
+        Operation::Symlink { target, .. } => sizes.push(target.as_slice().len() as u64)?,
         Operation::Write {
             file,
             size,
@@ -127,16 +98,46 @@ fn change_sizes(sizes: &mut Vec<u64>, operation: &Operation) -> Result<(), Alloc
     Ok(())
 }
 
-/// How many records the operation makes: 1 for a creat, a mkdir and a link, and 0 for the others.
-fn made_by(operation: &Operation) -> usize
-    ensures value { result ≡ made_by operation.now }
+/// Applies the operation to the attributes, if the version has them (`Attributes::change`).
+fn change_attributes(
+    alloc: Global,
+    version: Version,
+    attributes: &mut Attributes,
+    last: &mut Option<Shared<Rights>>,
+    operation: &Operation,
+) -> Result<(), AllocError>
+    ensures { OnOk result (attributes_of attributes.new
+        ≡ kept_in version (attributes_of attributes.old)
+        (attributes_after (attributes_of attributes.old) operation.now)) }
+{
+    match version {
+        // Version 1 has no operation that changes attributes.
+        Version::First => Ok(()),
+        Version::Second(_) | Version::Third(..) | Version::Fourth(..) => {
+            attributes.change(alloc, last, operation)
+        }
+    }
+}
+
+/// How many records the operation makes: 1 for a creat, a mkdir, a symlink and a link; in the fourth
+/// version also for a rename into another directory; and 0 for the others.
+fn made_by(version: Version, operation: &Operation) -> usize
+    ensures value { result ≡ made_by version operation.now }
     ensures one { result ≤ 1 }
 {
     match operation {
-        Operation::Creat { .. } | Operation::Mkdir { .. } | Operation::Link { .. } => 1,
+        Operation::Creat { .. }
+        | Operation::Mkdir { .. }
+        | Operation::Symlink { .. }
+        | Operation::Link { .. } => 1,
+        Operation::Rename { from, to, .. } => {
+            if version.is_fourth() && from.directory != to.directory {
+                return 1;
+            }
+            0
+        }
         Operation::Unlink { .. }
         | Operation::Rmdir { .. }
-        | Operation::Rename { .. }
         | Operation::Write { .. }
         | Operation::Truncate { .. }
         | Operation::SetAttr { .. }
@@ -152,10 +153,12 @@ impl LinesSoFar {
     {
         LinesSoFar {
             version: Version::First,
-            tree: Tree::new(alloc),
+            start: StartMap::new(alloc),
             file_count: 0,
             links: Vec::new(alloc),
+            tree: Tree::new(alloc),
             sizes: Vec::new(alloc),
+            homes: Homes::new(alloc),
             made: 0,
             last_rights: None,
             attributes: Attributes::new(alloc),
@@ -168,19 +171,20 @@ impl LinesSoFar {
     pub(crate) fn apply(&mut self, alloc: Global, operation: Operation) -> Result<(), AllocError>
         requires within { IsWithin operation }
         requires few { self.old.made ≤ TREE_RECORDS }
+        requires housed { length self.old.homes ≤ self.old.made }
         ensures { OnOk result (state_of self.new ≡ after_operation (state_of self.old) operation) }
     {
-        move_paths(alloc, &mut self.tree, &operation)?;
+        change_entries(alloc, &mut self.tree, &operation)?;
         change_sizes(&mut self.sizes, &operation)?;
-        self.made += made_by(&operation);
-        match self.version {
-            // Version 1 has no operation that changes attributes.
-            Version::First => {}
-            Version::Second(_) | Version::Third(..) => {
-                let last = &mut self.last_rights;
-                self.attributes.change(alloc, last, &operation)?
-            }
-        }
+        change_homes(alloc, &mut self.homes, &operation)?;
+        self.made += made_by(self.version, &operation);
+        change_attributes(
+            alloc,
+            self.version,
+            &mut self.attributes,
+            &mut self.last_rights,
+            &operation,
+        )?;
         self.operations.push(operation)?;
         Ok(())
     }

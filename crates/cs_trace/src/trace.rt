@@ -4,24 +4,28 @@ ghost use Rattle.std.specs.Prelude.{length, map, option_map, slice_get};
 ghost use Rattle.std.specs.FinMap.{get};
 ghost use Rattle.std.specs.List.{All};
 ghost use Rattle.std.specs.List.Sorted.{IsStrictlySortedBy};
-ghost use Rattle.cs_names.specs.declared.limits.TheConstants.{FILE_BYTES, TREE_RECORDS};
+ghost use Rattle.cs_entries.specs.Legal.{IsTree};
+ghost use Rattle.cs_entries.specs.Tables.{AreNested, held_in};
+ghost use Rattle.cs_names.specs.declared.limits.TheConstants.{TREE_RECORDS};
 ghost use Rattle.cs_tree_model.specs.Listing.{IsListing};
 ghost use Rattle.cs_tree_model.specs.Tree.{path_cmp};
 ghost use Rattle.cs_trace.specs.Checks.{IsFaultOf};
 ghost use Rattle.cs_trace.specs.Kept.{state_of};
-ghost use Rattle.cs_trace.specs.Operations.{AreLegal, AreNested};
+ghost use Rattle.cs_trace.specs.Limits.{most_bytes};
 ghost use Rattle.cs_trace.specs.States.{lines_in};
-ghost use Rattle.cs_trace.specs.Traces.{AreLinks, AreNodesOf, AreUnchanged, IsPathOf, IsTrace};
-ghost use Rattle.cs_trace.specs.Traces.{MayWant, StandsAs, path_at, record_in, records_made};
-ghost use Rattle.cs_trace.specs.Traces.{start_paths, start_sizes, trace_in, trace_of_state};
+ghost use Rattle.cs_trace.specs.Traces.{AreLegalFromStart, AreLinks, AreRecordsOf, IsFileNumbered};
+ghost use Rattle.cs_trace.specs.Traces.{IsPathOf, IsTrace, MayWant, StandsAs, path_at, record_in};
+ghost use Rattle.cs_trace.specs.Traces.{records_made, start_paths, start_sizes, start_table};
+ghost use Rattle.cs_trace.specs.Traces.{trace_in, trace_of_state};
 ghost use Rattle.cs_trace.specs.declared.fault.TraceFaultKind.TheVariants.{Memory};
 
 use crate::fault::{TraceFault, TraceFaultKind};
 use crate::lines::{line_count, state_after_lines};
-use crate::operation::{Node, Operation};
-use crate::start_records::Start;
+use crate::operation::Operation;
 use crate::state::LinesSoFar;
+use cs_entries::Node;
 use cs_names::Path;
+use cs_start::Start;
 use cs_trace_lines::Version;
 use std::alloc::{AllocError, Global};
 use std::marker::Model;
@@ -71,31 +75,31 @@ impl Trace {
         ensures value { result.now ≡ self.now.records }
         ensures listing { IsListing self.now.records }
         ensures ascending { IsStrictlySortedBy path_cmp (map (λ e. e.0) self.now.records) }
-        ensures unchanged { AreUnchanged self.now.records }
         ensures few { length self.now.records ≤ TREE_RECORDS }
     {
         &self.records
     }
 
-    /// The node of each record, in the order of the records: a directory, or a file by its number.
+    /// The node of each record, in the order of the records: a directory, a file or a symbolic link
+    /// by its number.
     pub fn nodes(&self) -> &[Node]
         ensures value { result.now ≡ self.now.nodes }
         ensures each { length self.now.nodes ≡ length self.now.records }
-        ensures kinds { AreNodesOf self.now.nodes self.now.records }
+        ensures kinds { AreRecordsOf self.now.nodes self.now.records }
         ensures stands { (p : List (List ℕ))
             → StandsAs (get (start_paths self.now) p) (record_in self.now.records p) }
     {
         &self.nodes
     }
 
-    /// How many files there are at the start.
+    /// How many files and symbolic links there are at the start.
     pub fn file_count(&self) -> usize
         ensures value { result ≡ length self.now.files }
         ensures numbered { (n : ℕ) (p : List (List ℕ)) → slice_get self.now.files n ≡ Some p
-            → get (start_paths self.now) p ≡ Some (Node.File n) }
+            → IsFileNumbered n (get (start_paths self.now) p) }
         ensures found { (n : ℕ) (p : List (List ℕ))
-            → get (start_paths self.now) p ≡ Some (Node.File n) → IsPathOf self.now n p }
-        ensures small { All (λ size. size ≤ FILE_BYTES) (start_sizes self.now) }
+            → IsFileNumbered n (get (start_paths self.now) p) → IsPathOf self.now n p }
+        ensures small { All (λ size. size ≤ most_bytes self.now.version) (start_sizes self.now) }
     {
         self.places.len()
     }
@@ -125,7 +129,8 @@ impl Trace {
     pub fn operations(&self) -> &[Operation]
         ensures value { result.now ≡ self.now.operations }
         ensures nested { AreNested (start_paths self.now) }
-        ensures legal { AreLegal (start_paths self.now) (start_sizes self.now) self.now.operations }
+        ensures tree { IsTree (held_in (start_table self.now)) }
+        ensures legal { AreLegalFromStart self.now }
         ensures few { records_made self.now ≤ TREE_RECORDS }
     {
         &self.operations
@@ -145,7 +150,7 @@ fn trace_of_state(alloc: Global, state: LinesSoFar) -> Result<Trace, AllocError>
     requires { IsTrace (trace_of_state (state_of state)) }
     ensures { IfOk result (λ trace. trace ≡ trace_of_state (state_of state)) }
 {
-    let lists = state.tree.into_start(alloc, state.file_count)?;
+    let lists = state.start.into_lists(alloc, state.file_count)?;
     Ok(Trace {
         records: lists.records,
         nodes: lists.nodes,
@@ -201,6 +206,21 @@ fn trace_of_state(alloc: Global, state: LinesSoFar) -> Result<Trace, AllocError>
 /// A link is one more path of the file at `from`. What is done by one path of a file is done to the
 /// file. An unlink removes one of its paths, and a rename from one path of a file to another does
 /// nothing.
+///
+/// Version 4 has the lines of version 3, with directories that may be renamed, files of up to 1 GiB,
+/// and `journal` as a third F. A start line of a file may have `"length":N` and a list of parts in
+/// place of `bytes`; a byte that no part has is zero:
+///
+/// ```text
+/// {"trace":4,"profile":F,"block":B,"owner":O,"group":G,"mode":M}
+/// {"start":"file","path":P,"owner":O,"group":G,"mode":M,"length":N,"parts":[{"at":N,"bytes":H}]}
+/// {"start":"symlink","path":P,"owner":O,"group":G,"target":T}
+/// {"op":"symlink","path":P,"owner":O,"group":G,"target":T}
+/// {"op":"fdatasync","path":P}
+/// ```
+///
+/// A symbolic link has 1 to 4,095 bytes without NUL, and all permissions. Nothing is looked up
+/// through it. A renamed directory isn't moved below itself, and replaces an empty one.
 ///
 /// The keys may be in any order, with no others. P has a name after each `/`, and is `/` for an
 /// fsync, a chmod and a chown only; O and G are the names of a user and a group; M is three octal

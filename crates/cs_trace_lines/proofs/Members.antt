@@ -65,6 +65,9 @@ fields_of-put k d ms = λ i. record {
   offset = field_at-put (codes "offset") k d ms i;
   length = field_at-put (codes "length") k d ms i;
   text = field_at-put (codes "text") k d ms i;
+  target = field_at-put (codes "target") k d ms i;
+  parts = field_at-put (codes "parts") k d ms i;
+  at = field_at-put (codes "at") k d ms i;
   note = field_at-put (codes "note") k d ms i;
   others = has_others-put k d ms i;
 }

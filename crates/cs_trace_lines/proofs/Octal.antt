@@ -5,8 +5,9 @@ use Rattle.std.specs.Option.{option_and_then, option_map, option_map_or}
 use Rattle.std.specs.Prelude.{if◌then◌else◌, ◌&&◌}
 use Rattle.serde_json.specs.Read.{read}
 use Rattle.cs_trace_lines.specs.Fields.{Field, Fields, fields_in}
-use Rattle.cs_trace_lines.specs.Lines.{Change, Claims, Header, Line, Mode, Operation, OperationLine, Owner, Creat, Mkdir, SetAttr, Sync}
-use Rattle.cs_trace_lines.specs.Lines.{Start, StartLink, UnknownOperation, UnknownStart, claims_in, content_in, has_only, header_in}
+use Rattle.cs_trace_lines.specs.Lines.{Change, Claims, Header, Line, Mode, Operation, OperationLine, Owner, Creat, Mkdir, SetAttr, Symlink, Sync}
+use Rattle.cs_trace_lines.specs.Lines.{Start, StartContent, StartLink, OfDirectory, OfFile, OfSymlink, UnknownOperation, UnknownStart}
+use Rattle.cs_trace_lines.specs.Lines.{claims_in, content_in, file_bytes_in, has_only, header_in, symlink_claims_in, target_in}
 use Rattle.cs_trace_lines.specs.Lines.{header_key_count, header_with, is_octal, key_count, kind_in, line_by, line_in, line_of, mode_in}
 use Rattle.cs_trace_lines.specs.Lines.{operation_named, operation_of, operation_with, permissions_in, start_key_count, start_line_named}
 use Rattle.cs_trace_lines.specs.Lines.{start_line_with, start_under, start_with, text_in, verb_in, version_in, whole_number_in}
@@ -28,20 +29,21 @@ IsOctal (Header version claims) = HasOctal claims
 IsOctal (Start line) = HasOctal line.claims
 IsOctal (Operation (Creat path claims)) = HasOctal claims
 IsOctal (Operation (Mkdir path claims)) = HasOctal claims
+IsOctal (Operation (Symlink path claims target)) = HasOctal claims
 IsOctal (Operation (SetAttr path change)) = HasOctalChange change
 IsOctal _ = Unit {0}
 
-and_then_by : {A B : Type 0} (o : Option A) (f : A → Option B) (P : B → Type 0) → ((x : A) → (y : B) → f x ≡ Some y → P y) → (y : B)
+pub and_then_by : {A B : Type 0} (o : Option A) (f : A → Option B) (P : B → Type 0) → ((x : A) → (y : B) → f x ≡ Some y → P y) → (y : B)
     → option_and_then f o ≡ Some y → P y
 and_then_by None f P each y is = absurd (cc)
 and_then_by (Some x) f P each y is = each x y is
 
-map_by : {A B : Type 0} (o : Option A) (f : A → B) (P : B → Type 0) → ((x : A) → o ≡ Some x → P (f x)) → (y : B) → option_map f o ≡ Some y
+pub map_by : {A B : Type 0} (o : Option A) (f : A → B) (P : B → Type 0) → ((x : A) → o ≡ Some x → P (f x)) → (y : B) → option_map f o ≡ Some y
     → P y
 map_by None f P each y is = absurd (cc)
 map_by (Some x) f P each y is = let same : f x ≡ y = cc in subst P same (each x refl)
 
-if_by : {B : Type 0} (t : Bool) (o : Option B) (P : B → Type 0) → ((y : B) → o ≡ Some y → P y) → (y : B) → (if t then o else None) ≡ Some y
+pub if_by : {B : Type 0} (t : Bool) (o : Option B) (P : B → Type 0) → ((y : B) → o ≡ Some y → P y) → (y : B) → (if t then o else None) ≡ Some y
     → P y
 if_by true o P each y is = each y is
 if_by false o P each y is = absurd (cc)
@@ -75,13 +77,20 @@ header_octal f =
     if_by (has_only version (header_key_count version) f) _ IsOctal
     (map_by (claims_in f) (Header version) IsOctal (claims_octal f)))
 
-start_octal : (f : Fields) (content : Option (List ℕ)) (line : Line) → start_with f content ≡ Some line → IsOctal line
-start_octal f content =
-    and_then_by (text_in f.path) _ IsOctal (λ path. map_by (claims_in f) _ IsOctal (claims_octal f))
+symlink_octal : (f : Fields) (claims : Claims) → symlink_claims_in f ≡ Some claims → claims.permissions ≤ 511
+symlink_octal f =
+    and_then_by (text_in f.owner) _ HasOctal (λ owner. map_by (text_in f.group) _ HasOctal (λ _ _. omega arith))
+
+start_octal : (f : Fields) (claims : Option Claims) → ((c : Claims) → claims ≡ Some c → HasOctal c) → (content : StartContent)
+    → (line : Line) → start_with claims f.path content ≡ Some line → IsOctal line
+start_octal f claims octal content = and_then_by (text_in f.path) _ IsOctal (λ path. map_by claims _ IsOctal octal)
 
 under_octal : (version : Version) (f : Fields) (kind : StartKind) (line : Line) → start_under version f kind ≡ Some line → IsOctal line
-under_octal version f kind.Directory = start_octal f None
-under_octal version f kind.File = and_then_by (content_in version f) _ IsOctal (λ bytes. start_octal f (Some bytes))
+under_octal version f kind.Directory = start_octal f (claims_in f) (claims_octal f) OfDirectory
+under_octal version f kind.File =
+    and_then_by (file_bytes_in version f) _ IsOctal (λ bytes. start_octal f (claims_in f) (claims_octal f) (OfFile bytes))
+under_octal version f kind.Symlink =
+    and_then_by (target_in f.target) _ IsOctal (λ target. start_octal f (symlink_claims_in f) (symlink_octal f) (OfSymlink target))
 under_octal version f kind.Link =
     and_then_by (text_in f.path) _ IsOctal (λ path. map_by (text_in f.from) (StartLink path) IsOctal (λ _ _. tt))
 
@@ -89,7 +98,7 @@ kind_octal : (version : Version) (f : Fields) (kind : Option StartKind) (line : 
     → option_map_or (start_line_with version f) kind (Some UnknownStart) ≡ Some line → IsOctal line
 kind_octal version f None line is = let same : UnknownStart ≡ line = cc in subst IsOctal same tt
 kind_octal version f (Some kind) line is =
-    if_by (has_only version (start_key_count kind) f) _ IsOctal (under_octal version f kind) line is
+    if_by (has_only version (start_key_count f kind) f) _ IsOctal (under_octal version f kind) line is
 
 abbrev HasOctalOperation : OperationLine → Type 0
 HasOctalOperation o = IsOctal (Operation o)
@@ -102,6 +111,10 @@ operation_octal version verb.Creat f =
     and_then_by (text_in f.path) _ HasOctalOperation (λ path. map_by (claims_in f) (Creat path) HasOctalOperation (claims_octal f))
 operation_octal version verb.Mkdir f =
     and_then_by (text_in f.path) _ HasOctalOperation (λ path. map_by (claims_in f) (Mkdir path) HasOctalOperation (claims_octal f))
+operation_octal version verb.Symlink f =
+    and_then_by (text_in f.path) _ HasOctalOperation
+    (λ path. and_then_by (target_in f.target) _ HasOctalOperation
+    (λ target. map_by (symlink_claims_in f) _ HasOctalOperation (symlink_octal f)))
 operation_octal version verb.Unlink f = map_by (text_in f.path) _ HasOctalOperation (λ _ _. tt)
 operation_octal version verb.Rmdir f = map_by (text_in f.path) _ HasOctalOperation (λ _ _. tt)
 operation_octal version verb.Rename f =
@@ -120,6 +133,7 @@ operation_octal version verb.Chown f =
     and_then_by (text_in f.path) _ HasOctalOperation
     (λ path. and_then_by (text_in f.owner) _ HasOctalOperation (λ owner. map_by (text_in f.group) _ HasOctalOperation (λ _ _. tt)))
 operation_octal version verb.Fsync f = map_by (text_in f.path) _ HasOctalOperation (λ _ _. tt)
+operation_octal version verb.Fdatasync f = map_by (text_in f.path) _ HasOctalOperation (λ _ _. tt)
 operation_octal version verb.FsyncRange f =
     and_then_by (text_in f.path) _ HasOctalOperation
     (λ path. and_then_by (whole_number_in f.offset) _ HasOctalOperation

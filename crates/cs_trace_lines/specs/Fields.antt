@@ -4,14 +4,15 @@ use Rattle.std.specs.Prelude.{[], ◌∷◌, nat_eq, codes, Option, None, Some}
 use Rattle.std.specs.Cmp.Lexicographic.{pointwise}
 use Rattle.std.specs.List.{list_any}
 use Rattle.std.specs.Option.{option_map}
-use Rattle.serde_json.specs.Data.{Num, Data, null, boolean, number, string, array, object, Members}
-use Rattle.serde_json.specs.Data.{no_members, member}
+use Rattle.serde_json.specs.Data.{Num, Data, null, boolean, number, string, array, object, Items}
+use Rattle.serde_json.specs.Data.{Members, no_members, member}
 use Rattle.serde_json.specs.Find.{as_object, get_member}
 
--- a text, a number, or a value that no key of the format has
+-- a text, a number, a list, or a value that no key of the format has
 pub data Field : Type 0 where
   Text : List ℕ → Field
   Number : Num → Field
+  Array : Items → Field
   Other : Field
 
 -- the field of each key that the format has, and whether there are other keys
@@ -31,6 +32,9 @@ pub record Fields : Type 0 where
   pub offset : Option Field
   pub length : Option Field
   pub text : Option Field
+  pub target : Option Field
+  pub parts : Option Field
+  pub at : Option Field
   pub note : Option Field
   pub others : Bool
 
@@ -40,7 +44,7 @@ field_of null = Other
 field_of (boolean b) = Other
 field_of (number n) = Number n
 field_of (string s) = Text s
-field_of (array ds) = Other
+field_of (array ds) = Array ds
 field_of (object ms) = Other
 
 -- the field of a key
@@ -57,7 +61,8 @@ is_known key =
     list_any (is_key key)
     (codes "trace" ∷ codes "profile" ∷ codes "block" ∷ codes "start" ∷ codes "op" ∷ codes "path"
     ∷ codes "from" ∷ codes "to" ∷ codes "owner" ∷ codes "group" ∷ codes "mode" ∷ codes "bytes"
-    ∷ codes "offset" ∷ codes "length" ∷ codes "text" ∷ codes "note" ∷ [])
+    ∷ codes "offset" ∷ codes "length" ∷ codes "text" ∷ codes "target" ∷ codes "parts" ∷ codes "at"
+    ∷ codes "note" ∷ [])
 
 -- there is a key that the format does not have
 abbrev pub has_others : Members → Bool
@@ -82,6 +87,9 @@ fields_of ms = record {
   offset = field_at (codes "offset") ms;
   length = field_at (codes "length") ms;
   text = field_at (codes "text") ms;
+  target = field_at (codes "target") ms;
+  parts = field_at (codes "parts") ms;
+  at = field_at (codes "at") ms;
   note = field_at (codes "note") ms;
   others = has_others ms;
 }
@@ -94,7 +102,7 @@ fields_in d = option_map fields_of (as_object d)
 abbrev pub saying_fields : Fields → List (Option Field)
 saying_fields f =
     f.trace ∷ f.profile ∷ f.block ∷ f.start ∷ f.op ∷ f.path ∷ f.from ∷ f.to ∷ f.owner ∷ f.group
-    ∷ f.mode ∷ f.bytes ∷ f.offset ∷ f.length ∷ f.text ∷ []
+    ∷ f.mode ∷ f.bytes ∷ f.offset ∷ f.length ∷ f.text ∷ f.target ∷ f.parts ∷ f.at ∷ []
 
 -- exactly so many keys, a note not counted, and each is one that the format has
 abbrev pub has_keys : ℕ → Fields → Bool
@@ -104,4 +112,5 @@ has_keys count f = not f.others && (length (filter is_some (saying_fields f)) ==
 abbrev pub text_of : Field → Option (List ℕ)
 text_of (Text s) = Some s
 text_of (Number n) = None
+text_of (Array ds) = None
 text_of Other = None

@@ -1,6 +1,9 @@
 pub mod Faults
 pub mod Fields
+pub mod Kept
 pub mod Lines
 pub mod Reading
 pub mod Said
+pub mod Sparse
 pub mod Versions
+pub mod Earlier

@@ -1,26 +1,29 @@
 -- What a line of a trace says by itself, through what `serde_json` reads as a value.
 use Rattle.std.specs.Prelude.{ℕ, ◌+◌, ◌-◌, ◌*◌, ◌==◌, ◌||◌, ◌&&◌, Bool, false, true, List, [], ◌∷◌}
-use Rattle.std.specs.Prelude.{nat_eq, nat_le, codes, Option, Some, None, option_and_then}
-use Rattle.std.specs.Prelude.{if◌then◌else◌}
+use Rattle.std.specs.Prelude.{nat_eq, nat_le, nat_lt, length, is_none, is_some, codes, Option}
+use Rattle.std.specs.Prelude.{Some, None, option_and_then, if◌then◌else◌}
 use Rattle.std.specs.Cmp.Lexicographic.{pointwise}
 use Rattle.std.specs.Option.{option_map, option_map_or}
 use Rattle.std.specs.List.{list_all}
 use Rattle.std.specs.Result.{result_ok}
+use Rattle.serde_json.specs.Data.{Data, Items, item, no_items}
 use Rattle.serde_json.specs.Read.{read}
 use Rattle.serde_json.specs.Find.{as_u64}
 use Rattle.hex.specs.Hex.{decode_of}
 use Rattle.cs_trace_lines.specs.declared.profile.Profile.{Profile}
-use Rattle.cs_trace_lines.specs.declared.profile.Profile.TheVariants.{Blocks, Ordered}
+use Rattle.cs_trace_lines.specs.declared.profile.Profile.TheVariants.{Blocks, Ordered, Journal}
 use Rattle.cs_trace_lines.specs.declared.start.StartKind.{StartKind}
 use Rattle.cs_trace_lines.specs.declared.start.StartKind.TheVariants as kind
+use Rattle.cs_trace_lines.specs.declared.values.TheConstants.{TARGET_BYTES}
 use Rattle.cs_trace_lines.specs.declared.verb.Verb.{Verb}
 use Rattle.cs_trace_lines.specs.declared.verb.Verb.TheVariants as verb
 use Rattle.cs_trace_lines.specs.declared.version.BlockSize.{BlockSize}
 use Rattle.cs_trace_lines.specs.declared.version.Version.{Version}
-use Rattle.cs_trace_lines.specs.declared.version.Version.TheVariants.{First, Second, Third}
-use Rattle.cs_trace_lines.specs.Fields.{Field, Number, Other, Text, Fields, fields_in, has_keys}
-use Rattle.cs_trace_lines.specs.Fields.{text_of}
-use Rattle.cs_trace_lines.specs.Versions.{block_size_of_bytes, is_third}
+use Rattle.cs_trace_lines.specs.declared.version.Version.TheVariants.{First, Second, Third, Fourth}
+use Rattle.cs_trace_lines.specs.Fields.{Field, Array, Number, Other, Text, Fields, fields_in}
+use Rattle.cs_trace_lines.specs.Fields.{has_keys, text_of}
+use Rattle.cs_trace_lines.specs.Sparse.{Part, are_apart, laid_out}
+use Rattle.cs_trace_lines.specs.Versions.{block_size_of_bytes, is_fourth, is_third_or_later}
 
 -- owner, group and permissions as a line has them
 pub record Claims : Type 0 where
@@ -28,11 +31,19 @@ pub record Claims : Type 0 where
   pub group : List ℕ
   pub permissions : ℕ
 
--- a file with its bytes at the start, or a directory, with its path as a text
+-- what is in a file, or where a symbolic link leads; a directory begins empty
+pub data StartContent : Type 0 where
+  OfDirectory : StartContent
+  -- its bytes
+  OfFile : List ℕ → StartContent
+  -- its target
+  OfSymlink : List ℕ → StartContent
+
+-- a file, a symbolic link or a directory at the start, with its path as a text
 pub record StartLine : Type 0 where
   pub path : List ℕ
   pub claims : Claims
-  pub content : Option (List ℕ)
+  pub content : StartContent
 
 -- what a chmod or a chown sets: the permissions, or the owner and the group
 pub data Change : Type 0 where
@@ -43,6 +54,8 @@ pub data Change : Type 0 where
 pub data OperationLine : Type 0 where
   Creat : List ℕ → Claims → OperationLine
   Mkdir : List ℕ → Claims → OperationLine
+  -- its path and its target
+  Symlink : List ℕ → Claims → List ℕ → OperationLine
   Unlink : List ℕ → OperationLine
   Rmdir : List ℕ → OperationLine
   Rename : List ℕ → List ℕ → OperationLine
@@ -54,6 +67,7 @@ pub data OperationLine : Type 0 where
   Truncate : List ℕ → ℕ → OperationLine
   SetAttr : List ℕ → Change → OperationLine
   Fsync : List ℕ → OperationLine
+  Fdatasync : List ℕ → OperationLine
   -- where the range begins, and its length
   FsyncRange : List ℕ → ℕ → ℕ → OperationLine
   Sync : OperationLine
@@ -84,6 +98,7 @@ text_in field = option_and_then text_of field
 abbrev pub whole_number_of : Field → Option ℕ
 whole_number_of (Text s) = None
 whole_number_of (Number n) = as_u64 n
+whole_number_of (Array ds) = None
 whole_number_of Other = None
 
 -- the same of a field that is in the line
@@ -109,11 +124,23 @@ bytes_in field = option_and_then (λ text. result_ok (decode_of text)) (text_in 
 
 -- the bytes under one of two keys: digits, or a text if the version has them
 abbrev pub content_by : Version → Option Field → Option Field → Option (List ℕ)
-content_by version None text = if is_third version then text_in text else None
+content_by version None text = if is_third_or_later version then text_in text else None
 content_by version (Some bytes) text = bytes_in (Some bytes)
 
 abbrev pub content_in : Version → Fields → Option (List ℕ)
 content_in version f = content_by version f.bytes f.text
+
+-- where a symbolic link leads is a text of 1 to TARGET_BYTES bytes without NUL
+abbrev pub is_without_nul : List ℕ → Bool
+is_without_nul text = list_all (λ c. nat_lt 0 c) text
+
+abbrev pub is_target : List ℕ → Bool
+is_target text =
+    nat_lt 0 (length text) && nat_le (length text) TARGET_BYTES && is_without_nul text
+
+abbrev pub target_in : Option Field → Option (List ℕ)
+target_in target =
+    option_and_then (λ text. if is_target text then Some text else None) (text_in target)
 
 -- the permissions of a mode
 abbrev pub mode_in : Option Field → Option ℕ
@@ -127,11 +154,19 @@ claims_in f =
     option_map (λ permissions. record { owner = owner; group = group; permissions = permissions })
     (mode_in f.mode)) (text_in f.group)) (text_in f.owner)
 
+-- the owner and the group of a symbolic link, whose line has no mode: all permissions
+abbrev pub symlink_claims_in : Fields → Option Claims
+symlink_claims_in f =
+    option_and_then (λ owner.
+    option_map (λ group. record { owner = owner; group = group; permissions = 511 })
+    (text_in f.group)) (text_in f.owner)
+
 -- a note is a text, if the version has notes
 abbrev pub may_note : Version → Option Field → Bool
 may_note version None = true
-may_note version (Some (Text s)) = is_third version
+may_note version (Some (Text s)) = is_third_or_later version
 may_note version (Some (Number n)) = false
+may_note version (Some (Array ds)) = false
 may_note version (Some Other) = false
 
 -- exactly so many keys, a note not counted
@@ -145,10 +180,21 @@ abbrev pub profile_named : List ℕ → Option Profile
 profile_named name =
     if pointwise nat_eq name (codes "blocks") then Some Blocks
     else (if pointwise nat_eq name (codes "ordered") then Some Ordered
-    else None)
+    else (if pointwise nat_eq name (codes "journal") then Some Journal
+    else None))
 
 abbrev pub profile_in : Option Field → Option Profile
 profile_in profile = option_and_then profile_named (text_in profile)
+
+-- a profile of the versions before the fourth
+abbrev pub is_early : Profile → Bool
+is_early Blocks = true
+is_early Ordered = true
+is_early Journal = false
+
+abbrev pub early_profile_in : Option Field → Option Profile
+early_profile_in profile =
+    option_and_then (λ p. if is_early p then Some p else None) (profile_in profile)
 
 abbrev pub block_size_in : Option Field → Option BlockSize
 block_size_in block = option_and_then block_size_of_bytes (whole_number_in block)
@@ -157,11 +203,14 @@ block_size_in block = option_and_then block_size_of_bytes (whole_number_in block
 abbrev pub version_of : Fields → ℕ → Option Version
 version_of f number =
     if number == 1 then Some First
-    else (if number == 2 then option_map Second (profile_in f.profile)
+    else (if number == 2 then option_map Second (early_profile_in f.profile)
     else (if number == 3 then
     option_and_then (λ profile. option_map (Third profile) (block_size_in f.block))
+    (early_profile_in f.profile)
+    else (if number == 4 then
+    option_and_then (λ profile. option_map (Fourth profile) (block_size_in f.block))
     (profile_in f.profile)
-    else None))
+    else None)))
 
 abbrev pub version_in : Fields → Option Version
 version_in f = option_and_then (version_of f) (whole_number_in f.trace)
@@ -171,6 +220,7 @@ abbrev pub header_key_count : Version → ℕ
 header_key_count First = 4
 header_key_count (Second profile) = 5
 header_key_count (Third profile block) = 6
+header_key_count (Fourth profile block) = 6
 
 -- a header of this version, with exactly its keys
 abbrev pub header_with : Fields → Version → Option Line
@@ -181,41 +231,91 @@ header_with f version =
 abbrev pub header_in : Fields → Option Line
 header_in f = option_and_then (header_with f) (version_in f)
 
+-- ---- files in parts
+
+-- a part has its offset and its bytes, and nothing else
+abbrev pub part_of : Version → Fields → Option Part
+part_of version f =
+    if has_keys 2 f && is_none f.note then
+    option_and_then (λ at. option_map (λ bytes. record { at = at; bytes = bytes })
+    (content_in version f)) (whole_number_in f.at)
+    else None
+
+abbrev pub part_in : Version → Data → Option Part
+part_in version d = option_and_then (part_of version) (fields_in d)
+
+-- the parts of a list, one after another
+abbrev pub parts_of : Version → Items → Option (List Part)
+parts_of version no_items = Some []
+parts_of version (item d ds) =
+    option_and_then (λ p. option_map (λ ps. p ∷ ps) (parts_of version ds)) (part_in version d)
+
+abbrev pub parts_by : Version → Field → Option (List Part)
+parts_by version (Text s) = None
+parts_by version (Number n) = None
+parts_by version (Array ds) = parts_of version ds
+parts_by version Other = None
+
+abbrev pub parts_in : Version → Option Field → Option (List Part)
+parts_in version parts = option_and_then (parts_by version) parts
+
+-- the bytes of a file of so many bytes, if its parts are one behind the other
+abbrev pub laid_out_if : ℕ → List Part → Option (List ℕ)
+laid_out_if count parts = if are_apart 0 count parts then Some (laid_out count parts) else None
+
+abbrev pub bytes_by_parts : Version → Option Field → Option Field → Option (List ℕ)
+bytes_by_parts version count parts =
+    option_and_then (λ count. option_and_then (laid_out_if count) (parts_in version parts))
+    (whole_number_in count)
+
+-- the bytes of a file at the start: in parts, if the version has them, or as a whole
+abbrev pub file_bytes_in : Version → Fields → Option (List ℕ)
+file_bytes_in version f =
+    if is_some f.parts then
+    (if is_fourth version then bytes_by_parts version f.length f.parts else None)
+    else content_in version f
+
 -- ---- start lines
 
--- the kind of this name; links are of the third version
+-- the kind of this name; links are of the third version, and symbolic links of the fourth
 abbrev pub kind_in : Version → List ℕ → Option StartKind
 kind_in version name =
     if pointwise nat_eq name (codes "dir") then Some kind.Directory
     else (if pointwise nat_eq name (codes "file") then Some kind.File
-    else (if pointwise nat_eq name (codes "link") && is_third version then Some kind.Link
-    else None))
+    else (if pointwise nat_eq name (codes "link") && is_third_or_later version then Some kind.Link
+    else (if pointwise nat_eq name (codes "symlink") && is_fourth version then Some kind.Symlink
+    else None)))
 
--- how many keys its line has, with `start`, but without a note
-abbrev pub start_key_count : StartKind → ℕ
-start_key_count kind.Directory = 5
-start_key_count kind.File = 6
-start_key_count kind.Link = 3
+-- how many keys its line has, with `start`, but without a note; a file in parts has one more
+abbrev pub start_key_count : Fields → StartKind → ℕ
+start_key_count f kind.Directory = 5
+start_key_count f kind.File = if is_some f.parts then 7 else 6
+start_key_count f kind.Link = 3
+start_key_count f kind.Symlink = 5
 
--- a file with its bytes, or a directory
-abbrev pub start_with : Fields → Option (List ℕ) → Option Line
-start_with f content =
+-- a file, a symbolic link or a directory
+abbrev pub start_with : Option Claims → Option Field → StartContent → Option Line
+start_with claims path content =
     option_and_then (λ path.
     option_map (λ claims. Start (record { path = path; claims = claims; content = content }))
-    (claims_in f)) (text_in f.path)
+    claims) (text_in path)
 
 -- what a line of this kind has under its keys
 abbrev pub start_under : Version → Fields → StartKind → Option Line
-start_under version f kind.Directory = start_with f None
+start_under version f kind.Directory = start_with (claims_in f) f.path OfDirectory
 start_under version f kind.File =
-    option_and_then (λ bytes. start_with f (Some bytes)) (content_in version f)
+    option_and_then (λ bytes. start_with (claims_in f) f.path (OfFile bytes))
+    (file_bytes_in version f)
+start_under version f kind.Symlink =
+    option_and_then (λ target. start_with (symlink_claims_in f) f.path (OfSymlink target))
+    (target_in f.target)
 start_under version f kind.Link =
     option_and_then (λ path. option_map (StartLink path) (text_in f.from)) (text_in f.path)
 
 -- a line of this kind, with exactly its keys
 abbrev pub start_line_with : Version → Fields → StartKind → Option Line
 start_line_with version f kind =
-    if has_only version (start_key_count kind) f then start_under version f kind else None
+    if has_only version (start_key_count f kind) f then start_under version f kind else None
 
 -- a start line; one of no known kind says no more
 abbrev pub start_line_named : Version → Fields → List ℕ → Option Line
@@ -232,6 +332,7 @@ abbrev pub verb_named : List ℕ → Option Verb
 verb_named name =
     if pointwise nat_eq name (codes "creat") then Some verb.Creat
     else (if pointwise nat_eq name (codes "mkdir") then Some verb.Mkdir
+    else (if pointwise nat_eq name (codes "symlink") then Some verb.Symlink
     else (if pointwise nat_eq name (codes "unlink") then Some verb.Unlink
     else (if pointwise nat_eq name (codes "rmdir") then Some verb.Rmdir
     else (if pointwise nat_eq name (codes "rename") then Some verb.Rename
@@ -241,17 +342,21 @@ verb_named name =
     else (if pointwise nat_eq name (codes "chmod") then Some verb.Chmod
     else (if pointwise nat_eq name (codes "chown") then Some verb.Chown
     else (if pointwise nat_eq name (codes "fsync") then Some verb.Fsync
+    else (if pointwise nat_eq name (codes "fdatasync") then Some verb.Fdatasync
     else (if pointwise nat_eq name (codes "fsync_range") then Some verb.FsyncRange
     else (if pointwise nat_eq name (codes "sync") then Some verb.Sync
     else (if pointwise nat_eq name (codes "say") then Some verb.Say
-    else None)))))))))))))
+    else None)))))))))))))))
 
--- chmod and chown are of the second version on, links and syncs of a range of the third
+-- chmod and chown are of the second version on, links and syncs of a range of the third, symbolic
+-- links and syncs of data of the fourth
 abbrev pub belongs_to : Version → Verb → Bool
 belongs_to First verb.Chmod = false
 belongs_to First verb.Chown = false
-belongs_to version verb.Link = is_third version
-belongs_to version verb.FsyncRange = is_third version
+belongs_to version verb.Link = is_third_or_later version
+belongs_to version verb.FsyncRange = is_third_or_later version
+belongs_to version verb.Symlink = is_fourth version
+belongs_to version verb.Fdatasync = is_fourth version
 belongs_to version v = true
 
 -- the operation of this name in a trace of this version
@@ -263,6 +368,7 @@ verb_in version name =
 abbrev pub key_count : Verb → ℕ
 key_count verb.Creat = 5
 key_count verb.Mkdir = 5
+key_count verb.Symlink = 5
 key_count verb.Unlink = 2
 key_count verb.Rmdir = 2
 key_count verb.Rename = 3
@@ -272,6 +378,7 @@ key_count verb.Truncate = 3
 key_count verb.Chmod = 3
 key_count verb.Chown = 4
 key_count verb.Fsync = 2
+key_count verb.Fdatasync = 2
 key_count verb.FsyncRange = 4
 key_count verb.Sync = 1
 key_count verb.Say = 2
@@ -282,6 +389,11 @@ operation_of version verb.Creat f =
     option_and_then (λ path. option_map (Creat path) (claims_in f)) (text_in f.path)
 operation_of version verb.Mkdir f =
     option_and_then (λ path. option_map (Mkdir path) (claims_in f)) (text_in f.path)
+operation_of version verb.Symlink f =
+    option_and_then (λ path.
+    option_and_then (λ target.
+    option_map (λ claims. Symlink path claims target) (symlink_claims_in f))
+    (target_in f.target)) (text_in f.path)
 operation_of version verb.Unlink f = option_map Unlink (text_in f.path)
 operation_of version verb.Rmdir f = option_map Rmdir (text_in f.path)
 operation_of version verb.Rename f =
@@ -304,6 +416,7 @@ operation_of version verb.Chown f =
     option_map (λ group. SetAttr path (Owner owner group)) (text_in f.group))
     (text_in f.owner)) (text_in f.path)
 operation_of version verb.Fsync f = option_map Fsync (text_in f.path)
+operation_of version verb.Fdatasync f = option_map Fdatasync (text_in f.path)
 operation_of version verb.FsyncRange f =
     option_and_then (λ path.
     option_and_then (λ offset.

@@ -2,8 +2,8 @@
 use Rattle.std.specs.Prelude.{◌||◌, ℕ, Bool, List, Option, Some, codes, not, if◌then◌else◌}
 use Rattle.std.specs.Option.{option_map}
 use Rattle.std.specs.String.{string_bytes}
-use Rattle.serde_json.specs.View.{number_view}
-use Rattle.cs_trace_lines.specs.Fields.{Field, Number, Other, Text, Fields, is_key, is_known}
+use Rattle.serde_json.specs.View.{items_view, number_view}
+use Rattle.cs_trace_lines.specs.Fields.{Field, Array, Number, Other, Text, Fields, is_key, is_known}
 use Rattle.cs_trace_lines.specs.declared.fields.Field.{Field as ReadField}
 use Rattle.cs_trace_lines.specs.declared.fields.Field.TheVariants as field
 use Rattle.cs_trace_lines.specs.declared.fields.Fields.{Fields as ReadFields}
@@ -11,6 +11,7 @@ use Rattle.cs_trace_lines.specs.declared.fields.Fields.{Fields as ReadFields}
 abbrev pub field_value : ReadField → Field
 field_value (field.Text text) = Text (string_bytes text)
 field_value (field.Number number) = Number (number_view number)
+field_value (field.Array values) = Array (items_view values.items)
 field_value field.Other = Other
 
 abbrev pub field_values : ReadFields → Fields
@@ -30,6 +31,9 @@ field_values f = record {
   offset = option_map field_value f.offset;
   length = option_map field_value f.length;
   text = option_map field_value f.text;
+  target = option_map field_value f.target;
+  parts = option_map field_value f.parts;
+  at = option_map field_value f.at;
   note = option_map field_value f.note;
   others = f.has_others;
 }
@@ -55,6 +59,9 @@ with_field key field f = record {
   offset = replaced_if (is_key key (codes "offset")) field f.offset;
   length = replaced_if (is_key key (codes "length")) field f.length;
   text = replaced_if (is_key key (codes "text")) field f.text;
+  target = replaced_if (is_key key (codes "target")) field f.target;
+  parts = replaced_if (is_key key (codes "parts")) field f.parts;
+  at = replaced_if (is_key key (codes "at")) field f.at;
   note = replaced_if (is_key key (codes "note")) field f.note;
   others = not (is_known key) || f.others;
 }

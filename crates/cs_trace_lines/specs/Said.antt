@@ -1,11 +1,12 @@
 -- What the parts of a line that is read say.
-use Rattle.std.specs.Option.{option_map}
 use Rattle.std.specs.String.{string_bytes}
 use Rattle.cs_trace_lines.specs.Lines as said
-use Rattle.cs_trace_lines.specs.Lines.{Change, Claims, StartLine, OperationLine, Line}
+use Rattle.cs_trace_lines.specs.Lines.{Change, Claims, StartContent, StartLine, OperationLine, Line}
 use Rattle.cs_trace_lines.specs.declared.line.Change.{Change as ReadChange}
 use Rattle.cs_trace_lines.specs.declared.line.Change.TheVariants as change
 use Rattle.cs_trace_lines.specs.declared.line.Claims.{Claims as ReadClaims}
+use Rattle.cs_trace_lines.specs.declared.line.StartContent.{StartContent as ReadContent}
+use Rattle.cs_trace_lines.specs.declared.line.StartContent.TheVariants as content
 use Rattle.cs_trace_lines.specs.declared.line.StartLine.{StartLine as ReadStart}
 use Rattle.cs_trace_lines.specs.declared.line.OperationLine.{OperationLine as ReadOperation}
 use Rattle.cs_trace_lines.specs.declared.line.OperationLine.TheVariants as operation
@@ -19,11 +20,16 @@ claims_of c = record {
   permissions = c.permissions;
 }
 
+abbrev pub content_of : ReadContent → StartContent
+content_of content.Directory = said.OfDirectory
+content_of (content.File bytes) = said.OfFile bytes
+content_of (content.Symlink target) = said.OfSymlink (string_bytes target)
+
 abbrev pub start_of : ReadStart → StartLine
 start_of s = record {
   path = string_bytes s.path;
   claims = claims_of s.claims;
-  content = option_map (λ bytes. bytes.items) s.content;
+  content = content_of s.content;
 }
 
 abbrev pub change_value : ReadChange → Change
@@ -33,6 +39,8 @@ change_value (change.Owner owner group) = said.Owner (string_bytes owner) (strin
 abbrev pub operation_value : ReadOperation → OperationLine
 operation_value (operation.Creat path claims) = said.Creat (string_bytes path) (claims_of claims)
 operation_value (operation.Mkdir path claims) = said.Mkdir (string_bytes path) (claims_of claims)
+operation_value (operation.Symlink path claims target) =
+    said.Symlink (string_bytes path) (claims_of claims) (string_bytes target)
 operation_value (operation.Unlink path) = said.Unlink (string_bytes path)
 operation_value (operation.Rmdir path) = said.Rmdir (string_bytes path)
 operation_value (operation.Rename from to) = said.Rename (string_bytes from) (string_bytes to)
@@ -43,6 +51,7 @@ operation_value (operation.Truncate path size) = said.Truncate (string_bytes pat
 operation_value (operation.SetAttr path change) =
     said.SetAttr (string_bytes path) (change_value change)
 operation_value (operation.Fsync path) = said.Fsync (string_bytes path)
+operation_value (operation.Fdatasync path) = said.Fdatasync (string_bytes path)
 operation_value (operation.FsyncRange path offset length) =
     said.FsyncRange (string_bytes path) offset length
 operation_value operation.Sync = said.Sync

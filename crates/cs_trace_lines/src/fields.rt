@@ -2,10 +2,13 @@
 //! mean is in `values`.
 ghost use Rattle.std.specs.Prelude.{◌≡◌};
 ghost use Rattle.serde_json.specs.Data.{no_members};
+ghost use Rattle.serde_json.specs.Find.{as_object};
 ghost use Rattle.serde_json.specs.View.{members_view, view};
+ghost use Rattle.cs_trace_lines.specs.Faults.{IsRead};
 ghost use Rattle.cs_trace_lines.specs.Fields.{field_of, fields_of, has_keys};
 ghost use Rattle.cs_trace_lines.specs.Reading.{field_value, field_values, with_field};
 
+use crate::fault::LineFault;
 use serde_json::{Map, Number, Value};
 
 /// The value of one key.
@@ -13,7 +16,8 @@ use serde_json::{Map, Number, Value};
 pub(crate) enum Field {
     Text(String),
     Number(Number),
-    /// A value that no key of the format has, such as a list.
+    Array(Vec<Value>),
+    /// A value that no key of the format has, such as an object.
     Other,
 }
 
@@ -36,21 +40,35 @@ pub(crate) struct Fields {
     pub(crate) offset: Option<Field>,
     pub(crate) length: Option<Field>,
     pub(crate) text: Option<Field>,
+    pub(crate) target: Option<Field>,
+    pub(crate) parts: Option<Field>,
+    pub(crate) at: Option<Field>,
     pub(crate) note: Option<Field>,
     /// Whether the line has a key that the format doesn't have.
     pub(crate) has_others: bool,
 }
 
 impl Field {
-    /// The field of a JSON value: its text, its number, or Other for any other value.
+    /// The field of a JSON value: its text, its number, its items, or Other for any other value.
     fn of(value: Value) -> Field
         ensures { field_value result ≡ field_of (view value) }
     {
         match value {
             Value::String(text) => Field::Text(text),
             Value::Number(number) => Field::Number(number),
-            Value::Null | Value::Bool(_) | Value::Array(_) | Value::Object(_) => Field::Other,
+            Value::Array(items) => Field::Array(items),
+            Value::Null | Value::Bool(_) | Value::Object(_) => Field::Other,
         }
+    }
+}
+
+/// The members of a JSON value. One that isn't an object is Syntax.
+pub(crate) fn members_of(value: Value) -> Result<Map<String, Value>, LineFault>
+    ensures { IsRead (λ members. members_view members.entries) (as_object (view value)) result }
+{
+    match value {
+        Value::Object(members) => Ok(members),
+        _ => Err(LineFault::Syntax),
     }
 }
 
@@ -75,6 +93,9 @@ impl Fields {
             offset: None,
             length: None,
             text: None,
+            target: None,
+            parts: None,
+            at: None,
             note: None,
             has_others: false,
         }
@@ -99,6 +120,9 @@ impl Fields {
             "from" => self.from = Some(field),
             "length" => self.length = Some(field),
             "text" => self.text = Some(field),
+            "target" => self.target = Some(field),
+            "parts" => self.parts = Some(field),
+            "at" => self.at = Some(field),
             "note" => self.note = Some(field),
             "trace" => self.trace = Some(field),
             "profile" => self.profile = Some(field),
@@ -137,7 +161,10 @@ impl Fields {
             + usize::from(self.bytes.is_some())
             + usize::from(self.offset.is_some())
             + usize::from(self.length.is_some())
-            + usize::from(self.text.is_some());
+            + usize::from(self.text.is_some())
+            + usize::from(self.target.is_some())
+            + usize::from(self.parts.is_some())
+            + usize::from(self.at.is_some());
         !self.has_others && given == count
     }
 }

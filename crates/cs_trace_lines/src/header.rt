@@ -2,8 +2,9 @@
 //! be moved out of the fields then.
 ghost use Rattle.std.specs.Prelude.{◌≡◌, option_map};
 ghost use Rattle.cs_trace_lines.specs.Faults.{IsRead};
-ghost use Rattle.cs_trace_lines.specs.Lines.{block_size_in, header_in, header_key_count};
-ghost use Rattle.cs_trace_lines.specs.Lines.{profile_in, profile_named, version_in};
+ghost use Rattle.cs_trace_lines.specs.Lines.{block_size_in, early_profile_in, header_in};
+ghost use Rattle.cs_trace_lines.specs.Lines.{header_key_count, is_early, profile_in, profile_named};
+ghost use Rattle.cs_trace_lines.specs.Lines.{version_in};
 ghost use Rattle.cs_trace_lines.specs.Reading.{field_value, field_values};
 ghost use Rattle.cs_trace_lines.specs.Said.{line_value};
 
@@ -14,13 +15,14 @@ use crate::profile::Profile;
 use crate::values::{has_only, take_claims, text_of, whole_number_in};
 use crate::version::{BlockSize, Version};
 
-/// The profile of this name: `blocks` or `ordered`. None for any other name.
+/// The profile of this name: `blocks`, `ordered` or `journal`. None for any other name.
 fn profile_named(name: &str) -> Option<Profile>
     ensures { result ≡ profile_named name.now }
 {
     match name {
         "blocks" => Some(Profile::Blocks),
         "ordered" => Some(Profile::Ordered),
+        "journal" => Some(Profile::Journal),
         _ => None,
     }
 }
@@ -33,6 +35,26 @@ fn profile_in(profile: &Option<Field>) -> Result<Profile, LineFault>
     profile_named(text_of(profile)?).ok_or(LineFault::Syntax)
 }
 
+/// Whether versions before the fourth have the profile, too.
+fn is_early(profile: Profile) -> bool
+    ensures { result ≡ is_early profile }
+{
+    !matches!(profile, Profile::Journal)
+}
+
+/// The profile that the field of `profile` names in a version before the fourth: `journal` is
+/// Syntax, too.
+fn early_profile_in(profile: &Option<Field>) -> Result<Profile, LineFault>
+    ensures { IsRead (λ profile. profile)
+        (early_profile_in (option_map field_value profile.now)) result }
+{
+    let profile = profile_in(profile)?;
+    if !is_early(profile) {
+        return Err(LineFault::Syntax);
+    }
+    Ok(profile)
+}
+
 /// The block size whose number of bytes is in the field of `block`. Any other number, another value
 /// or no value is Syntax.
 fn block_size_in(block: &Option<Field>) -> Result<BlockSize, LineFault>
@@ -41,7 +63,7 @@ fn block_size_in(block: &Option<Field>) -> Result<BlockSize, LineFault>
     BlockSize::of_bytes(whole_number_in(block)?).ok_or(LineFault::Syntax)
 }
 
-/// The version that a header declares: 1, 2 with a profile, or 3 with a profile and a block size.
+/// The version that a header declares: 1, 2 with a profile, or 3 or 4 with a profile and a block size.
 /// Another number, or a field that is missing or has another value, is Syntax. `header_key_count`
 /// counts the fields that are read here.
 fn version_in(fields: &Fields) -> Result<Version, LineFault>
@@ -49,14 +71,18 @@ fn version_in(fields: &Fields) -> Result<Version, LineFault>
 {
     match whole_number_in(&fields.trace)? {
         1 => Ok(Version::First),
-        2 => Ok(Version::Second(profile_in(&fields.profile)?)),
-        3 => Ok(Version::Third(profile_in(&fields.profile)?, block_size_in(&fields.block)?)),
+        2 => Ok(Version::Second(early_profile_in(&fields.profile)?)),
+        3 => Ok(Version::Third(
+            early_profile_in(&fields.profile)?,
+            block_size_in(&fields.block)?,
+        )),
+        4 => Ok(Version::Fourth(profile_in(&fields.profile)?, block_size_in(&fields.block)?)),
         _ => Err(LineFault::Syntax),
     }
 }
 
 /// How many keys a header of this version has, `note` not counted: `trace`, `owner`, `group` and
-/// `mode`; from the second version on `profile`, too; and in the third `block`. `version_in` and
+/// `mode`; from the second version on `profile`, and from the third `block`. `version_in` and
 /// `take_claims` read them.
 fn header_key_count(version: Version) -> usize
     ensures { result ≡ header_key_count version }
@@ -64,7 +90,7 @@ fn header_key_count(version: Version) -> usize
     match version {
         Version::First => 4,
         Version::Second(_) => 5,
-        Version::Third(..) => 6,
+        Version::Third(..) | Version::Fourth(..) => 6,
     }
 }
 

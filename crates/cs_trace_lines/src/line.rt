@@ -10,9 +10,10 @@ ghost use Rattle.cs_trace_lines.specs.Said.{line_value};
 ghost use Rattle.cs_trace_lines.specs.declared.fault.LineFault.TheVariants.{Syntax};
 
 use crate::fault::LineFault;
-use crate::fields::Fields;
+use crate::fields::{Fields, members_of};
 use crate::header::header_in;
 use crate::operation::operation_in;
+use crate::sparse::SparseBytes;
 use crate::start::start_line_in;
 use crate::version::Version;
 use serde_json::{Map, Value};
@@ -23,7 +24,7 @@ use std::alloc::Global;
 pub enum Line {
     /// The header: the version, and the root's owner, group and permissions.
     Header(Version, Claims),
-    /// A file or a directory at the start.
+    /// A file, a symbolic link or a directory at the start.
     Start(StartLine),
     /// One more path, `path`, of the file at the start that `from` names.
     StartLink { path: String, from: String },
@@ -43,13 +44,22 @@ pub struct Claims {
     pub permissions: u16,
 }
 
-/// A file or a directory at the start.
+/// A file, a symbolic link or a directory at the start.
 #[derive(Drop)]
 pub struct StartLine {
     pub path: String,
     pub claims: Claims,
-    /// The bytes of a file; None for a directory.
-    pub content: Option<Vec<u8>>,
+    pub content: StartContent,
+}
+
+/// What is in a file, or where a symbolic link leads. A directory begins empty.
+#[derive(Drop)]
+pub enum StartContent {
+    Directory,
+    /// Its bytes.
+    File(SparseBytes),
+    /// Its target, of 1 to `TARGET_BYTES` bytes without NUL.
+    Symlink(String),
 }
 
 /// What a chmod or a chown sets.
@@ -71,6 +81,12 @@ pub enum OperationLine {
     Mkdir {
         path: String,
         claims: Claims,
+    },
+    /// A symbolic link to `target`, whose permissions are all: its line has no mode.
+    Symlink {
+        path: String,
+        claims: Claims,
+        target: String,
     },
     Unlink {
         path: String,
@@ -104,6 +120,10 @@ pub enum OperationLine {
     Fsync {
         path: String,
     },
+    /// A sync of a file's bytes and its size, without its owner, group and mode.
+    Fdatasync {
+        path: String,
+    },
     /// A sync of `length` bytes from `offset` on.
     FsyncRange {
         path: String,
@@ -133,10 +153,7 @@ fn members_in(alloc: Global, text: &str) -> Result<Map<String, Value>, LineFault
         (option_and_then as_object (read text.now)) result }
 {
     match Value::from_str(alloc, text) {
-        Ok(value) => match value {
-            Value::Object(members) => Ok(members),
-            _ => Err(LineFault::Syntax),
-        },
+        Ok(value) => members_of(value),
         Err(error) => {
             if error.is_memory() {
                 return Err(LineFault::Memory);
@@ -149,12 +166,12 @@ fn members_in(alloc: Global, text: &str) -> Result<Map<String, Value>, LineFault
 /// The line that these fields make: a header if they have `trace`, a start line if `start`, an
 /// operation if `op`. None of these three keys, or more than one, is Syntax; the other faults are
 /// those of the reader of its kind. Texts are moved out of the fields, some perhaps before a fault.
-fn line_of(version: Version, fields: &mut Fields) -> Result<Line, LineFault>
+fn line_of(alloc: Global, version: Version, fields: &mut Fields) -> Result<Line, LineFault>
     ensures { IsRead line_value (line_of version (field_values fields.old)) result }
 {
     match (&fields.trace, &fields.start, &fields.op) {
         (Some(_), None, None) => header_in(fields),
-        (None, Some(_), None) => start_line_in(version, fields),
+        (None, Some(_), None) => start_line_in(alloc, version, fields),
         (None, None, Some(_)) => operation_in(version, fields),
         _ => Err(LineFault::Syntax),
     }
@@ -171,5 +188,5 @@ pub fn read_line(alloc: Global, version: Version, text: &str) -> Result<Line, Li
     let members = members_in(alloc, text)?;
     let mut fields = Fields::new();
     fields.put_members(members);
-    line_of(version, &mut fields)
+    line_of(alloc, version, &mut fields)
 }

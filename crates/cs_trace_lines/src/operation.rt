@@ -14,7 +14,8 @@ use crate::fault::LineFault;
 use crate::fields::Fields;
 use crate::line::{Change, Line, OperationLine};
 use crate::values::{
-    has_only, mode_in, take_claims, take_content, take_text, text_of, whole_number_in,
+    has_only, mode_in, take_claims, take_content, take_symlink_claims, take_target, take_text,
+    text_of, whole_number_in,
 };
 use crate::verb::Verb;
 use crate::version::Version;
@@ -41,7 +42,19 @@ fn read_mkdir(fields: &mut Fields) -> Result<OperationLine, LineFault>
     })
 }
 
-/// Reads an unlink: a path of a file.
+/// Reads a symlink: the path, the owner, the group and the target of a new symbolic link.
+fn read_symlink(fields: &mut Fields) -> Result<OperationLine, LineFault>
+    ensures { IsRead operation_value
+        (operation_of First verb.Symlink (field_values fields.old)) result }
+{
+    Ok(OperationLine::Symlink {
+        path: take_text(&mut fields.path)?,
+        target: take_target(&mut fields.target)?,
+        claims: take_symlink_claims(fields)?,
+    })
+}
+
+/// Reads an unlink: a path of a file or a symbolic link.
 fn read_unlink(fields: &mut Fields) -> Result<OperationLine, LineFault>
     ensures { IsRead operation_value
         (operation_of First verb.Unlink (field_values fields.old)) result }
@@ -83,8 +96,8 @@ fn read_link(fields: &mut Fields) -> Result<OperationLine, LineFault>
     })
 }
 
-/// Reads a write: the path, the offset, and the bytes under the key `bytes` or, in the third
-/// version, `text`.
+/// Reads a write: the path, the offset, and the bytes under the key `bytes` or, from the third
+/// version on, `text`.
 fn read_write(version: Version, fields: &mut Fields) -> Result<OperationLine, LineFault>
     ensures { IsRead operation_value
         (operation_of version verb.Write (field_values fields.old)) result }
@@ -142,6 +155,16 @@ fn read_fsync(fields: &mut Fields) -> Result<OperationLine, LineFault>
     })
 }
 
+/// Reads an fdatasync: the path of a file.
+fn read_fdatasync(fields: &mut Fields) -> Result<OperationLine, LineFault>
+    ensures { IsRead operation_value
+        (operation_of First verb.Fdatasync (field_values fields.old)) result }
+{
+    Ok(OperationLine::Fdatasync {
+        path: take_text(&mut fields.path)?,
+    })
+}
+
 /// Reads an fsync_range: the path, the offset and the length, in bytes.
 fn read_fsync_range(fields: &mut Fields) -> Result<OperationLine, LineFault>
     ensures { IsRead operation_value
@@ -177,6 +200,7 @@ fn operation_of(
     match verb {
         Verb::Creat => read_creat(fields),
         Verb::Mkdir => read_mkdir(fields),
+        Verb::Symlink => read_symlink(fields),
         Verb::Unlink => read_unlink(fields),
         Verb::Rmdir => read_rmdir(fields),
         Verb::Rename => read_rename(fields),
@@ -186,6 +210,7 @@ fn operation_of(
         Verb::Chmod => read_chmod(fields),
         Verb::Chown => read_chown(fields),
         Verb::Fsync => read_fsync(fields),
+        Verb::Fdatasync => read_fdatasync(fields),
         Verb::FsyncRange => read_fsync_range(fields),
         Verb::Sync => Ok(OperationLine::Sync),
         Verb::Say => read_say(fields),

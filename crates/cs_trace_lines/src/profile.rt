@@ -7,4 +7,7 @@ pub enum Profile {
     Blocks,
     /// All of them (create, delete, move, link), one after another.
     Ordered,
+    /// All of them, and a sync that has something new to write makes all earlier ones durable, as
+    /// in a file system with one journal. Of version 4.
+    Journal,
 }

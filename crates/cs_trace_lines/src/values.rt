@@ -3,7 +3,9 @@ ghost use Rattle.std.specs.Prelude.{◌≡◌, None, option_map};
 ghost use Rattle.std.specs.String.{string_bytes};
 ghost use Rattle.cs_trace_lines.specs.Faults.{IsRead};
 ghost use Rattle.cs_trace_lines.specs.Lines.{bytes_in, claims_in, content_by, has_only, is_octal};
-ghost use Rattle.cs_trace_lines.specs.Lines.{may_note, mode_in, permissions_in, text_in};
+ghost use Rattle.cs_trace_lines.specs.Lines.{is_target, is_without_nul, may_note, mode_in};
+ghost use Rattle.cs_trace_lines.specs.Lines.{permissions_in};
+ghost use Rattle.cs_trace_lines.specs.Lines.{symlink_claims_in, target_in, text_in};
 ghost use Rattle.cs_trace_lines.specs.Lines.{whole_number_in};
 ghost use Rattle.cs_trace_lines.specs.Reading.{field_value, field_values};
 ghost use Rattle.cs_trace_lines.specs.Said.{claims_of};
@@ -13,6 +15,9 @@ use crate::fault::LineFault;
 use crate::fields::{Field, Fields};
 use crate::line::Claims;
 use crate::version::Version;
+
+/// Bytes of a symbolic link's target, at most.
+pub const TARGET_BYTES: usize = 4_095;
 
 /// The text in a field, borrowed. A value that isn't a text, or no value, is Syntax.
 pub(crate) fn text_of(field: &Option<Field>) -> Result<&str, LineFault>
@@ -85,6 +90,45 @@ pub(crate) fn take_claims(fields: &mut Fields) -> Result<Claims, LineFault>
     })
 }
 
+/// The owner and the group in the fields, which are moved out, with all permissions: those of a
+/// symbolic link, whose line has no mode. A field that is missing or has another value is Syntax.
+pub(crate) fn take_symlink_claims(fields: &mut Fields) -> Result<Claims, LineFault>
+    ensures { IsRead claims_of (symlink_claims_in (field_values fields.old)) result }
+{
+    Ok(Claims {
+        owner: take_text(&mut fields.owner)?,
+        group: take_text(&mut fields.group)?,
+        permissions: 0o777,
+    })
+}
+
+/// Whether the text has no NUL.
+fn is_without_nul(text: &str) -> bool
+    ensures { result ≡ is_without_nul text.now }
+{
+    text.as_bytes().iter().all(|byte| *byte > 0)
+}
+
+/// Whether a symbolic link may have this target: 1 to `TARGET_BYTES` bytes without NUL.
+fn is_target(text: &str) -> bool
+    ensures { result ≡ is_target text.now }
+{
+    let count = text.len();
+    count > 0 && count <= TARGET_BYTES && is_without_nul(text)
+}
+
+/// Moves the target of a symbolic link out of its field. A text that none may have, another value
+/// or no value is Syntax.
+pub(crate) fn take_target(target: &mut Option<Field>) -> Result<String, LineFault>
+    ensures { IsRead string_bytes (target_in (option_map field_value target.old)) result }
+{
+    let text = take_text(target)?;
+    if !is_target(text.as_str()) {
+        return Err(LineFault::Syntax);
+    }
+    Ok(text)
+}
+
 /// The bytes that the hexadecimal digits of a field spell, in upper or lower case; an empty text
 /// spells none. Another text, such as an odd number of digits, another value or no value is Syntax.
 /// The field is None afterwards in any case.
@@ -95,7 +139,7 @@ fn take_bytes(field: &mut Option<Field>) -> Result<Vec<u8>, LineFault>
 }
 
 /// The bytes of a file or a write. If the field `digits` is there, it spells them in hexadecimal,
-/// and `text` stays as it is. If not, they are those of `text`, which only the third version has.
+/// and `text` stays as it is. If not, they are those of `text`, which the third version has first.
 /// The value that is read is moved out. A field that is missing or has another value is Syntax.
 pub(crate) fn take_content(
     version: Version,
@@ -109,20 +153,20 @@ pub(crate) fn take_content(
     if digits.is_some() {
         return take_bytes(digits);
     }
-    if !version.is_third() {
+    if !version.is_third_or_later() {
         return Err(LineFault::Syntax);
     }
     Ok(take_text(text)?.into_bytes())
 }
 
-/// Whether a line of this version may have this note: no note (None) in each version, a text only
-/// in the third, and another value in none.
+/// Whether a line of this version may have this note: no note (None) in each version, a text from
+/// the third on, and another value in none.
 fn may_note(version: Version, note: &Option<Field>) -> bool
     ensures { result ≡ may_note version (option_map field_value note.now) }
 {
     match note {
         None => true,
-        Some(Field::Text(_)) => version.is_third(),
+        Some(Field::Text(_)) => version.is_third_or_later(),
         Some(_) => false,
     }
 }

@@ -9,6 +9,7 @@ use crate::version::Version;
 pub(crate) enum Verb {
     Creat,
     Mkdir,
+    Symlink,
     Unlink,
     Rmdir,
     Rename,
@@ -18,6 +19,7 @@ pub(crate) enum Verb {
     Chmod,
     Chown,
     Fsync,
+    Fdatasync,
     FsyncRange,
     Sync,
     Say,
@@ -31,6 +33,7 @@ impl Verb {
         Some(match name {
             "creat" => Verb::Creat,
             "mkdir" => Verb::Mkdir,
+            "symlink" => Verb::Symlink,
             "unlink" => Verb::Unlink,
             "rmdir" => Verb::Rmdir,
             "rename" => Verb::Rename,
@@ -40,6 +43,7 @@ impl Verb {
             "chmod" => Verb::Chmod,
             "chown" => Verb::Chown,
             "fsync" => Verb::Fsync,
+            "fdatasync" => Verb::Fdatasync,
             "fsync_range" => Verb::FsyncRange,
             "sync" => Verb::Sync,
             "say" => Verb::Say,
@@ -48,13 +52,15 @@ impl Verb {
     }
 
     /// Whether a trace of this version may have this verb: chmod and chown come with the second
-    /// version, link and fsync_range with the third, and all others with the first.
+    /// version, link and fsync_range with the third, symlink and fdatasync with the fourth, and all
+    /// others with the first.
     fn belongs_to(self, version: Version) -> bool
         ensures { result ≡ belongs_to version self }
     {
         match self {
             Verb::Chmod | Verb::Chown => !matches!(version, Version::First),
-            Verb::Link | Verb::FsyncRange => version.is_third(),
+            Verb::Link | Verb::FsyncRange => version.is_third_or_later(),
+            Verb::Symlink | Verb::Fdatasync => version.is_fourth(),
             _ => true,
         }
     }
@@ -78,10 +84,10 @@ impl Verb {
     {
         match self {
             Verb::Sync => 1,
-            Verb::Unlink | Verb::Rmdir | Verb::Fsync | Verb::Say => 2,
+            Verb::Unlink | Verb::Rmdir | Verb::Fsync | Verb::Fdatasync | Verb::Say => 2,
             Verb::Rename | Verb::Link | Verb::Truncate | Verb::Chmod => 3,
             Verb::Write | Verb::Chown | Verb::FsyncRange => 4,
-            Verb::Creat | Verb::Mkdir => 5,
+            Verb::Creat | Verb::Mkdir | Verb::Symlink => 5,
         }
     }
 }

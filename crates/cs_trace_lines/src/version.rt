@@ -1,7 +1,8 @@
 //! The version of a trace, which its header declares, and the sizes of its blocks.
 ghost use Rattle.std.specs.Prelude.{◌≡◌};
 ghost use Rattle.cs_trace_lines.specs.Versions.{block_bytes, block_size_of, block_size_of_bytes};
-ghost use Rattle.cs_trace_lines.specs.Versions.{is_third, profile_of, says_first};
+ghost use Rattle.cs_trace_lines.specs.Versions.{is_fourth, is_third_or_later, profile_of};
+ghost use Rattle.cs_trace_lines.specs.Versions.{says_first, with_profile};
 
 use crate::profile::Profile;
 
@@ -51,6 +52,9 @@ pub enum Version {
     /// With links, syncs of a range, notes and texts, and blocks of that size. What was
     /// acknowledged comes before all that follows it.
     Third(Profile, BlockSize),
+    /// With directories that may be moved, symbolic links, syncs of data, and files in parts.
+    /// Writes, truncates and renames have the steps in which file systems put them on the disk.
+    Fourth(Profile, BlockSize),
 }
 
 impl Version {
@@ -60,7 +64,8 @@ impl Version {
     {
         match self {
             Version::First => Profile::Blocks,
-            Version::Second(profile) | Version::Third(profile, _) => profile,
+            Version::Second(profile) | Version::Third(profile, _) | Version::Fourth(profile, _) =>
+                profile,
         }
     }
 
@@ -70,7 +75,7 @@ impl Version {
     {
         match self {
             Version::First | Version::Second(_) => BlockSize::Bytes4096,
-            Version::Third(_, block) => block,
+            Version::Third(_, block) | Version::Fourth(_, block) => block,
         }
     }
 
@@ -79,13 +84,32 @@ impl Version {
     pub fn says_first(self) -> bool
         ensures { result ≡ says_first self }
     {
-        self.is_third()
+        self.is_third_or_later()
     }
 
-    /// Whether it is the third version, of any profile and block size.
-    pub(crate) fn is_third(self) -> bool
-        ensures { result ≡ is_third self }
+    /// Whether there may be links, syncs of a range, notes, and texts in place of digits.
+    pub(crate) fn is_third_or_later(self) -> bool
+        ensures { result ≡ is_third_or_later self }
     {
-        matches!(self, Version::Third(..))
+        matches!(self, Version::Third(..) | Version::Fourth(..))
+    }
+
+    /// Whether it is the fourth version, of any profile and block size.
+    pub fn is_fourth(self) -> bool
+        ensures { result ≡ is_fourth self }
+    {
+        matches!(self, Version::Fourth(..))
+    }
+
+    /// The same version with another profile. The first version has none, and stays as it is.
+    pub fn with_profile(self, profile: Profile) -> Version
+        ensures { result ≡ with_profile profile self }
+    {
+        match self {
+            Version::First => Version::First,
+            Version::Second(_) => Version::Second(profile),
+            Version::Third(_, block) => Version::Third(profile, block),
+            Version::Fourth(_, block) => Version::Fourth(profile, block),
+        }
     }
 }

@@ -1,15 +1,13 @@
 //! An overlay over a crash state, in which nothing was changed, compared with the same state as a
 //! plain store.
-ghost use Rattle.std.specs.Prelude.{◌≡◌, length};
-ghost use Rattle.cs_micro.specs.Legal.{AreLegal};
-ghost use Rattle.cs_micro.specs.Micros.{block_of_version, micros_in};
-ghost use Rattle.cs_trace.specs.Traces.{start_paths};
+ghost use Rattle.std.specs.Prelude.{◌≡◌};
+ghost use Rattle.cs_micro.specs.Micros.{AreLegalFromStart, micros_in};
 
 use crate::store::Store;
 use crate::trees::{Pair, listings, look_ups, sizes};
 use crate::works::Reads;
 use cs_apm::laws::rules_are_sentences;
-use cs_apm::{Order, build};
+use cs_apm::{build, order_of};
 use cs_bench::{Row, Text, compare};
 use cs_micro::{Micros, break_up};
 use cs_overlay::Overlay;
@@ -48,10 +46,9 @@ fn first_places(alloc: Global, count: usize) -> Option<Vec<u32>> {
 /// The state of a set, which must be allowed, as a plain store.
 pub fn plain(alloc: Global, trace: &Trace, micros: &Micros, places: &[u32]) -> Option<PlainTree>
     requires broken { micros.now ≡ micros_in trace.now }
-    requires legal { AreLegal (block_of_version trace.now.version) (start_paths trace.now)
-        (length micros.now.starts) micros.now.ops }
+    requires legal { AreLegalFromStart trace.now micros.now }
 {
-    let order = Order::of(alloc, micros).ok()?;
+    let order = order_of(alloc, micros).ok()?;
     rules_are_sentences(micros);
     if order.is_allowed(places) {
         build(alloc, micros, trace, places).ok()
@@ -63,7 +60,7 @@ pub fn plain(alloc: Global, trace: &Trace, micros: &Micros, places: &[u32]) -> O
 /// The same state, which shares what is the same in all.
 fn shared(alloc: Global, atlas: &Atlas, places: &[u32]) -> Option<StateTree> {
     let micros = atlas.micros();
-    let order = Order::of(alloc, micros).ok()?;
+    let order = order_of(alloc, micros).ok()?;
     rules_are_sentences(micros);
     if order.is_allowed(places) {
         atlas.build(alloc, places).ok()

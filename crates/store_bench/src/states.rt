@@ -1,11 +1,9 @@
 //! The states of traces: planned, listed, made and kept; and the order of micro-operations.
-ghost use Rattle.std.specs.Prelude.{◌≡◌, length};
-ghost use Rattle.cs_micro.specs.Legal.{AreLegal};
-ghost use Rattle.cs_micro.specs.Micros.{block_of_version, micros_in};
-ghost use Rattle.cs_trace.specs.Traces.{start_paths};
+ghost use Rattle.std.specs.Prelude.{◌≡◌};
+ghost use Rattle.cs_micro.specs.Micros.{AreLegalFromStart, micros_in};
 
 use crate::levels::plain;
-use cs_apm::Order;
+use cs_apm::order_of;
 use cs_bench::{Bound, Row, Text, Total, Work, print_figure, resident};
 use cs_micro::{Micros, break_up};
 use cs_names::limits::FILE_BYTES;
@@ -51,7 +49,7 @@ struct Ordering<'a> {
 impl Work for Ordering<'_> {
     /// Returns how many micro-operations the order has, or 0 if it runs out of memory.
     fn run(&mut self, alloc: Global) -> u64 {
-        match Order::of(alloc, self.micros) {
+        match order_of(alloc, self.micros) {
             Ok(order) => order.len() as u64,
             Err(_) => 0,
         }
@@ -86,8 +84,7 @@ struct AsPlain<'a> {
 /// Makes the state of each prefix but the empty one, as a plain store, and counts them.
 fn plain_states(alloc: Global, trace: &Trace, micros: &Micros) -> Option<u64>
     requires broken { micros.now ≡ micros_in trace.now }
-    requires legal { AreLegal (block_of_version trace.now.version) (start_paths trace.now)
-        (length micros.now.starts) micros.now.ops }
+    requires legal { AreLegalFromStart trace.now micros.now }
 {
     let mut places = Vec::new(alloc);
     let mut done = 0u64;

@@ -10,7 +10,7 @@ use Rattle.std.specs.Prelude.{fold}
 use Rattle.std.specs.List.{Contains}
 use Rattle.cs_micro.specs.declared.micro_op.MicroOp.{MicroOp}
 use Rattle.cs_apm.specs.Rules.{op_at}
-use Rattle.cs_apm.specs.Sets.{is_member}
+use Rattle.cs_sets.specs.Sets.{is_member}
 
 pub found_has : (places : List ℕ) (i : ℕ) → is_member places i ≡ true → (k : ℕ)
     × (k < length places) × (get_or places k 0 ≡ i)

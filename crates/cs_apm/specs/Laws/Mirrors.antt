@@ -1,6 +1,6 @@
--- The slots mirror what is at each path, step by step, and list it in order.
+-- The slots mirror what each entry holds, step by step, and list it in order.
 use Rattle.std.proofs.Common.{◌≡◌, ◌≢◌, ℕ, zero, suc, ◌<◌, Bool, true, false, cond, T, List, []}
-use Rattle.std.proofs.Common.{◌∷◌, None, Some, refl, sym, ap, ◌∙◌, subst, arith, ⊎_elim, length}
+use Rattle.std.proofs.Common.{◌∷◌, Option, None, Some, refl, sym, ap, ◌∙◌, subst, arith, ⊎_elim, length}
 use Rattle.std.proofs.lemmas.Bool.{false≢true}
 use Rattle.std.proofs.lemmas.List.{length-set}
 use Rattle.std.specs.Prelude.{slice_set, fold, map}
@@ -9,308 +9,256 @@ use Rattle.std.specs.declared.cmp.Ordering.TheVariants.{Less}
 use Rattle.std.specs.FinMap.{find, get, insert, remove, entries, get-insert, get-remove}
 use Rattle.std.specs.FinMap.{from_sorted, entries-from_sorted, get-from_sorted, is_sorted, same_map}
 use Rattle.std.specs.FinMap.Entries.{below_all}
-use Rattle.cs_names.specs.Paths.{path_eq, path_ties}
-use Rattle.cs_tree_model.specs.Tree.{Path, path_cmp}
-use Rattle.cs_tree_model.specs.Laws.Paths.{path_total, path_exact}
+use Rattle.std.specs.Option.{option_map_or}
+use Rattle.cs_tree_model.specs.Maps.Changes.{key_cases}
 use Rattle.cs_tree_model.specs.Maps.Orders.{both_true}
-use Rattle.cs_trace.specs.declared.operation.Node.TheVariants as nodes
-use Rattle.cs_trace.specs.declared.operation.Rights.{Rights}
-use Rattle.cs_trace.specs.declared.operation.Target.TheVariants as targets
+use Rattle.cs_entries.specs.declared.entry.Entry.{Entry}
+use Rattle.cs_entries.specs.declared.node.Node.{Node}
+use Rattle.cs_entries.specs.declared.node.Node.TheVariants.{File}
+use Rattle.cs_entries.specs.DirEntries.{entry_of}
+use Rattle.cs_entries.specs.Entries.{entry_eq}
+use Rattle.cs_entries.specs.Tables.{Table, entry_cmp}
+use Rattle.cs_entries.specs.Laws.One.{entry_cases}
+use Rattle.cs_entries.specs.Laws.Records.{entry_exact, entry_total}
 use Rattle.cs_micro.specs.declared.micro_op.MicroOp.{MicroOp}
 use Rattle.cs_micro.specs.declared.micro_op.MicroOp.TheVariants.{CreateDirEntry, DeleteDirEntry}
 use Rattle.cs_micro.specs.declared.micro_op.MicroOp.TheVariants.{MoveDirEntry, LinkDirEntry}
 use Rattle.cs_micro.specs.declared.micro_op.MicroOp.TheVariants.{ChangeFileSize, WriteBlock}
 use Rattle.cs_micro.specs.declared.micro_op.MicroOp.TheVariants.{SetAttr, Say}
 use Rattle.cs_apm.specs.Rules.{op_at}
-use Rattle.cs_apm.specs.States.{Entries, Entry, entries_after, with_entry_moved, with_rights_at}
-use Rattle.cs_apm.specs.States as states
-use Rattle.cs_apm.specs.Laws.Paths.{same_cases, same_path}
-use Rattle.cs_apm.specs.declared.slot.Slot.{Slot}
-use Rattle.cs_apm.specs.declared.slot.Slot.TheVariants.{Nothing, Directory, File}
+use Rattle.cs_apm.specs.States.{entries_after}
 use Rattle.cs_apm.specs.declared.slot.Step.{Step}
-use Rattle.cs_apm.specs.declared.slot.Step.TheVariants.{Set, Move, SetRights, Other}
-use Rattle.cs_apm.specs.Slots.{slot_at, step_at, moved_slot, owned_slot, slots_after, AreAbove}
-use Rattle.cs_apm.specs.Slots.{AreAscending, path_at, rights_at, entry_of, slot_entry, Mirror}
-use Rattle.cs_apm.specs.Slots.{entries_in_slots, entries_of_slots, IsPlace, IsStep, AreSteps}
+use Rattle.cs_apm.specs.declared.slot.Step.TheVariants.{Set, Move, Other}
+use Rattle.cs_apm.specs.Slots.{AreAboveBy, AreAscending, AreSteps, IsPlace, IsStep, Mirror, Slot}
+use Rattle.cs_apm.specs.Slots.{entry_at, held_in_slots, moved_slot, slot_at, slot_of, slots_after}
+use Rattle.cs_apm.specs.Slots.{step_at, table_of_slots}
+
+-- ---- entries that are one
+
+pub same_entry : (e : Entry) → entry_eq e e ≡ true
+same_entry e = ⊎_elim
+    (λ (one : (entry_eq e e ≡ true) × (e ≡ e)). one.0)
+    (λ (two : (entry_eq e e ≡ false) × (e ≢ e)). absurd (two.1 refl))
+    (entry_cases e e)
+
+pub turned : (e f : Entry) → eq_by_cmp entry_cmp f e ≡ entry_eq e f
+turned e f = ⊎_elim
+    (λ (one : (entry_eq e f ≡ true) × (e ≡ f)). ⊎_elim
+    (λ (same : (eq_by_cmp entry_cmp f e ≡ true) × (f ≡ e)). same.0 ∙ sym one.0)
+    (λ (other : (eq_by_cmp entry_cmp f e ≡ false) × (f ≢ e)). absurd (other.1 (sym one.1)))
+    (key_cases entry_total entry_exact f e))
+    (λ (two : (entry_eq e f ≡ false) × (e ≢ f)). ⊎_elim
+    (λ (same : (eq_by_cmp entry_cmp f e ≡ true) × (f ≡ e)). absurd (two.1 (sym same.1)))
+    (λ (other : (eq_by_cmp entry_cmp f e ≡ false) × (f ≢ e)). other.0 ∙ sym two.0)
+    (key_cases entry_total entry_exact f e))
+    (entry_cases e f)
+
+less_apart : (e f : Entry) → entry_cmp e f ≡ Less → entry_eq e f ≡ false
+less_apart e f less = ⊎_elim
+    (λ (one : (entry_eq e f ≡ true) × (e ≡ f)). absurd (false≢true
+    (sym (ap is_eq less) ∙ turned f e ∙ ap (λ w. entry_eq f w) one.1 ∙ same_entry f)))
+    (λ (two : (entry_eq e f ≡ false) × (e ≢ f)). two.0)
+    (entry_cases e f)
 
 -- ---- one slot
 
-above_at : (q : Path) (qs : List Path) → AreAbove q qs → (i : ℕ) → i < length qs
-    → path_cmp q (path_at qs i) ≡ Less
-above_at q [] h i lt = absurd (omega (arith, lt))
-above_at q (p ∷ ps) h zero lt = h.0
-above_at q (p ∷ ps) h (suc i) lt = above_at q ps h.1 i (omega (arith, lt))
+above_at : (e : Entry) (es : List Entry) → AreAboveBy entry_cmp e es → (i : ℕ) → i < length es
+    → entry_cmp e (entry_at es i) ≡ Less
+above_at e [] h i lt = absurd (omega (arith, lt))
+above_at e (f ∷ fs) h zero lt = h.0
+above_at e (f ∷ fs) h (suc i) lt = above_at e fs h.1 i (omega (arith, lt))
 
-less_apart : (p q : Path) → path_cmp p q ≡ Less → path_eq p q ≡ false
-less_apart p q h = path_ties p q ∙ ap is_eq h
+pub at_place : (es : List Entry) (slots : List Slot) → AreAscending es
+    → length slots ≡ length es → (i : ℕ) (e : Entry) → IsPlace es i e
+    → slot_of es slots e ≡ slot_at slots i
+at_place [] slots up long i e is = absurd (let l = is.0 in omega (arith, l))
+at_place (f ∷ fs) [] up long i e is = absurd (omega (arith, long))
+at_place (f ∷ fs) (s ∷ ss) up long zero e is =
+    ap (λ b. cond b s (slot_of fs ss e)) (ap (entry_eq f) (sym is.1) ∙ same_entry f)
+at_place (f ∷ fs) (s ∷ ss) up long (suc i) e is =
+    let low : i < length fs = (let l = is.0 in omega (arith, l)) in
+    ap (λ b. cond b s (slot_of fs ss e))
+    (ap (entry_eq f) (sym is.1) ∙ less_apart f (entry_at fs i) (above_at f fs up.0 i low))
+    ∙ at_place fs ss up.1 (omega (arith, long)) i e (low, is.1)
 
-module _ (rights : List Rights) where
-  pub at_place : (paths : List Path) (slots : List Slot) → AreAscending paths
-      → length slots ≡ length paths → (i : ℕ) (p : Path) → IsPlace paths i p
-      → slot_entry rights paths slots p ≡ entry_of rights (slot_at slots i)
-  at_place [] slots up long i p is = absurd (let l = is.0 in omega (arith, l))
-  at_place (q ∷ qs) [] up long i p is = absurd (omega (arith, long))
-  at_place (q ∷ qs) (s ∷ ss) up long zero p is =
-      ap (λ b. cond b (entry_of rights s) (slot_entry rights qs ss p))
-      (ap (path_eq q) (sym is.1) ∙ same_path q)
-  at_place (q ∷ qs) (s ∷ ss) up long (suc i) p is =
-      let low : i < length qs = (let l = is.0 in omega (arith, l)) in
-      ap (λ b. cond b (entry_of rights s) (slot_entry rights qs ss p))
-      (ap (path_eq q) (sym is.1) ∙ less_apart q (path_at qs i) (above_at q qs up.0 i low))
-      ∙ at_place qs ss up.1 (omega (arith, long)) i p (low, is.1)
+with_slot : (es : List Entry) (slots : List Slot) → AreAscending es
+    → length slots ≡ length es → (i : ℕ) (e : Entry) → IsPlace es i e → (s : Slot) (q : Entry)
+    → slot_of es (slice_set slots i s) q ≡ cond (entry_eq e q) s (slot_of es slots q)
+with_slot [] slots up long i e is s q = absurd (let l = is.0 in omega (arith, l))
+with_slot (f ∷ fs) [] up long i e is s q = absurd (omega (arith, long))
+with_slot (f ∷ fs) (t ∷ ts) up long zero e is s q =
+    shadowed (entry_eq e q) (entry_eq f q) _ _ _ (ap (λ w. entry_eq w q) (sym is.1))
+  where
+    shadowed : {A : Type 0} (a b : Bool) (x y z : A) → a ≡ b → cond b x z ≡ cond a x (cond b y z)
+    shadowed true true x y z h = refl
+    shadowed true false x y z h = absurd (false≢true (sym h))
+    shadowed false true x y z h = absurd (false≢true h)
+    shadowed false false x y z h = refl
+with_slot (f ∷ fs) (t ∷ ts) up long (suc i) e is s q =
+    let low : i < length fs = (let l = is.0 in omega (arith, l)) in
+    let rest = with_slot fs ts up.1 (omega (arith, long)) i e (low, is.1) s q in
+    ⊎_elim
+    (λ (one : (entry_eq f q ≡ true) × (f ≡ q)).
+    let other : entry_eq e q ≡ false =
+    apart_of e f q (ap (entry_cmp f) (sym is.1) ∙ above_at f fs up.0 i low) one.1 in
+    rw (one.0, other) refl)
+    (λ (two : (entry_eq f q ≡ false) × (f ≢ q)). rw two.0 rest)
+    (entry_cases f q)
+  where
+    apart_of : (e f q : Entry) → entry_cmp f e ≡ Less → f ≡ q → entry_eq e q ≡ false
+    apart_of e f q less same = ⊎_elim
+        (λ (one : (entry_eq e q ≡ true) × (e ≡ q)). absurd
+        (false≢true
+        (sym (less_apart f e less) ∙ ap (entry_eq f) (one.1 ∙ sym same) ∙ same_entry f)))
+        (λ (two : (entry_eq e q ≡ false) × (e ≢ q)). two.0)
+        (entry_cases e q)
 
-  with_slot : (paths : List Path) (slots : List Slot) → AreAscending paths
-      → length slots ≡ length paths → (i : ℕ) (p : Path) → IsPlace paths i p → (s : Slot) (q : Path)
-      → slot_entry rights paths (slice_set slots i s) q
-      ≡ cond (path_eq p q) (entry_of rights s) (slot_entry rights paths slots q)
-  with_slot [] slots up long i p is s q = absurd (let l = is.0 in omega (arith, l))
-  with_slot (r ∷ rs) [] up long i p is s q = absurd (omega (arith, long))
-  with_slot (r ∷ rs) (t ∷ ts) up long zero p is s q =
-      shadowed (path_eq p q) (path_eq r q) _ _ _ (ap (λ w. path_eq w q) (sym is.1))
-    where
-      shadowed : {A : Type 0} (a b : Bool) (x y z : A) → a ≡ b → cond b x z ≡ cond a x (cond b y z)
-      shadowed true true x y z e = refl
-      shadowed true false x y z e = absurd (false≢true (sym e))
-      shadowed false true x y z e = absurd (false≢true e)
-      shadowed false false x y z e = refl
-  with_slot (r ∷ rs) (t ∷ ts) up long (suc i) p is s q =
-      let low : i < length rs = (let l = is.0 in omega (arith, l)) in
-      let rest = with_slot rs ts up.1 (omega (arith, long)) i p (low, is.1) s q in
-      ⊎_elim
-      (λ (one : (path_eq r q ≡ true) × (r ≡ q)).
-      let other : path_eq p q ≡ false =
-      apart_of p r q (ap (path_cmp r) (sym is.1) ∙ above_at r rs up.0 i low) one.1 in
-      rw (one.0, other) refl)
-      (λ (two : (path_eq r q ≡ false) × (r ≢ q)). rw two.0 rest)
-      (same_cases r q)
-    where
-      apart_of : (p r q : Path) → path_cmp r p ≡ Less → r ≡ q → path_eq p q ≡ false
-      apart_of p r q less e = ⊎_elim
-          (λ (one : (path_eq p q ≡ true) × (p ≡ q)). absurd
-          (false≢true
-          (sym (less_apart r p less) ∙ ap (path_eq r) (one.1 ∙ sym e) ∙ same_path r)))
-          (λ (two : (path_eq p q ≡ false) × (p ≢ q)). two.0)
-          (same_cases p q)
+-- ---- one step
 
-  -- ---- one step
+pub get_inserted : (t : Table) (e q : Entry) (node : Node)
+    → get (insert t e node) q ≡ cond (entry_eq e q) (Some node) (get t q)
+get_inserted t e q node =
+    get-insert entry_total t e node q ∙ ap (λ b. cond b (Some node) (get t q)) (turned e q)
 
-  turned : (p q : Path) → eq_by_cmp path_cmp q p ≡ path_eq p q
-  turned p q = ⊎_elim
-      (λ (one : (path_eq p q ≡ true) × (p ≡ q)). sym (path_ties q p) ∙ ap (path_eq q) one.1 ∙
-      same_path q ∙ sym one.0)
-      (λ (two : (path_eq p q ≡ false) × (p ≢ q)). ⊎_elim
-      (λ (same : (path_eq q p ≡ true) × (q ≡ p)). absurd (two.1 (sym same.1)))
-      (λ (other : (path_eq q p ≡ false) × (q ≢ p)). sym (path_ties q p) ∙ other.0 ∙ sym two.0)
-      (same_cases q p))
-      (same_cases p q)
+get_removed : (t : Table) (e q : Entry) → get (remove t e) q ≡ cond (entry_eq e q) None (get t q)
+get_removed t e q = get-remove entry_total t e q ∙ ap (λ b. cond b None (get t q)) (turned e q)
 
-  pub get_inserted : (m : Entries) (p q : Path) (e : Entry)
-      → get (insert m p e) q ≡ cond (path_eq p q) (Some e) (get m q)
-  get_inserted m p q e =
-      get-insert path_total m p e q ∙ ap (λ b. cond b (Some e) (get m q)) (turned p q)
+module _ (es : List Entry) (up : AreAscending es) (slots : List Slot)
+    (long : length slots ≡ length es) (t : Table) (mirror : Mirror es slots t) where
+  pub set_mirror : (i : ℕ) (e : Entry) → IsPlace es i e → (s : Slot) (u : Table)
+      → ((q : Entry) → get u q ≡ cond (entry_eq e q) s (get t q)) → Mirror es (slice_set slots i s) u
+  set_mirror i e is s u h q =
+      h q ∙ ap (cond (entry_eq e q) s) (mirror q) ∙ sym (with_slot es slots up long i e is s q)
 
-  get_removed : (m : Entries) (p q : Path) → get (remove m p) q ≡ cond (path_eq p q) None (get m q)
-  get_removed m p q = get-remove path_total m p q ∙ ap (λ b. cond b None (get m q)) (turned p q)
+  move_mirror : (i j : ℕ) (a b : Entry) → IsPlace es i a → IsPlace es j b → (s : Slot)
+      → slot_at slots i ≡ s
+      → Mirror es (moved_slot i j slots s)
+      (option_map_or (λ held. insert (remove t a) b held) (get t a) t)
+  move_mirror i j a b from to None is q =
+      let none : get t a ≡ None = mirror a ∙ at_place es slots up long i a from ∙ is in
+      rw none (mirror q)
+  move_mirror i j a b from to (Some node) is q =
+      let some : get t a ≡ Some node = mirror a ∙ at_place es slots up long i a from ∙ is in
+      rw some (
+      get_inserted (remove t a) b q node
+      ∙ ap (cond (entry_eq b q) (Some node))
+      (get_removed t a q ∙ ap (cond (entry_eq a q) None) (mirror q) ∙ sym
+      (with_slot es slots up long i a from None q))
+      ∙ sym (with_slot es (slice_set slots i None) up (length-set slots i None ∙ long) j b to
+      (Some node) q))
 
-  module _ (paths : List Path) (up : AreAscending paths) (slots : List Slot)
-      (long : length slots ≡ length paths) (m : Entries)
-      (mirror : Mirror rights paths slots m) where
-    pub set_mirror : (i : ℕ) (p : Path) → IsPlace paths i p → (s : Slot) (n : Entries)
-        → ((q : Path) → get n q ≡ cond (path_eq p q) (entry_of rights s) (get m q))
-        → Mirror rights paths (slice_set slots i s) n
-    set_mirror i p is s n h q =
-        h q ∙ ap (cond (path_eq p q) (entry_of rights s)) (mirror q) ∙ sym
-        (with_slot paths slots up long i p is s q)
+  step_mirror : (o : MicroOp) (s : Step) → IsStep es o s
+      → Mirror es (slots_after slots s) (entries_after t o)
+  step_mirror (CreateDirEntry e node rights bytes) (Set i s) h =
+      set_mirror i (entry_of e) h.0 s (insert t (entry_of e) node)
+      (λ q. get_inserted t (entry_of e) q node
+      ∙ ap (λ w. cond (entry_eq (entry_of e) q) w (get t q)) (sym h.1))
+  step_mirror (DeleteDirEntry e node) (Set i s) h =
+      set_mirror i (entry_of e) h.0 s (remove t (entry_of e))
+      (λ q. get_removed t (entry_of e) q
+      ∙ ap (λ w. cond (entry_eq (entry_of e) q) w (get t q)) (sym h.1))
+  step_mirror (MoveDirEntry a b node old) (Move i j) h =
+      move_mirror i j (entry_of a) (entry_of b) h.0 h.1 (slot_at slots i) refl
+  step_mirror (LinkDirEntry e kind file old half) (Set i s) h =
+      set_mirror i (entry_of e) h.0 s (insert t (entry_of e) (File kind file))
+      (λ q. get_inserted t (entry_of e) q (File kind file)
+      ∙ ap (λ w. cond (entry_eq (entry_of e) q) w (get t q)) (sym h.1))
+  step_mirror (ChangeFileSize file to) Other h = mirror
+  step_mirror (WriteBlock file block start at bytes) Other h = mirror
+  step_mirror (SetAttr target rights) Other h = mirror
+  step_mirror Say Other h = mirror
+  step_mirror o s h = absurd h
 
-    move_mirror : (i j : ℕ) (p q : Path) → IsPlace paths i p → IsPlace paths j q → (s : Slot)
-        → slot_at slots i ≡ s
-        → Mirror rights paths (moved_slot i j slots s) (with_entry_moved p q m)
-    move_mirror i j p q from to Nothing is r =
-        let none : get m p ≡ None =
-        mirror p ∙ at_place paths slots up long i p from ∙ ap (entry_of rights) is in
-        rw none (mirror r)
-    move_mirror i j p q from to (Directory k) is r =
-        let some : get m p ≡ Some (states.Directory (rights_at rights k)) =
-        mirror p ∙ at_place paths slots up long i p from ∙ ap (entry_of rights) is in
-        rw some (
-        get_inserted (remove m p) q r (states.Directory (rights_at rights k))
-        ∙ ap (cond (path_eq q r) (Some (states.Directory (rights_at rights k))))
-        (get_removed m p r ∙ ap (cond (path_eq p r) None) (mirror r) ∙ sym
-        (with_slot paths slots up long i p from Nothing r))
-        ∙ sym (with_slot paths (slice_set slots i Nothing) up (length-set slots i Nothing ∙ long) j
-        q to (Directory k) r))
-    move_mirror i j p q from to (File k) is r =
-        let some : get m p ≡ Some (states.File k) =
-        mirror p ∙ at_place paths slots up long i p from ∙ ap (entry_of rights) is in
-        rw some (
-        get_inserted (remove m p) q r (states.File k)
-        ∙ ap (cond (path_eq q r) (Some (states.File k)))
-        (get_removed m p r ∙ ap (cond (path_eq p r) None) (mirror r) ∙ sym
-        (with_slot paths slots up long i p from Nothing r))
-        ∙ sym (with_slot paths (slice_set slots i Nothing) up (length-set slots i Nothing ∙ long) j
-        q to (File k) r))
+pub length_after : (slots : List Slot) (s : Step) → length (slots_after slots s) ≡ length slots
+length_after slots (Set i s) = length-set slots i s
+length_after slots (Move i j) = of_move (slot_at slots i)
+  where
+    of_move : (s : Slot) → length (moved_slot i j slots s) ≡ length slots
+    of_move None = refl
+    of_move (Some node) = length-set (slice_set slots i None) j (Some node) ∙ length-set slots i None
+length_after slots Other = refl
 
-    own_mirror : (i k : ℕ) (p : Path) (r : Rights) → IsPlace paths i p → rights_at rights k ≡ r
-        → (s : Slot) → slot_at slots i ≡ s
-        → Mirror rights paths (owned_slot i k slots s) (with_rights_at m p r (get m p))
-    own_mirror i k p r place same Nothing is q =
-        let none : get m p ≡ None =
-        mirror p ∙ at_place paths slots up long i p place ∙ ap (entry_of rights) is in
-        ap (λ e. get (with_rights_at m p r e) q) none ∙ mirror q
-    own_mirror i k p r place same (File n) is q =
-        let file : get m p ≡ Some (states.File n) =
-        mirror p ∙ at_place paths slots up long i p place ∙ ap (entry_of rights) is in
-        ap (λ e. get (with_rights_at m p r e) q) file ∙ mirror q
-    own_mirror i k p r place same (Directory old) is q =
-        let there : get m p ≡ Some (states.Directory (rights_at rights old)) =
-        mirror p ∙ at_place paths slots up long i p place ∙ ap (entry_of rights) is in
-        ap (λ e. get (with_rights_at m p r e) q) there
-        ∙ set_mirror i p place (Directory k) (insert m p (states.Directory r))
-        (λ w. get_inserted m p w (states.Directory r) ∙ ap
-        (λ o. cond (path_eq p w) (Some (states.Directory o)) (get m w)) (sym same)) q
+-- ---- the steps of a set
 
-    step_mirror : (o : MicroOp) (s : Step) → IsStep rights paths o s
-        → Mirror rights paths (slots_after slots s) (entries_after m o)
-    step_mirror (CreateDirEntry p nodes.Directory r) (Set i (Directory k)) h =
-        set_mirror i p h.0 (Directory k) (insert m p (states.Directory r))
-        (λ q. get_inserted m p q (states.Directory r) ∙ ap
-        (λ w. cond (path_eq p q) (Some (states.Directory w)) (get m q)) (sym h.1))
-    step_mirror (CreateDirEntry p (nodes.File n) r) (Set i (File k)) h =
-        set_mirror i p h.0 (File k) (insert m p (states.File n))
-        (λ q. get_inserted m p q (states.File n) ∙ ap
-        (λ w. cond (path_eq p q) (Some (states.File w)) (get m q)) (sym h.1))
-    step_mirror (DeleteDirEntry p kind) (Set i Nothing) h =
-        set_mirror i p h Nothing (remove m p) (λ q. get_removed m p q)
-    step_mirror (MoveDirEntry p q) (Move i j) h = move_mirror i j p q h.0 h.1 (slot_at slots i) refl
-    step_mirror (LinkDirEntry p n) (Set i (File k)) h =
-        set_mirror i p h.0 (File k) (insert m p (states.File n))
-        (λ q. get_inserted m p q (states.File n) ∙ ap
-        (λ w. cond (path_eq p q) (Some (states.File w)) (get m q)) (sym h.1))
-    step_mirror (ChangeFileSize n size) Other h = mirror
-    step_mirror (WriteBlock n block start at bytes) Other h = mirror
-    step_mirror (SetAttr (targets.Directory p) r) (SetRights i k) h =
-        own_mirror i k p r h.0 h.1 (slot_at slots i) refl
-    step_mirror (SetAttr (targets.File n) r) Other h = mirror
-    step_mirror Say Other h = mirror
-    step_mirror o s h = absurd h
+pub step_is : (es : List Entry) (ops : List MicroOp) (steps : List Step)
+    → AreSteps es ops steps → (k : ℕ) → IsStep es (op_at ops k) (step_at steps k)
+step_is es [] [] h zero = tt
+step_is es [] [] h (suc k) = tt
+step_is es [] (s ∷ steps) h k = absurd h
+step_is es (o ∷ ops) [] h k = absurd h
+step_is es (o ∷ ops) (s ∷ steps) h zero = h.0
+step_is es (o ∷ ops) (s ∷ steps) h (suc k) = step_is es ops steps h.1 k
 
-  pub length_after : (slots : List Slot) (s : Step) → length (slots_after slots s) ≡ length slots
-  length_after slots (Set i s) = length-set slots i s
-  length_after slots (Move i j) = of_move (slot_at slots i)
-    where
-      of_move : (s : Slot) → length (moved_slot i j slots s) ≡ length slots
-      of_move Nothing = refl
-      of_move (Directory k) =
-          length-set (slice_set slots i Nothing) j (Directory k) ∙ length-set slots i Nothing
-      of_move (File k) =
-          length-set (slice_set slots i Nothing) j (File k) ∙ length-set slots i Nothing
-  length_after slots (SetRights i k) = of_own (slot_at slots i)
-    where
-      of_own : (s : Slot) → length (owned_slot i k slots s) ≡ length slots
-      of_own Nothing = refl
-      of_own (Directory old) = length-set slots i (Directory k)
-      of_own (File n) = refl
-  length_after slots Other = refl
+pub fold_mirror : (es : List Entry) (up : AreAscending es) (ops : List MicroOp)
+    (steps : List Step) → AreSteps es ops steps
+    → (places : List ℕ) (slots : List Slot) (long : length slots ≡ length es) (t : Table)
+    → Mirror es slots t
+    → Mirror es (fold slots_after slots (map (step_at steps) places))
+    (fold entries_after t (map (op_at ops) places))
+fold_mirror es up ops steps h [] slots long t mirror = mirror
+fold_mirror es up ops steps h (k ∷ places) slots long t mirror =
+    fold_mirror es up ops steps h places (slots_after slots (step_at steps k))
+    (length_after slots (step_at steps k) ∙ long) (entries_after t (op_at ops k))
+    (step_mirror es up slots long t mirror (op_at ops k) (step_at steps k)
+    (step_is es ops steps h k))
 
-  -- ---- the steps of a set
+-- ---- the listing
 
-  pub step_is : (paths : List Path) (ops : List MicroOp) (steps : List Step)
-      → AreSteps rights paths ops steps → (k : ℕ)
-      → IsStep rights paths (op_at ops k) (step_at steps k)
-  step_is paths [] [] h zero = tt
-  step_is paths [] [] h (suc k) = tt
-  step_is paths [] (s ∷ steps) h k = absurd h
-  step_is paths (o ∷ ops) [] h k = absurd h
-  step_is paths (o ∷ ops) (s ∷ steps) h zero = h.0
-  step_is paths (o ∷ ops) (s ∷ steps) h (suc k) = step_is paths ops steps h.1 k
+below_held : (e : Entry) (es : List Entry) (slots : List Slot) → AreAboveBy entry_cmp e es
+    → T (below_all entry_cmp e (held_in_slots es slots))
+below_held e [] slots h = tt
+below_held e (f ∷ fs) [] h = tt
+below_held e (f ∷ fs) (None ∷ ss) h = below_held e fs ss h.1
+below_held e (f ∷ fs) (Some node ∷ ss) h =
+    both_true (is_lt (entry_cmp e f)) (below_all entry_cmp e (held_in_slots fs ss))
+    (subst (λ o. T (is_lt o)) (sym h.0) tt) (below_held e fs ss h.1)
 
-  pub fold_mirror : (paths : List Path) (up : AreAscending paths) (ops : List MicroOp)
-      (steps : List Step) → AreSteps rights paths ops steps
-      → (places : List ℕ) (slots : List Slot) (long : length slots ≡ length paths) (m : Entries)
-      → Mirror rights paths slots m
-      → Mirror rights paths (fold slots_after slots (map (step_at steps) places))
-      (fold entries_after m (map (op_at ops) places))
-  fold_mirror paths up ops steps h [] slots long m mirror = mirror
-  fold_mirror paths up ops steps h (k ∷ places) slots long m mirror =
-      fold_mirror paths up ops steps h places (slots_after slots (step_at steps k))
-      (length_after slots (step_at steps k) ∙ long) (entries_after m (op_at ops k))
-      (step_mirror paths up slots long m mirror (op_at ops k) (step_at steps k)
-      (step_is paths ops steps h k))
+held_sorted : (es : List Entry) (slots : List Slot) → AreAscending es
+    → T (is_sorted entry_cmp (held_in_slots es slots))
+held_sorted [] slots up = tt
+held_sorted (f ∷ fs) [] up = tt
+held_sorted (f ∷ fs) (None ∷ ss) up = held_sorted fs ss up.1
+held_sorted (f ∷ fs) (Some node ∷ ss) up =
+    both_true (below_all entry_cmp f (held_in_slots fs ss))
+    (is_sorted entry_cmp (held_in_slots fs ss)) (below_held f fs ss up.0) (held_sorted fs ss up.1)
 
-  -- ---- the listing
+pub entries-held : (es : List Entry) (slots : List Slot) → AreAscending es
+    → entries (table_of_slots es slots) ≡ held_in_slots es slots
+unfolding table_of_slots
+entries-held es slots up =
+    entries-from_sorted entry_cmp (held_in_slots es slots) (held_sorted es slots up)
 
-  below_present : (p : Path) (paths : List Path) (slots : List Slot) → AreAbove p paths
-      → T (below_all path_cmp p (entries_in_slots rights paths slots))
-  below_present p [] slots h = tt
-  below_present p (q ∷ qs) [] h = tt
-  below_present p (q ∷ qs) (Nothing ∷ ss) h = below_present p qs ss h.1
-  below_present p (q ∷ qs) (Directory k ∷ ss) h =
-      both_true (is_lt (path_cmp p q)) (below_all path_cmp p (entries_in_slots rights qs ss))
-      (subst (λ o. T (is_lt o)) (sym h.0) tt) (below_present p qs ss h.1)
-  below_present p (q ∷ qs) (File k ∷ ss) h =
-      both_true (is_lt (path_cmp p q)) (below_all path_cmp p (entries_in_slots rights qs ss))
-      (subst (λ o. T (is_lt o)) (sym h.0) tt) (below_present p qs ss h.1)
+no_find : (q e : Entry) (es : List Entry) (slots : List Slot) → AreAboveBy entry_cmp e es → q ≡ e
+    → slot_of es slots q ≡ None
+no_find q e [] slots h is = refl
+no_find q e (f ∷ fs) [] h is = refl
+no_find q e (f ∷ fs) (s ∷ ss) h is =
+    ap (λ b. cond b s (slot_of fs ss q)) (other f h.0) ∙ no_find q e fs ss h.1 is
+  where
+    other : (f : Entry) → entry_cmp e f ≡ Less → entry_eq f q ≡ false
+    other f less = ⊎_elim
+        (λ (one : (entry_eq f q ≡ true) × (f ≡ q)). absurd
+        (false≢true (sym (less_apart e f less) ∙ ap (entry_eq e) (one.1 ∙ is) ∙ same_entry e)))
+        (λ (two : (entry_eq f q ≡ false) × (f ≢ q)). two.0)
+        (entry_cases f q)
 
-  present_sorted : (paths : List Path) (slots : List Slot) → AreAscending paths
-      → T (is_sorted path_cmp (entries_in_slots rights paths slots))
-  present_sorted [] slots up = tt
-  present_sorted (q ∷ qs) [] up = tt
-  present_sorted (q ∷ qs) (Nothing ∷ ss) up = present_sorted qs ss up.1
-  present_sorted (q ∷ qs) (Directory k ∷ ss) up =
-      both_true (below_all path_cmp q (entries_in_slots rights qs ss))
-      (is_sorted path_cmp (entries_in_slots rights qs ss)) (below_present q qs ss up.0)
-      (present_sorted qs ss up.1)
-  present_sorted (q ∷ qs) (File k ∷ ss) up =
-      both_true (below_all path_cmp q (entries_in_slots rights qs ss))
-      (is_sorted path_cmp (entries_in_slots rights qs ss)) (below_present q qs ss up.0)
-      (present_sorted qs ss up.1)
+find_held : (es : List Entry) (slots : List Slot) → AreAscending es → (q : Entry)
+    → find entry_cmp q (held_in_slots es slots) ≡ slot_of es slots q
+find_held [] slots up q = refl
+find_held (f ∷ fs) [] up q = refl
+find_held (f ∷ fs) (None ∷ ss) up q = find_held fs ss up.1 q ∙ ⊎_elim
+    (λ (one : (entry_eq f q ≡ true) × (f ≡ q)).
+    no_find q f fs ss up.0 (sym one.1) ∙ sym (ap (λ b. cond b None (slot_of fs ss q)) one.0))
+    (λ (two : (entry_eq f q ≡ false) × (f ≢ q)).
+    sym (ap (λ b. cond b None (slot_of fs ss q)) two.0))
+    (entry_cases f q)
+find_held (f ∷ fs) (Some node ∷ ss) up q =
+    λ i. cond (turned f q i) (Some node) (find_held fs ss up.1 q i)
 
-  none_present : (p : Path) (paths : List Path) (slots : List Slot) → AreAbove p paths
-      → slot_entry rights paths slots p ≡ None
-  none_present p [] slots h = refl
-  none_present p (q ∷ qs) [] h = refl
-  none_present p (q ∷ qs) (s ∷ ss) h = ⊎_elim
-      (λ (one : (path_eq q p ≡ true) × (q ≡ p)). absurd
-      (false≢true (sym (less_apart p q h.0) ∙ ap (path_eq p) one.1 ∙ same_path p)))
-      (λ (two : (path_eq q p ≡ false) × (q ≢ p)). rw two.0 (none_present p qs ss h.1))
-      (same_cases q p)
-
-  find_present : (paths : List Path) (slots : List Slot) → AreAscending paths → (p : Path)
-      → find path_cmp p (entries_in_slots rights paths slots) ≡ slot_entry rights paths slots p
-  find_present [] slots up p = refl
-  find_present (q ∷ qs) [] up p = refl
-  find_present (q ∷ qs) (Nothing ∷ ss) up p = ⊎_elim
-      (λ (one : (path_eq q p ≡ true) × (q ≡ p)). rw one.0
-      (find_present qs ss up.1 p ∙ none_present p qs ss
-      (subst (λ w. AreAbove w qs) one.1 up.0)))
-      (λ (two : (path_eq q p ≡ false) × (q ≢ p)). rw two.0 (find_present qs ss up.1 p))
-      (same_cases q p)
-  find_present (q ∷ qs) (Directory k ∷ ss) up p =
-      (λ i. cond (turned q p i) (Some (states.Directory (rights_at rights k)))
-      (find_present qs ss up.1 p i))
-  find_present (q ∷ qs) (File k ∷ ss) up p =
-      (λ i. cond (turned q p i) (Some (states.File k)) (find_present qs ss up.1 p i))
-
-  pub entries-mirrored : (paths : List Path) (slots : List Slot) → AreAscending paths
-      → entries (entries_of_slots rights paths slots) ≡ entries_in_slots rights paths slots
-  unfolding entries_of_slots
-  entries-mirrored paths slots up =
-      entries-from_sorted path_cmp (entries_in_slots rights paths slots)
-      (present_sorted paths slots up)
-
-  -- the map that the slots mirror is that of what they have
-  pub mirror_is : (paths : List Path) (slots : List Slot) → AreAscending paths → (m : Entries)
-      → Mirror rights paths slots m → m ≡ entries_of_slots rights paths slots
-  unfolding entries_of_slots
-  mirror_is paths slots up m mirror =
-      same_map path_total path_exact m (from_sorted (entries_in_slots rights paths slots))
-      (λ p. mirror p ∙ sym
-      (get-from_sorted path_cmp (entries_in_slots rights paths slots) p
-      (present_sorted paths slots up) ∙ find_present paths slots up p))
-
-  pub mirror_of : (paths : List Path) (slots : List Slot) → AreAscending paths
-      → Mirror rights paths slots (entries_of_slots rights paths slots)
-  unfolding entries_of_slots
-  mirror_of paths slots up p =
-      get-from_sorted path_cmp (entries_in_slots rights paths slots) p
-      (present_sorted paths slots up) ∙ find_present paths slots up p
+-- the table of the slots is the one that they mirror
+pub mirrored : (es : List Entry) (slots : List Slot) (t : Table) → AreAscending es
+    → Mirror es slots t → t ≡ table_of_slots es slots
+unfolding table_of_slots
+mirrored es slots t up mirror = same_map entry_total entry_exact _ _ (λ q.
+    mirror q ∙ sym (find_held es slots up q) ∙ sym
+    (get-from_sorted entry_cmp (held_in_slots es slots) q (held_sorted es slots up)))

@@ -1,29 +1,42 @@
 -- The bytes of legal micro-operations lie within the largest file.
-use Rattle.std.proofs.Common.{ℕ, List, [], ◌∷◌}
+use Rattle.std.proofs.Common.{◌≤◌, Bool, true, false, List, [], ◌∷◌, arith}
 use Rattle.std.proofs.lemmas.List.Elements.{All-cons, All-nil}
 use Rattle.std.specs.List.{All}
-use Rattle.cs_trace.specs.Operations.{Paths}
+use Rattle.std.specs.Prelude.{if◌then◌else◌}
+use Rattle.cs_names.specs.declared.limits.TheConstants.{FILE_BYTES}
+use Rattle.cs_trace_lines.specs.Versions.{is_fourth}
+use Rattle.cs_trace_lines.specs.declared.version.Version.{Version}
+use Rattle.cs_trace.specs.Limits.{most_bytes}
+use Rattle.cs_trace.specs.declared.limits.TheConstants.{LARGE_FILE_BYTES}
 use Rattle.cs_micro.specs.declared.micro_op.MicroOp.{MicroOp}
 use Rattle.cs_micro.specs.declared.micro_op.MicroOp.TheVariants.{CreateDirEntry, DeleteDirEntry}
 use Rattle.cs_micro.specs.declared.micro_op.MicroOp.TheVariants.{MoveDirEntry, LinkDirEntry}
 use Rattle.cs_micro.specs.declared.micro_op.MicroOp.TheVariants.{ChangeFileSize, WriteBlock}
 use Rattle.cs_micro.specs.declared.micro_op.MicroOp.TheVariants.{SetAttr, Say}
-use Rattle.cs_micro.specs.Legal.{AreLegal, IsLegal, made_after, paths_after}
+use Rattle.cs_micro.specs.Legal.{AreLegal, IsLegal, Made, made_after}
 use Rattle.cs_apm.specs.Contents.{IsSmall}
 
-one_small : (size : ℕ) (m : Paths) (made : ℕ) (o : MicroOp) → IsLegal size m made o → IsSmall o
-one_small size m made (CreateDirEntry p node rights) h = tt
-one_small size m made (DeleteDirEntry p kind) h = tt
-one_small size m made (MoveDirEntry p q) h = tt
-one_small size m made (LinkDirEntry p file) h = tt
-one_small size m made (ChangeFileSize file to) h = tt
-one_small size m made (WriteBlock file block start at bytes) h = h.4
-one_small size m made (SetAttr target rights) h = tt
-one_small size m made Say h = tt
+pub most_large : (version : Version) → most_bytes version ≤ LARGE_FILE_BYTES
+most_large version = by (is_fourth version)
+  where
+    by : (fourth : Bool) → (if fourth then LARGE_FILE_BYTES else FILE_BYTES) ≤ LARGE_FILE_BYTES
+    by true = omega arith
+    by false = omega arith
 
-pub small_steps : (size : ℕ) (m : Paths) (made : ℕ) (ops : List MicroOp) → AreLegal size m made ops
+one_small : (version : Version) (m : Made) (o : MicroOp) → IsLegal version m o → IsSmall o
+one_small version m (CreateDirEntry e node rights bytes) h = tt
+one_small version m (DeleteDirEntry e node) h = tt
+one_small version m (MoveDirEntry a b node old) h = tt
+one_small version m (LinkDirEntry e kind file old half) h = tt
+one_small version m (ChangeFileSize file to) h = tt
+one_small version m (WriteBlock file block start at bytes) h =
+    let low = h.fitting.4 in let most = most_large version in omega (arith, low, most)
+one_small version m (SetAttr target rights) h = tt
+one_small version m Say h = tt
+
+pub small_steps : (version : Version) (m : Made) (ops : List MicroOp) → AreLegal version m ops
     → All IsSmall ops
-small_steps size m made [] h = All-nil IsSmall
-small_steps size m made (o ∷ ops) h =
-    All-cons IsSmall o ops (one_small size m made o h.0)
-    (small_steps size (paths_after m o) (made_after made o) ops h.1)
+small_steps version m [] h = All-nil IsSmall
+small_steps version m (o ∷ ops) h =
+    All-cons IsSmall o ops (one_small version m o h.0)
+    (small_steps version (made_after m o) ops h.1)

@@ -1,58 +1,56 @@
--- The entries at a trace's start are at the paths of its nodes; and the state of each allowed set
--- is a tree.
-use Rattle.std.proofs.Common.{◌≡◌, ℕ, cond, List, [], ◌∷◌, Some, refl, sym, ap, ◌∙◌, subst, map}
-use Rattle.std.proofs.Common.{length}
-use Rattle.std.specs.FinMap.{find, get-from_entries, same_map}
-use Rattle.std.specs.List.{zip}
-use Rattle.std.specs.Option.{option_map}
-use Rattle.std.specs.Ordering.{eq_by_cmp}
-use Rattle.cs_tree_model.specs.declared.record.Record.{Record}
-use Rattle.cs_tree_model.specs.Laws.Paths.{path_exact, path_total}
-use Rattle.cs_tree_model.specs.Tree.{IsTree, Path, path_cmp}
-use Rattle.cs_trace.specs.declared.operation.Node.{Node}
-use Rattle.cs_trace.specs.Operations.{AreNested}
-use Rattle.cs_trace.specs.Traces.{Trace, paths_of_records, start_paths}
-use Rattle.cs_micro.specs.Micros.{Micros}
-use Rattle.cs_micro.specs.Legal.{AreLegal}
-use Rattle.cs_apm.specs.Orders.{needs_of}
-use Rattle.cs_apm.specs.Sets.{IsAllowed}
-use Rattle.cs_apm.specs.States.{crash_state_of, rights_of, start_entries, start_entry, start_state}
-use Rattle.cs_apm.specs.Laws.Trees.{chosen, get_nodes, node_made, node_of, nodes_in, state_is_tree}
+-- The crash states of a trace are trees.
+use Rattle.std.proofs.Common.{◌≡◌, ◌+◌, List, length, map, ap, length-append, refl, subst, sym, ◌∙◌, ℕ}
+use Rattle.std.proofs.lemmas.List.FromFn.{length-map-range_with_len}
+use Rattle.cs_entries.specs.Legal.{IsTree as IsEntryTree}
+use Rattle.cs_entries.specs.Tables.{held_in}
+use Rattle.cs_tree_model.specs.Fresh.{IsNested}
+use Rattle.cs_tree_model.specs.Tree.{IsTree}
+use Rattle.cs_trace.specs.Traces.{Trace, directory_count, start_table}
+use Rattle.cs_trace_lines.specs.declared.profile.Profile.{Profile}
+use Rattle.cs_micro.specs.Legal.{AreLegal, Made}
+use Rattle.cs_micro.specs.Micros.{AreLegalFromStart, Micros}
+use Rattle.cs_apm.specs.Orders.{needs_by}
+use Rattle.cs_sets.specs.Sets.{IsAllowed}
+use Rattle.cs_apm.specs.States.{State, crash_state_of, directories_made, directories_of}
+use Rattle.cs_apm.specs.States.{directory_owner, records_of, start_state, state_of}
+use Rattle.cs_apm.specs.Laws.Trees.{long_left, nested_records, state_is_tree, state_nodes}
 
-find_start : (q : Path) (records : List (Path × Record)) (nodes : List Node)
-    → option_map node_of
-    (find path_cmp q (map (λ x. (x.0.0, start_entry x.1 x.0.1)) (zip records nodes)))
-    ≡ find path_cmp q (zip (map (λ e. e.0) records) nodes)
-find_start q [] nodes = refl
-find_start q (e ∷ es) [] = refl
-find_start q (e ∷ es) (n ∷ ns) =
-    chosen (eq_by_cmp path_cmp q e.0) (Some (start_entry n e.1))
-    (find path_cmp q (map (λ x. (x.0.0, start_entry x.1 x.0.1)) (zip es ns)))
-    ∙ (λ w. cond (eq_by_cmp path_cmp q e.0) (Some (node_made n (rights_of e.1) w))
-    (find_start q es ns w))
+-- the micro-operations are those of a trace of the same version
+module _ (t : Trace) (m : Micros) (same : m.version ≡ t.version)
+    (tree : IsEntryTree (held_in (start_table t))) (legal : AreLegalFromStart t m)
+    (profile : Profile) (places : List ℕ)
+    (allowed : IsAllowed (needs_by m profile) (length m.ops) places) where
+  abbrev made : Made
+  made = record {
+    entries = start_table t;
+    files = length t.files;
+    homes = legal.homes;
+  }
 
-pub start_nodes : (records : List (Path × Record)) (nodes : List Node)
-    → nodes_in (start_entries records nodes) ≡ paths_of_records records nodes
-start_nodes records nodes =
-    same_map path_total path_exact (nodes_in (start_entries records nodes))
-    (paths_of_records records nodes) (λ q.
-    get_nodes (start_entries records nodes) q
-    ∙ ap (option_map node_of)
-    (get-from_entries path_total (map (λ x. (x.0.0, start_entry x.1 x.0.1)) (zip records nodes))
-    q)
-    ∙ find_start q records nodes
-    ∙ sym (get-from_entries path_total (zip (map (λ e. e.0) records) nodes) q))
+  abbrev left : State
+  left = state_of (start_state t) m.ops places
 
-module _ (t : Trace) (m : Micros) (nested : AreNested (start_paths t)) (size made : ℕ)
-    (legal : AreLegal size (start_paths t) made m.ops) where
-  pub nested_start : AreNested (nodes_in (start_state t).paths)
-  nested_start = subst AreNested (sym (start_nodes t.records t.nodes)) nested
+  as_many : length (start_state t).directories ≡ length legal.homes
+  as_many =
+      length-map-range_with_len (directory_owner t) 0 (directory_count t.nodes) ∙ sym legal.many
 
-  pub legal_start : AreLegal size (nodes_in (start_state t).paths) made m.ops
-  legal_start = subst (λ n. AreLegal size n made m.ops) (sym (start_nodes t.records t.nodes)) legal
+  legal_here : AreLegal m.version made m.ops
+  legal_here = subst (λ v. AreLegal v made m.ops) (sym same) legal.legal
 
-  pub crash_states_are_trees : (places : List ℕ) → IsAllowed (needs_of m) (length m.ops) places
-      → IsTree (crash_state_of t m places)
-  crash_states_are_trees places allowed =
-      state_is_tree (start_state t) m.ops m.syncs m.version places nested_start size made
-      legal_start allowed
+  pub crash_states_are_trees : IsTree (crash_state_of t m places)
+  crash_states_are_trees =
+      state_is_tree (start_state t) made m.ops m.syncs m.version profile places tree refl legal.are
+      as_many legal_here allowed
+
+  pub crash_states_are_nested : IsNested (records_of left)
+  crash_states_are_nested =
+      nested_records left
+      (state_nodes (start_state t) made m.ops m.syncs m.version profile places tree refl legal.are
+      as_many legal_here allowed)
+
+  pub directories_are_left : length left.directories ≡ length (directories_of t m.ops)
+  directories_are_left =
+      long_left (start_state t) made m.ops m.syncs m.version profile places tree refl legal.are
+      as_many legal_here allowed
+      ∙ ap (λ k. k + length (directories_made m.ops)) (sym as_many)
+      ∙ sym (length-append (start_state t).directories (directories_made m.ops))

@@ -1,13 +1,14 @@
 -- The tests of what a sync covers, and of what is between two operations, say what the sentences
 -- say.
-use Rattle.std.proofs.Common.{◌≡◌, ◌⊎◌, inl, inr, ℕ, ◌+◌, ◌-◌, ◌&&◌, ◌==◌, not, true, false, List}
+use Rattle.std.proofs.Common.{◌≡◌, ◌⊎◌, inl, inr, ℕ, ◌+◌, ◌-◌, ◌&&◌, ◌||◌, ◌==◌, not, true, false, List}
 use Rattle.std.proofs.Common.{length, refl, sym, ap, ◌∙◌, arith, ⊎_elim}
 use Rattle.std.proofs.lemmas.Bool.{cases_Bool, false≢true, and_parts, and_from, or_cases, or_left}
 use Rattle.std.proofs.lemmas.Bool.{or_right, eqb-true, eq-eqb, lt-ltb, not-true, leb-true, le-leb}
 use Rattle.std.proofs.lemmas.Bool.{ltb-true}
 use Rattle.std.specs.Prelude.{nat_lt, nat_le}
 use Rattle.std.specs.List.{list_any}
-use Rattle.cs_tree_model.specs.Tree.{Path}
+use Rattle.cs_entries.specs.declared.node.Node.TheVariants.{Directory}
+use Rattle.cs_entries.specs.Rules.{is_latest, makes, places_between}
 use Rattle.cs_trace.specs.declared.operation.Covers.{Covers}
 use Rattle.cs_trace.specs.declared.operation.Covers.TheVariants as covers
 use Rattle.cs_trace.specs.declared.operation.Target.TheVariants as targets
@@ -17,13 +18,13 @@ use Rattle.cs_micro.specs.declared.micro_op.MicroOp.TheVariants.{MoveDirEntry, L
 use Rattle.cs_micro.specs.declared.micro_op.MicroOp.TheVariants.{ChangeFileSize, WriteBlock}
 use Rattle.cs_micro.specs.declared.micro_op.MicroOp.TheVariants.{SetAttr, Say}
 use Rattle.cs_micro.specs.declared.sync_point.SyncPoint.{SyncPoint}
-use Rattle.cs_apm.specs.Rules.{places_between, creates, is_covered, is_latest, is_synced}
-use Rattle.cs_apm.specs.Rules.{lies_within, op_at, sets_directory, touches_entry_of}
-use Rattle.cs_apm.specs.Reasons.{ChangesSize, IsCovered, IsLatestCreate, IsSyncedBetween}
-use Rattle.cs_apm.specs.Reasons.{SetsDirectory, SetsFile, TouchesEntryOf, WritesBlock, WritesWithin}
-use Rattle.cs_apm.specs.Laws.Paths.{any_between, any_found, any_from, none_between, path_from_eq}
-use Rattle.cs_apm.specs.Laws.Paths.{same_path}
-use Rattle.cs_apm.specs.Laws.Pairs.{entry_says, says_entry, creates_says, says_creates}
+use Rattle.cs_apm.specs.Rules.{entry_op_at, is_covered, is_synced, lies_within, op_at}
+use Rattle.cs_apm.specs.Rules.{sets_directory, touches_entry_of}
+use Rattle.cs_apm.specs.Reasons.{ChangesSize, IsCovered, IsLatestMaking, IsSyncedBetween}
+use Rattle.cs_apm.specs.Reasons.{SetsDirectory, SetsFile, TouchesEntryOf, Writes, WritesWithin}
+use Rattle.cs_apm.specs.Laws.Lists.{any_between, any_found, any_from, none_between}
+use Rattle.cs_apm.specs.Laws.Pairs.{directory_says, entry_says, makes_says, says_directory}
+use Rattle.cs_apm.specs.Laws.Pairs.{says_entry, says_makes}
 
 -- ---- a sync
 
@@ -59,14 +60,6 @@ says_within o file offset count w =
     (le-leb offset (w.start + w.at) w.from)
     (le-leb (w.start + w.at + length w.bytes) (offset + count) w.to))
 
-directory_says : (o : MicroOp) (d : Path) → sets_directory o d ≡ true → SetsDirectory o d
-directory_says (SetAttr (targets.Directory p) rights) d h =
-    (rights, ap (λ w. SetAttr (targets.Directory w) rights) (path_from_eq p d h))
-directory_says o d h = absurd (false≢true h)
-
-says_directory : (o : MicroOp) (d : Path) → SetsDirectory o d → sets_directory o d ≡ true
-says_directory o d s = ap (λ w. sets_directory w d) s.1 ∙ same_path d
-
 covered_says : (c : Covers) (o : MicroOp) → is_covered c o ≡ true → IsCovered c o
 covered_says covers.All o h = tt
 covered_says (covers.File file) (WriteBlock other block start at bytes) h =
@@ -78,18 +71,27 @@ covered_says (covers.File file) (ChangeFileSize other size) h =
     inl (inr (size, ap (λ w. ChangeFileSize w size) (sym (eqb-true file other h))))
 covered_says (covers.File file) (SetAttr (targets.File other) rights) h =
     inr (rights, ap (λ w. SetAttr (targets.File w) rights) (sym (eqb-true file other h)))
-covered_says (covers.File file) (SetAttr (targets.Directory q) rights) h = absurd (false≢true h)
-covered_says (covers.File file) (CreateDirEntry q node rights) h = absurd (false≢true h)
-covered_says (covers.File file) (DeleteDirEntry q kind) h = absurd (false≢true h)
-covered_says (covers.File file) (MoveDirEntry q r) h = absurd (false≢true h)
-covered_says (covers.File file) (LinkDirEntry q other) h = absurd (false≢true h)
+covered_says (covers.File file) (SetAttr (targets.Directory d path) rights) h =
+    absurd (false≢true h)
+covered_says (covers.File file) (CreateDirEntry e node rights bytes) h = absurd (false≢true h)
+covered_says (covers.File file) (DeleteDirEntry e node) h = absurd (false≢true h)
+covered_says (covers.File file) (MoveDirEntry a b node old) h = absurd (false≢true h)
+covered_says (covers.File file) (LinkDirEntry e kind other old half) h = absurd (false≢true h)
 covered_says (covers.File file) Say h = absurd (false≢true h)
+covered_says (covers.Data file) (WriteBlock other block start at bytes) h =
+    inl (
+      block,
+      (start, at, bytes, ap (λ w. WriteBlock w block start at bytes) (sym (eqb-true file other h))),
+    )
+covered_says (covers.Data file) (ChangeFileSize other size) h =
+    inr (size, ap (λ w. ChangeFileSize w size) (sym (eqb-true file other h)))
+covered_says (covers.Data file) o h = absurd (false≢true h)
 covered_says (covers.Range file offset count) (WriteBlock other block start at bytes) h =
     inl (within_says file offset count other block start at bytes h)
 covered_says (covers.Range file offset count) (ChangeFileSize other size) h =
     inr (size, ap (λ w. ChangeFileSize w size) (sym (eqb-true file other h)))
 covered_says (covers.Range file offset count) o h = absurd (false≢true h)
-covered_says (covers.Directory d) o h = ⊎_elim
+covered_says (covers.Directory d path) o h = ⊎_elim
     (λ (entry : touches_entry_of o d ≡ true). inl (entry_says o d entry))
     (λ (own : sets_directory o d ≡ true). inr (directory_says o d own))
     (or_cases (touches_entry_of o d) (sets_directory o d) h)
@@ -97,19 +99,22 @@ covered_says (covers.Directory d) o h = ⊎_elim
 says_covered : (c : Covers) (o : MicroOp) → IsCovered c o → is_covered c o ≡ true
 says_covered covers.All o h = refl
 says_covered (covers.File file) o h = ⊎_elim
-    (λ (b : ((block : ℕ) × WritesBlock o file block) ⊎ ChangesSize o file). ⊎_elim
-    (λ (w : (block : ℕ) × WritesBlock o file block). ap (is_covered (covers.File file)) w.1.3 ∙
-    eq-eqb file file refl)
+    (λ (b : Writes o file ⊎ ChangesSize o file). ⊎_elim
+    (λ (w : Writes o file). ap (is_covered (covers.File file)) w.1.3 ∙ eq-eqb file file refl)
     (λ (s : ChangesSize o file). ap (is_covered (covers.File file)) s.1 ∙ eq-eqb file file refl)
     b)
     (λ (r : SetsFile o file). ap (is_covered (covers.File file)) r.1 ∙ eq-eqb file file refl)
+    h
+says_covered (covers.Data file) o h = ⊎_elim
+    (λ (w : Writes o file). ap (is_covered (covers.Data file)) w.1.3 ∙ eq-eqb file file refl)
+    (λ (s : ChangesSize o file). ap (is_covered (covers.Data file)) s.1 ∙ eq-eqb file file refl)
     h
 says_covered (covers.Range file offset count) o h = ⊎_elim
     (says_within o file offset count)
     (λ (s : ChangesSize o file). ap (is_covered (covers.Range file offset count)) s.1 ∙ eq-eqb file
     file refl)
     h
-says_covered (covers.Directory d) o h = ⊎_elim
+says_covered (covers.Directory d path) o h = ⊎_elim
     (λ (w : TouchesEntryOf o d). or_left (touches_entry_of o d) (sets_directory o d)
     (says_entry o d w))
     (λ (s : SetsDirectory o d). or_right (touches_entry_of o d) (sets_directory o d)
@@ -144,30 +149,31 @@ module _ (ops : List MicroOp) (syncs : List SyncPoint) (i j : ℕ) where
       (le-leb w.point.at j w.ahead))
       (says_covered w.point.covers (op_at ops i) w.covered))
 
-  -- ---- the latest create
+  -- ---- the latest making
 
-  pub latest_says : (p : Path) → is_latest ops i j p ≡ true → IsLatestCreate ops i j p
+  pub latest_says : (d : ℕ) → is_latest (entry_op_at ops) i j d ≡ true → IsLatestMaking ops i j d
   unfolding is_latest
-  latest_says p h =
-      let t = λ (k : ℕ). creates (op_at ops k) p in
-      let parts = and_parts (creates (op_at ops i) p) (not (list_any t (places_between i j))) h in
+  latest_says d h =
+      let t = λ (k : ℕ). makes (entry_op_at ops k) d in
+      let parts =
+      and_parts (makes (entry_op_at ops i) d) (not (list_any t (places_between i j))) h in
       record {
-        made = creates_says (op_at ops i) p parts.0;
+        made = makes_says (op_at ops i) d parts.0;
         last = λ k low high c. false≢true
             (sym (not-true (list_any t (places_between i j)) parts.1) ∙ any_between t (i + 1)
             (j - (i + 1)) k (omega (arith, low)) (omega (arith, low, high))
-            (says_creates (op_at ops k) p c));
+            (says_makes (op_at ops k) d c));
       }
 
-  pub says_latest : (p : Path) → IsLatestCreate ops i j p → is_latest ops i j p ≡ true
+  pub says_latest : (d : ℕ) → IsLatestMaking ops i j d → is_latest (entry_op_at ops) i j d ≡ true
   unfolding is_latest
-  says_latest p w =
-      let t = λ (k : ℕ). creates (op_at ops k) p in
-      and_from (creates (op_at ops i) p) (not (list_any t (places_between i j)))
-      (says_creates (op_at ops i) p w.made)
+  says_latest d w =
+      let t = λ (k : ℕ). makes (entry_op_at ops k) d in
+      and_from (makes (entry_op_at ops i) d) (not (list_any t (places_between i j)))
+      (says_makes (op_at ops i) d w.made)
       (ap not (none_between t (i + 1) (j - (i + 1)) (λ k low high. ⊎_elim
       (λ (yes : t k ≡ true). absurd
       (w.last k (omega (arith, low)) (omega (arith, low, high))
-      (creates_says (op_at ops k) p yes)))
+      (makes_says (op_at ops k) d yes)))
       (λ (none : t k ≡ false). none)
       (cases_Bool (t k)))))

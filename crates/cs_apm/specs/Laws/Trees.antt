@@ -1,182 +1,190 @@
 -- The state of an allowed set of legal micro-operations is a tree.
-use Rattle.std.proofs.Common.{◌≡◌, ◌≢◌, ℕ, zero, suc, ◌+◌, ◌*◌, ◌^◌, ◌<◌, ◌==◌, not, Bool, true}
-use Rattle.std.proofs.Common.{false, cond, List, [], ◌∷◌, Option, None, Some, refl, sym, ap, ◌∙◌}
-use Rattle.std.proofs.Common.{subst, ⊎_elim, length, map, arith, lit≤}
-use Rattle.std.proofs.lemmas.Bool.{false≢true}
+use Rattle.std.proofs.Common.{◌≡◌, ◌≢◌, ℕ, zero, suc, ◌+◌, ◌*◌, ◌^◌, ◌<◌, ◌≤◌, ◌==◌, ◌&&◌, ◌||◌, not}
+use Rattle.std.proofs.Common.{Bool, true, false, cond, List, [], ◌∷◌, ◌++◌, ◌⊎◌, inl, inr, Option}
+use Rattle.std.proofs.Common.{None, Some, refl, sym, ap, ◌∙◌, subst, ⊎_elim, length, map, arith, lit≤}
+use Rattle.std.proofs.Common.{get_or, length-append}
+use Rattle.std.proofs.lemmas.Bool.{cases_Bool, false≢true}
+use Rattle.std.proofs.lemmas.List.{length-set}
 use Rattle.std.proofs.lemmas.Nat.Bits.{and_pow, bit_at_above, bit_at_cat_high}
-use Rattle.std.specs.FinMap.{get, insert, remove, get-insert, get-remove, same_map}
+use Rattle.std.specs.FinMap.{FinMap, get}
+use Rattle.std.specs.List.{Contains}
 use Rattle.std.specs.Option.{is_some, option_map}
-use Rattle.std.specs.Ordering.{eq_by_cmp, is_eq}
-use Rattle.std.specs.Prelude.{bit_and, fold, slice_index_or}
-use Rattle.cs_tree_model.specs.declared.mode.TheConstants.{DMDIR}
+use Rattle.std.specs.Prelude.{bit_and, fold, nat_lt, slice_index_or, slice_set}
+use Rattle.cs_entries.specs.declared.node.FileKind.TheVariants.{Regular, Symlink}
+use Rattle.cs_entries.specs.declared.node.Node.{Node}
+use Rattle.cs_entries.specs.declared.node.Node.TheVariants.{Directory, File}
+use Rattle.cs_entries.specs.Entries.{all}
+use Rattle.cs_entries.specs.Legal.{IsTree as IsEntryTree}
+use Rattle.cs_entries.specs.Rules as entries
+use Rattle.cs_entries.specs.Rules.{IsClosed, empties, makes_directory, moves_directory, shares_entry}
+use Rattle.cs_entries.specs.Sets.{AreFixed, AreNumbered}
+use Rattle.cs_entries.specs.Tables.{AreNested, Table, held_in, paths_in, table_after, table_of}
+use Rattle.cs_entries.specs.Laws.States.{state_is_tree as entries_are_tree}
+use Rattle.cs_entries.specs.Laws.States.{state_nested as entries_are_nested}
+use Rattle.cs_tree_model.specs.declared.mode.TheConstants.{DMDIR, DMSYMLINK}
 use Rattle.cs_tree_model.specs.declared.record.Record.{Record}
 use Rattle.cs_tree_model.specs.Fresh.{IsNested}
 use Rattle.cs_tree_model.specs.Laws.Fresh.{fresh_is_tree}
-use Rattle.cs_tree_model.specs.Laws.Paths.{option_cases, path_cases, path_exact, path_total}
 use Rattle.cs_tree_model.specs.Maps.Values.{get-map_values, map_values}
 use Rattle.cs_tree_model.specs.Record.{IsDirectory, IsMarked}
 use Rattle.cs_tree_model.specs.Tree.{IsTree, Path, parent_path, path_cmp}
-use Rattle.cs_trace.specs.declared.operation.Node.{Node}
-use Rattle.cs_trace.specs.declared.operation.Node.TheVariants as nodes
-use Rattle.cs_trace.specs.declared.operation.Rights.{Rights}
+use Rattle.cs_start.specs.declared.rights.Rights.{Rights}
 use Rattle.cs_trace.specs.declared.operation.Target.TheVariants as targets
+use Rattle.cs_trace.specs.Traces.{AreHomes}
+use Rattle.cs_trace_lines.specs.Versions.{is_fourth}
+use Rattle.cs_trace_lines.specs.declared.profile.Profile.{Profile}
 use Rattle.cs_trace_lines.specs.declared.version.Version.{Version}
-use Rattle.cs_trace.specs.Operations.{AreNested, IsDirectoryAt, Paths}
 use Rattle.cs_micro.specs.declared.micro_op.MicroOp.{MicroOp}
 use Rattle.cs_micro.specs.declared.micro_op.MicroOp.TheVariants.{CreateDirEntry, DeleteDirEntry}
 use Rattle.cs_micro.specs.declared.micro_op.MicroOp.TheVariants.{MoveDirEntry, LinkDirEntry}
 use Rattle.cs_micro.specs.declared.micro_op.MicroOp.TheVariants.{ChangeFileSize, WriteBlock}
 use Rattle.cs_micro.specs.declared.micro_op.MicroOp.TheVariants.{SetAttr, Say}
 use Rattle.cs_micro.specs.declared.sync_point.SyncPoint.{SyncPoint}
-use Rattle.cs_micro.specs.Legal.{AreLegal, made_after, paths_after}
-use Rattle.cs_apm.specs.Legal.{IsLegalThere, nodes_of}
-use Rattle.cs_apm.specs.Rules.{needs, op_at}
-use Rattle.cs_apm.specs.Sets.{IsAllowed, is_member}
-use Rattle.cs_apm.specs.States.{Content, Directory, Entries, Entry, File, State, state_after}
-use Rattle.cs_apm.specs.States.{entries_after, entry_made, no_rights, with_rights_at}
-use Rattle.cs_apm.specs.States.{permission_bits, record_of, records_of, state_of, tree_of_state}
-use Rattle.cs_apm.specs.Laws.Allowed.{allowed_has}
-use Rattle.cs_apm.specs.Laws.Members.{members_run, run}
-use Rattle.cs_apm.specs.Laws.Nested.{set_nested}
-use Rattle.cs_apm.specs.Laws.Shown.{all}
+use Rattle.cs_micro.specs.Legal.{AreLegal, Made}
+use Rattle.cs_apm.specs.Rules.{entry_op_at, is_journaled, is_synced, needs, op_at, pair_needs}
+use Rattle.cs_apm.specs.Rules as rules
+use Rattle.cs_sets.specs.Sets.{IsAllowed, is_member}
+use Rattle.cs_apm.specs.States.{State, directories_after, directories_made, entries_after}
+use Rattle.cs_apm.specs.States.{no_rights, nodes_left, permission_bits, record_of, records_of}
+use Rattle.cs_apm.specs.States.{state_after, state_of, tree_of_state, with_created}
+use Rattle.cs_apm.specs.Laws.Homes.{few, fixed, legal_entries, numbered}
+use Rattle.cs_apm.specs.Laws.Members.{contains_has, found_has, members_run, run}
 
--- the paths of a state are folded by themselves
-pub paths_fold : (s : State) (ops : List MicroOp)
-    → (fold state_after s ops).paths ≡ fold entries_after s.paths ops
-paths_fold s [] = refl
-paths_fold s (o ∷ ops) = paths_fold (state_after s o) ops
+-- ---- entries
 
-same_run : (t : ℕ → Bool) (start : Paths) (ops : List MicroOp) (k : ℕ)
-    → run paths_after t start ops k ≡ nodes_of t start ops k
-same_run t start ops zero = refl
-same_run t start ops (suc k) =
-    ap (λ w. cond (t k) (paths_after w (op_at ops k)) w) (same_run t start ops k)
+-- the entries of a state are folded by themselves
+pub entries_fold : (s : State) (ops : List MicroOp)
+    → (fold state_after s ops).entries ≡ fold entries_after s.entries ops
+entries_fold s [] = refl
+entries_fold s (o ∷ ops) = entries_fold (state_after s o) ops
 
--- ---- legal micro-operations by their places
+same_run : (has : ℕ → Bool) (start : Table) (ops : List MicroOp) (k : ℕ)
+    → run entries_after has start ops k ≡ table_of has start (entry_op_at ops) k
+same_run has start ops zero = refl
+same_run has start ops (suc k) =
+    ap (λ t. cond (has k) (table_after t (entry_op_at ops k)) t) (same_run has start ops k)
 
-same_first : (start : Paths) (o : MicroOp) (ops : List MicroOp) (k : ℕ)
-    → nodes_of all start (o ∷ ops) (suc k) ≡ nodes_of all (paths_after start o) ops k
-same_first start o ops zero = refl
-same_first start o ops (suc k) = ap (λ w. paths_after w (op_at ops k)) (same_first start o ops k)
+-- ---- what the rules of entries ask for, the rules ask for
 
-pub legal_at : (size : ℕ) (start : Paths) (made : ℕ) (ops : List MicroOp)
-    → AreLegal size start made ops → (k : ℕ) → k < length ops
-    → IsLegalThere (nodes_of all start ops k) (op_at ops k)
-legal_at size start made [] h k lt = absurd (omega (arith, lt))
-legal_at size start made (o ∷ ops) h zero lt = (size, made, h.0)
-legal_at size start made (o ∷ ops) h (suc k) lt =
-    subst (λ w. IsLegalThere w (op_at ops k)) (sym (same_first start o ops k))
-    (legal_at size (paths_after start o) (made_after made o) ops h.1 k (omega (arith, lt)))
+or_left : (a b : Bool) → a ≡ true → a || b ≡ true
+or_left a b is = ap (λ w. w || b) is
 
--- the nodes that an allowed set leaves are nested
-pub fold_nested : (size : ℕ) (start : Paths) (made : ℕ) (ops : List MicroOp)
-    (syncs : List SyncPoint) (version : Version) (places : List ℕ) → AreNested start
-    → AreLegal size start made ops
-    → IsAllowed (needs ops syncs version) (length ops) places
-    → AreNested (fold paths_after start (map (op_at ops) places))
-fold_nested size start made ops syncs version places nested legal allowed =
-    subst AreNested
-    (sym (members_run paths_after start ops (length ops) places allowed.ascending
-    allowed.in_range ∙ same_run (is_member places) start ops (length ops)))
-    (set_nested ops start (is_member places) nested (legal_at size start made ops legal)
-    (allowed_has ops syncs version (length ops) places allowed))
+or_right : (a b : Bool) → b ≡ true → a || b ≡ true
+or_right true b is = refl
+or_right false b is = is
 
--- ---- the nodes of a state's entries
+-- one of four is true
+either : (a b c d : Bool) → (a || b || c || d) ≡ true
+    → ((a ≡ true) ⊎ (b ≡ true)) ⊎ ((c ≡ true) ⊎ (d ≡ true))
+either true b c d is = inl (inl refl)
+either false true c d is = inl (inr refl)
+either false false true d is = inr (inl refl)
+either false false false true is = inr (inr refl)
+either false false false false is = absurd (false≢true is)
 
-abbrev pub node_of : Entry → Node
-node_of (Directory rights) = nodes.Directory
-node_of (File file) = nodes.File file
+and_parts : (a b : Bool) → (a && b) ≡ true → (a ≡ true) × (b ≡ true)
+and_parts true b is = (refl, is)
+and_parts false b is = absurd (false≢true is)
 
--- what is at each path, by its node
-abbrev pub nodes_in : Entries → Paths
-nodes_in m = map_values node_of m
+pair_name : (profile : Profile) (version : Version) (a b : MicroOp)
+    → rules.shares_name a b ≡ true → pair_needs version profile a b ≡ true
+pair_name profile version a b h =
+    or_left _ (rules.both_move_directories a b)
+    (or_left _ (rules.creates_linked a b)
+    (or_left _ (rules.says_before version a)
+    (or_left _ (rules.keeps_order profile a b)
+    (or_left _ (rules.sets_same_file a b)
+    (or_left _ (rules.both_say a b)
+    (or_left _ (rules.touches_removed_directory a b)
+    (or_right (rules.same_block_or_size a b) (rules.shares_name a b) h)))))))
 
-pub node_made : (node : Node) (rights : Rights) → node_of (entry_made node rights) ≡ node
-node_made nodes.Directory rights = refl
-node_made (nodes.File file) rights = refl
+pair_removed : (profile : Profile) (version : Version) (a b : MicroOp)
+    → rules.touches_removed_directory a b ≡ true → pair_needs version profile a b ≡ true
+pair_removed profile version a b h =
+    or_left _ (rules.both_move_directories a b)
+    (or_left _ (rules.creates_linked a b)
+    (or_left _ (rules.says_before version a)
+    (or_left _ (rules.keeps_order profile a b)
+    (or_left _ (rules.sets_same_file a b)
+    (or_left _ (rules.both_say a b)
+    (or_right _ (rules.touches_removed_directory a b) h))))))
 
-pub get_nodes : (m : Entries) (q : Path) → get (nodes_in m) q ≡ option_map node_of (get m q)
-get_nodes m q = get-map_values path_cmp node_of m q
+module _ (ops : List MicroOp) (syncs : List SyncPoint) (version : Version) (profile : Profile)
+    (i j : ℕ) where
+  abbrev a : MicroOp
+  a = op_at ops i
 
-pub chosen : (b : Bool) (o here : Option Entry)
-    → option_map node_of (cond b o here) ≡ cond b (option_map node_of o) (option_map node_of here)
-chosen true o here = refl
-chosen false o here = refl
+  abbrev b : MicroOp
+  b = op_at ops j
 
-nodes_inserted : (m : Entries) (p : Path) (e : Entry)
-    → nodes_in (insert m p e) ≡ insert (nodes_in m) p (node_of e)
-nodes_inserted m p e =
-    same_map path_total path_exact (nodes_in (insert m p e)) (insert (nodes_in m) p (node_of e))
-    (λ q.
-    get_nodes (insert m p e) q ∙ ap (option_map node_of) (get-insert path_total m p e q) ∙ chosen
-    (is_eq (path_cmp q p)) (Some e) (get m q)
-    ∙ sym (get-insert path_total (nodes_in m) p (node_of e) q ∙ ap
-    (cond (is_eq (path_cmp q p)) (Some (node_of e))) (get_nodes m q)))
+  abbrev rest : Bool → Bool → Bool
+  rest pair parent =
+      pair || parent || is_synced syncs i j a || is_journaled profile ops syncs i j
+      || rules.are_halves ops i j
 
-nodes_removed : (m : Entries) (p : Path) → nodes_in (remove m p) ≡ remove (nodes_in m) p
-nodes_removed m p =
-    same_map path_total path_exact (nodes_in (remove m p)) (remove (nodes_in m) p) (λ q.
-    get_nodes (remove m p) q ∙ ap (option_map node_of) (get-remove path_total m p q) ∙ chosen
-    (is_eq (path_cmp q p)) None (get m q)
-    ∙ sym (get-remove path_total (nodes_in m) p q ∙ ap (cond (is_eq (path_cmp q p)) None)
-    (get_nodes m q)))
+  from_pair : pair_needs version profile a b ≡ true
+      → rest (pair_needs version profile a b) (rules.makes_parent ops i j) ≡ true
+  from_pair h =
+      or_left _ (rules.are_halves ops i j)
+      (or_left _ (is_journaled profile ops syncs i j)
+      (or_left _ (is_synced syncs i j a)
+      (or_left (pair_needs version profile a b) (rules.makes_parent ops i j) h)))
 
--- what is at a path already is put there again
-again : (m : Paths) (p : Path) (n : Node) → get m p ≡ Some n → insert m p n ≡ m
-again m p n there =
-    same_map path_total path_exact (insert m p n) m (λ q. get-insert path_total m p n q ∙ at q)
-  where
-    at : (q : Path) → cond (is_eq (path_cmp q p)) (Some n) (get m q) ≡ get m q
-    at q = ⊎_elim
-        (λ (one : (eq_by_cmp path_cmp q p ≡ true) × (q ≡ p)). ap (λ b. cond b (Some n) (get m q))
-        one.0 ∙ sym (ap (get m) one.1 ∙ there))
-        (λ (two : (eq_by_cmp path_cmp q p ≡ false) × (q ≢ p)). ap (λ b. cond b (Some n) (get m q))
-        two.0)
-        (path_cases q p)
+  from_parent : rules.makes_parent ops i j ≡ true
+      → rest (pair_needs version profile a b) (rules.makes_parent ops i j) ≡ true
+  from_parent h =
+      or_left _ (rules.are_halves ops i j)
+      (or_left _ (is_journaled profile ops syncs i j)
+      (or_left _ (is_synced syncs i j a)
+      (or_right (pair_needs version profile a b) (rules.makes_parent ops i j) h)))
 
--- other rights leave each node
-nodes_owned : (m : Entries) (p : Path) (rights : Rights) (e : Option Entry) → get m p ≡ e
-    → nodes_in (with_rights_at m p rights e) ≡ nodes_in m
-nodes_owned m p rights None is = refl
-nodes_owned m p rights (Some (File file)) is = refl
-nodes_owned m p rights (Some (Directory old)) is =
-    nodes_inserted m p (Directory rights) ∙ again (nodes_in m) p nodes.Directory
-    (get_nodes m p ∙ ap (option_map node_of) is)
+  abbrev shares : Bool
+  shares = shares_entry (entry_op_at ops i) (entry_op_at ops j)
 
-nodes_step : (m : Entries) (o : MicroOp) → nodes_in (entries_after m o) ≡ paths_after (nodes_in m) o
-nodes_step m (CreateDirEntry p node rights) =
-    nodes_inserted m p (entry_made node rights) ∙ ap (insert (nodes_in m) p) (node_made node rights)
-nodes_step m (DeleteDirEntry p kind) = nodes_removed m p
-nodes_step m (MoveDirEntry p q) = ⊎_elim
-    (λ (none : get m p ≡ None).
-    (let gone : get (nodes_in m) p ≡ None = get_nodes m p ∙ ap (option_map node_of) none in
-    rw (none, gone) refl))
-    (λ (some : (e : Entry) × (get m p ≡ Some e)).
-    (let there = some.1 in let known : get (nodes_in m) p ≡ Some (node_of some.0) =
-    get_nodes m p ∙ ap (option_map node_of) some.1 in
-    rw (there, known)
-    (nodes_inserted (remove m p) q some.0 ∙ ap (λ w. insert w q (node_of some.0))
-    (nodes_removed m p))))
-    (option_cases (get m p))
-nodes_step m (LinkDirEntry p file) = nodes_inserted m p (File file)
-nodes_step m (ChangeFileSize file size) = refl
-nodes_step m (WriteBlock file block start at bytes) = refl
-nodes_step m (SetAttr (targets.File file) rights) = refl
-nodes_step m (SetAttr (targets.Directory p) rights) = nodes_owned m p rights (get m p) refl
-nodes_step m Say = refl
+  abbrev makes : Bool
+  makes = makes_directory (entry_op_at ops) i j
 
-pub nodes_fold : (m : Entries) (ops : List MicroOp)
-    → nodes_in (fold entries_after m ops) ≡ fold paths_after (nodes_in m) ops
-nodes_fold m [] = refl
-nodes_fold m (o ∷ ops) =
-    nodes_fold (entries_after m o) ops ∙ ap (λ w. fold paths_after w ops) (nodes_step m o)
+  abbrev removes : Bool
+  removes = empties (entry_op_at ops i) (entry_op_at ops j)
+
+  abbrev moves : Bool
+  moves = moves_directory (entry_op_at ops i) && moves_directory (entry_op_at ops j)
+
+  asks : entries.needs (entry_op_at ops) i j ≡ true → needs ops syncs version profile i j ≡ true
+  unfolding needs
+  asks is =
+      let parts = and_parts (nat_lt i j) (shares || makes || removes || moves) is in
+      let any = ⊎_elim
+      (λ (h : (shares ≡ true) ⊎ (makes ≡ true)). ⊎_elim
+      (λ (s : shares ≡ true). from_pair (pair_name profile version a b (or_left _ _ s)))
+      (λ (s : makes ≡ true). from_parent s) h)
+      (λ (h : (removes ≡ true) ⊎ (moves ≡ true)). ⊎_elim
+      (λ (s : removes ≡ true). from_pair (pair_removed profile version a b s))
+      (λ (s : moves ≡ true). from_pair (or_right _ (rules.both_move_directories a b) s)) h)
+      (either shares makes removes moves parts.1) in
+      λ w. parts.0 w && any w
+
+pub entries_closed : (ops : List MicroOp) (syncs : List SyncPoint) (version : Version)
+    (profile : Profile) (n : ℕ) (places : List ℕ)
+    → IsAllowed (needs ops syncs version profile) n places
+    → IsClosed (entries.needs (entry_op_at ops)) (is_member places)
+entries_closed ops syncs version profile n places allowed i j member is =
+    let at = found_has places j member in
+    contains_has places i
+    (allowed.closed at.0 i at.1
+    (ap (needs ops syncs version profile i) at.2 ∙ asks ops syncs version profile i j is))
+
+pub inside : (ops : List MicroOp) (needs : ℕ → ℕ → Bool) (n : ℕ) (places : List ℕ)
+    → IsAllowed needs n places → (j : ℕ) → is_member places j ≡ true → j < n
+inside ops needs n places allowed j member =
+    let at = found_has places j member in
+    subst (λ k. k < n) at.2 (allowed.in_range at.0 at.1)
 
 -- ---- the records of a state
 
-no_bit : (n : ℕ) → n < 512 → bit_and n DMDIR ≡ 0
-no_bit n low =
-    let below : n < 2 ^ 9 = omega arith in
-    let none = bit_at_above n 9 31 below (lit≤ tt) in
+no_bit : (n : ℕ) → n < 2 ^ 31 → bit_and n DMDIR ≡ 0
+no_bit n below =
+    let none = bit_at_above n 31 31 below (lit≤ tt) in
     and_pow n 31 ∙ ap (λ b. b * 2 ^ 31) none
 
 has_bit : (n : ℕ) → n < 512 → bit_and (DMDIR + n) DMDIR ≡ DMDIR
@@ -184,88 +192,136 @@ has_bit n low =
     let below : n < 2 ^ 31 = omega arith in
     and_pow (DMDIR + n) 31 ∙ ap (λ b. b * 2 ^ 31) (bit_at_cat_high 1 31 n 31 below (lit≤ tt))
 
-unmarked : (n : ℕ) → n < 512 → not (bit_and (0 + n) DMDIR == 0) ≡ false
-unmarked n low =
-    (let e : 0 + n ≡ n = omega arith in
-    ap (λ m. not (bit_and m DMDIR == 0)) e ∙ ap (λ b. not (b == 0)) (no_bit n low))
+unmarked : (n : ℕ) → n < 2 ^ 31 → not (bit_and n DMDIR == 0) ≡ false
+unmarked n low = ap (λ b. not (b == 0)) (no_bit n low)
 
 nine_bits : (n : ℕ) → permission_bits n < 512
 nine_bits n = omega arith
 
-pub marked : (owners : List Rights) (files : List Content) (e : Entry)
-    → IsMarked (record_of owners files e)
-marked owners files (Directory rights) =
-    (let bit = has_bit (permission_bits rights.permissions) (nine_bits rights.permissions) in
-    rw bit refl)
-marked owners files (File file) =
-    unmarked (permission_bits (slice_index_or owners file no_rights).permissions)
-    (nine_bits (slice_index_or owners file no_rights).permissions)
+pub marked : (s : State) (node : Node) → IsMarked (record_of s node)
+marked s (Directory d) =
+    (let p = (slice_index_or s.directories d no_rights).permissions in
+    let bit = has_bit (permission_bits p) (nine_bits p) in rw bit refl)
+marked s (File Regular file) =
+    (let p = (slice_index_or s.owners file no_rights).permissions in
+    unmarked (0 + permission_bits p) (let low = nine_bits p in omega (arith, low)))
+marked s (File Symlink file) =
+    (let p = (slice_index_or s.owners file no_rights).permissions in
+    unmarked (DMSYMLINK + permission_bits p) (let low = nine_bits p in omega (arith, low)))
 
-directory_entry : (m : Entries) (p : Path) → IsDirectoryAt (nodes_in m) p → (rights : Rights)
-    × (get m p ≡ Some (Directory rights))
-directory_entry m p h = by (get m p) refl (sym (get_nodes m p) ∙ h)
-  where
-    by : (o : Option Entry) → get m p ≡ o → option_map node_of o ≡ Some nodes.Directory
-        → (rights : Rights) × (get m p ≡ Some (Directory rights))
-    by None at is = absurd (false≢true (ap is_some is))
-    by (Some (Directory rights)) at is = (rights, at)
-    by (Some (File file)) at is = absurd (cc)
+module _ (s : State) (h : AreNested (nodes_left s)) where
+  found : (p : Path) (node : Node) → get (nodes_left s) p ≡ Some node
+      → get (records_of s) p ≡ Some (record_of s node)
+  found p node at =
+      get-map_values path_cmp (record_of s) (nodes_left s) p ∙ ap (option_map (record_of s)) at
 
-module _ (owners : List Rights) (files : List Content) (m : Entries)
-    (h : AreNested (nodes_in m)) where
-  found : (p : Path) (e : Entry) → get m p ≡ Some e
-      → get (map_values (record_of owners files) m) p ≡ Some (record_of owners files e)
-  found p e at =
-      get-map_values path_cmp (record_of owners files) m p ∙ ap
-      (option_map (record_of owners files)) at
+  directory_record : (p : Path) (d : ℕ) → get (nodes_left s) p ≡ Some (Directory d)
+      → (r : Record) × (get (records_of s) p ≡ Some r) × IsDirectory r
+  directory_record p d there = (record_of s (Directory d), found p (Directory d) there, refl)
 
-  directory_record : (p : Path) → IsDirectoryAt (nodes_in m) p → (d : Record)
-      × (get (map_values (record_of owners files) m) p ≡ Some d) × IsDirectory d
-  directory_record p there =
-      (let w = directory_entry m p there in
-      (record_of owners files (Directory w.0), found p (Directory w.0) w.1, refl))
-
-  entry_record : (p : Path) (r : Record) → get (map_values (record_of owners files) m) p ≡ Some r
-      → (e : Entry) × (get m p ≡ Some e) × (record_of owners files e ≡ r)
-  entry_record p r is =
-      by (get m p) refl (sym (get-map_values path_cmp (record_of owners files) m p) ∙ is)
+  node_record : (p : Path) (r : Record) → get (records_of s) p ≡ Some r
+      → (node : Node) × (get (nodes_left s) p ≡ Some node) × (record_of s node ≡ r)
+  node_record p r is =
+      by (get (nodes_left s) p) refl
+      (sym (get-map_values path_cmp (record_of s) (nodes_left s) p) ∙ is)
     where
-      by : (o : Option Entry) → get m p ≡ o → option_map (record_of owners files) o ≡ Some r
-          → (e : Entry) × (get m p ≡ Some e) × (record_of owners files e ≡ r)
+      by : (o : Option Node) → get (nodes_left s) p ≡ o → option_map (record_of s) o ≡ Some r
+          → (node : Node) × (get (nodes_left s) p ≡ Some node) × (record_of s node ≡ r)
       by None at same = absurd (false≢true (ap is_some same))
-      by (Some e) at same = (e, at, cc)
+      by (Some node) at same = (node, at, cc)
 
-  pub nested_records : IsNested (map_values (record_of owners files) m)
+  pub nested_records : IsNested (records_of s)
   nested_records = record {
-    root = directory_record [] h.root;
+    root = directory_record [] h.root.0 h.root.1;
     nested = λ p r is named.
-        (let w = entry_record p r is in
-        directory_record (parent_path p)
-        (h.nested p (node_of w.0) (get_nodes m p ∙ ap (option_map node_of) w.1) named));
-    marked = λ p r is.
-        (let w = entry_record p r is in subst IsMarked w.2 (marked owners files w.0));
+        (let w = node_record p r is in let above = h.nested p w.0 w.1 named in
+        directory_record (parent_path p) above.0 above.1);
+    marked = λ p r is. (let w = node_record p r is in subst IsMarked w.2 (marked s w.0));
   }
 
 -- ---- the tree
 
-module _ (start : State) (ops : List MicroOp) (syncs : List SyncPoint) (version : Version)
-    (places : List ℕ)
-    (nested : AreNested (nodes_in start.paths)) (size made : ℕ)
-    (legal : AreLegal size (nodes_in start.paths) made ops)
-    (allowed : IsAllowed (needs ops syncs version) (length ops) places) where
-  pub paths_left : (state_of start ops places).paths
-      ≡ fold entries_after start.paths (map (op_at ops) places)
+-- so many directories have rights, whatever the set
+set_long : (xs : List Rights) (k : ℕ) (r : Rights) → length (slice_set xs k r) ≡ length xs
+set_long xs k r = length-set xs k r
+
+long_after : (all : List Rights) (o : MicroOp) → length (directories_after all o) ≡ length all
+long_after all (CreateDirEntry e (Directory d) rights bytes) = set_long all d rights
+long_after all (CreateDirEntry e (File kind file) rights bytes) = refl
+long_after all (SetAttr (targets.Directory d path) rights) = set_long all d rights
+long_after all (SetAttr (targets.File file) rights) = refl
+long_after all (DeleteDirEntry e node) = refl
+long_after all (MoveDirEntry a b node old) = refl
+long_after all (LinkDirEntry e kind file old half) = refl
+long_after all (ChangeFileSize file to) = refl
+long_after all (WriteBlock file block start at bytes) = refl
+long_after all Say = refl
+
+long_fold : (s : State) (ops : List MicroOp)
+    → length (fold state_after s ops).directories ≡ length s.directories
+long_fold s [] = refl
+long_fold s (o ∷ ops) = long_fold (state_after s o) ops ∙ long_after s.directories o
+
+module _ (start : State) (m : Made) (ops : List MicroOp) (syncs : List SyncPoint)
+    (version : Version) (profile : Profile) (places : List ℕ)
+    (tree : IsEntryTree (held_in start.entries))
+    (begins : m.entries ≡ start.entries)
+    (homes : AreHomes m.entries m.homes)
+    (as_many : length start.directories ≡ length m.homes)
+    (legal : AreLegal version m ops)
+    (allowed : IsAllowed (needs ops syncs version profile) (length ops) places) where
+  abbrev n : ℕ
+  n = length ops
+
+  abbrev has : ℕ → Bool
+  has = is_member places
+
+  abbrev few_all : ℕ
+  few_all = length m.homes + length (directories_made ops)
+
+  abbrev left : State
+  left = state_of start ops places
+
+  numbering : AreNumbered (held_in m.entries) (entry_op_at ops) n
+      ⊎ AreFixed (held_in m.entries) (entry_op_at ops) n
+  numbering = ⊎_elim
+      (λ (h : is_fourth version ≡ true). inl (numbered version m ops legal homes h))
+      (λ (h : is_fourth version ≡ false). inr (fixed version m ops legal homes h))
+      (cases_Bool (is_fourth version))
+
+  here_tree : IsEntryTree (held_in m.entries)
+  here_tree = subst (λ t. IsEntryTree (held_in t)) (sym begins) tree
+
+  pub entries_left : left.entries ≡ table_of has m.entries (entry_op_at ops) n
   unfolding state_of
-  paths_left = paths_fold _ (map (op_at ops) places)
+  entries_left =
+      entries_fold (with_created start ops) (map (op_at ops) places)
+      ∙ members_run entries_after start.entries ops n places allowed.ascending allowed.in_range
+      ∙ same_run has start.entries ops n
+      ∙ ap (λ t. table_of has t (entry_op_at ops) n) (sym begins)
 
-  pub state_nested : IsNested (records_of (state_of start ops places))
-  state_nested =
-      nested_records (state_of start ops places).owners (state_of start ops places).files
-      (state_of start ops places).paths
-      (subst AreNested
-      (sym (ap nodes_in paths_left ∙ nodes_fold start.paths (map (op_at ops) places)))
-      (fold_nested size (nodes_in start.paths) made ops syncs version places nested legal
-      allowed))
+  pub long_left : length left.directories ≡ few_all
+  unfolding state_of
+  long_left =
+      long_fold (with_created start ops) (map (op_at ops) places)
+      ∙ length-append start.directories (directories_made ops)
+      ∙ ap (λ k. k + length (directories_made ops)) as_many
 
-  pub state_is_tree : IsTree (tree_of_state (state_of start ops places))
-  state_is_tree = fresh_is_tree (records_of (state_of start ops places)) state_nested
+  pub state_tree : IsEntryTree (held_in left.entries)
+  state_tree =
+      subst (λ t. IsEntryTree (held_in t)) (sym entries_left)
+      (entries_are_tree m.entries (entry_op_at ops) n few_all has here_tree
+      (legal_entries version m ops legal homes) numbering (few version m ops legal homes)
+      (inside ops (needs ops syncs version profile) n places allowed)
+      (entries_closed ops syncs version profile n places allowed))
+
+  pub state_nodes : AreNested (nodes_left left)
+  state_nodes =
+      subst AreNested (λ i. paths_in (sym long_left i + 1) (sym entries_left i))
+      (entries_are_nested m.entries (entry_op_at ops) n few_all has here_tree
+      (legal_entries version m ops legal homes) numbering (few version m ops legal homes)
+      (inside ops (needs ops syncs version profile) n places allowed)
+      (entries_closed ops syncs version profile n places allowed))
+
+  pub state_is_tree : IsTree (tree_of_state left)
+  state_is_tree = fresh_is_tree (records_of left) (nested_records left state_nodes)

@@ -61,7 +61,7 @@ const BACK: &str = r#"{"trace":2,"profile":"blocks","owner":"kv","group":"kv","m
 const BACK_FIRSTS: [u32; 18] = [0, 0, 2, 0, 4, 5, 0, 7, 0, 9, 10, 11, 0, 13, 14, 15, 0, 0];
 
 /// The first state with an equal tree, found by comparing whole trees.
-fn first_by_trees(rt: &impl Abort, alloc: Global, scene: &Arc<Scene>, number: u32) -> u32
+pub fn first_by_trees(rt: &impl Abort, alloc: Global, scene: &Arc<Scene>, number: u32) -> u32
     requires { number < length (arc_value scene.now).plan }
 {
     for other in 0..number {
@@ -73,7 +73,7 @@ fn first_by_trees(rt: &impl Abort, alloc: Global, scene: &Arc<Scene>, number: u3
 }
 
 /// Whether the state is seen to have the tree of another; false if there is no other.
-fn is_seen(rt: &impl Abort, alloc: Global, scene: &Arc<Scene>, other: u32, number: u32) -> bool
+pub fn is_seen(rt: &impl Abort, alloc: Global, scene: &Arc<Scene>, other: u32, number: u32) -> bool
     requires { number < length (arc_value scene.now).plan }
 {
     if other as usize >= scene.plan().len() {
@@ -106,7 +106,7 @@ fn idle_text(rt: &impl Abort, alloc: Global) -> String {
 }
 
 /// The states of a trace, with holes if they are asked for.
-fn states_of(rt: &impl Abort, alloc: Global, text: &str, holes: bool) -> Arc<Scene> {
+pub fn states_of(rt: &impl Abort, alloc: Global, text: &str, holes: bool) -> Arc<Scene> {
     let trace = read_trace(alloc, text).expect(rt, "a trace");
     let scene = Scene::of(alloc, trace, holes, Vec::new(alloc)).expect(rt, "a scene");
     Arc::new(alloc, scene).expect(rt, "memory")

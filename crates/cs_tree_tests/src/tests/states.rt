@@ -4,7 +4,7 @@ use super::runs::BEFORE;
 use super::shown::{has_numbers, lines, same_lines};
 use super::start::shared;
 use cs_apm::laws::rules_are_sentences;
-use cs_apm::{Order, build};
+use cs_apm::{build, order_of};
 use cs_micro::break_up;
 use cs_overlay::Overlay;
 use cs_state::{Atlas, StateTree};
@@ -18,7 +18,7 @@ use std::sync::Arc;
 /// The state of a set, which must be allowed.
 fn built(rt: &impl Abort, alloc: Global, atlas: &Atlas, places: &[u32]) -> StateTree {
     let micros = atlas.micros();
-    let order = Order::of(alloc, micros).expect(rt, "memory");
+    let order = order_of(alloc, micros).expect(rt, "memory");
     rules_are_sentences(micros);
     assert!(rt; order.is_allowed(places));
     atlas.build(alloc, places).expect(rt, "memory")
@@ -68,7 +68,7 @@ fn members_make_what_the_start_tree_has(rt: HostRuntime) {
 fn plain_of(rt: &impl Abort, alloc: Global, text: &str, places: &[u32]) -> PlainTree {
     let trace = read_trace(alloc, text).expect(rt, "a trace");
     let micros = break_up(alloc, &trace).expect(rt, "micro-operations");
-    let order = Order::of(alloc, &micros).expect(rt, "memory");
+    let order = order_of(alloc, &micros).expect(rt, "memory");
     rules_are_sentences(&micros);
     assert!(rt; order.is_allowed(places));
     build(alloc, &micros, &trace, places).expect(rt, "memory")

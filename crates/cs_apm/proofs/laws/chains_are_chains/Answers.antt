@@ -1,7 +1,7 @@
 use Rattle.std.proofs.Common.{◌+◌}
-use Rattle.cs_apm.specs.Chains.{by_chain}
-use Rattle.cs_apm.specs.Laws.Chains.{chain_found, found_chain}
-use Rattle.cs_apm.specs.Orders.{needs_in}
+use Rattle.cs_sets.specs.Chains.{by_chain}
+use Rattle.cs_sets.specs.Laws.Chains.{chain_found, found_chain}
+use Rattle.cs_sets.specs.Orders.{needs_in}
 use Rattle.cs_apm.proofs.laws.chains_are_chains.Goals as goal
 
 pub returns : goal.returns

@@ -1,7 +1,7 @@
 use Rattle.std.proofs.Common.{◌∷◌, [], ◌++◌, ◌∙◌, ap, sym, take, append_assoc, map}
 use Rattle.std.proofs.lemmas.List.{take_more}
 use Rattle.std.specs.Prelude.{slice_index_or}
-use Rattle.cs_apm.specs.Atlases.{no_record}
+use Rattle.cs_apm.specs.States.{no_record}
 use Rattle.cs_apm.specs.States.{owners_made, rights_of}
 use Rattle.cs_apm.proofs.Marking.{owners_made-append}
 use Rattle.cs_apm.proofs.rights.owners_of.Goals as goal

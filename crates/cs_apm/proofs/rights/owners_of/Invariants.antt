@@ -1,6 +1,6 @@
 use Rattle.std.proofs.Common.{◌≡◌, ◌++◌, map, take}
 use Rattle.std.specs.Prelude.{slice_index_or}
-use Rattle.cs_apm.specs.Atlases.{no_record}
+use Rattle.cs_apm.specs.States.{no_record}
 use Rattle.cs_apm.specs.States.{owners_made, rights_of}
 use Rattle.cs_apm.proofs.rights.owners_of.Given as goal
 

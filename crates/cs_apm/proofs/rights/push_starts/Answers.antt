@@ -1,10 +1,10 @@
-use Rattle.std.proofs.Common.{◌≡◌, ℕ, ◌+◌, ◌<◌, List, [], ◌∷◌, ◌++◌, ap, append_assoc, arith, get_or, length, map, sym, take, ◌∙◌}
+use Rattle.std.proofs.Common.{◌≡◌, ℕ, ◌+◌, ◌<◌, [], ◌∷◌, ◌++◌, ap, append_assoc, arith, get_or, length, map, sym, take, ◌∙◌}
 use Rattle.std.proofs.lemmas.List.{map-append, take_more}
 use Rattle.cs_tree_model.specs.declared.record.Record.{Record}
 use Rattle.cs_tree_model.specs.Record.{metadata_of, metadata_of_ref}
 use Rattle.cs_tree_model.specs.Tree.{Path}
-use Rattle.cs_trace.specs.declared.operation.Rights.{Rights}
-use Rattle.cs_apm.specs.Atlases.{no_record}
+use Rattle.cs_start.specs.declared.rights.Rights.{Rights}
+use Rattle.cs_apm.specs.States.{no_record}
 use Rattle.cs_apm.specs.States.{rights_in, rights_of}
 use Rattle.cs_apm.proofs.Fields.{read_at}
 use Rattle.cs_apm.proofs.rights.push_starts.Goals as goal

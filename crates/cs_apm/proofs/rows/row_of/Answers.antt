@@ -5,11 +5,11 @@ use Rattle.cs_apm.proofs.rows.row_of.Goals.{then-needs_earlier, else-needs_earli
 use Rattle.cs_apm.proofs.rows.row_of.Goals as goal
 
 pub loop-i-init : goal.loop-i-init
-loop-i-init c = filled_none (rules.needs c.args.ops.now c.args.syncs.now c.args.version) c.args.j c.empty-row.result c.empty-row.ensures
+loop-i-init c = filled_none (rules.needs c.args.ops.now c.args.syncs.now c.args.version c.args.profile) c.args.j c.empty-row.result c.empty-row.ensures
 
 pub loop-i-preserved : goal.loop-i-preserved
 loop-i-preserved c =
-    let need = rules.needs c.args.ops.now c.args.syncs.now c.args.version in
+    let need = rules.needs c.args.ops.now c.args.syncs.now c.args.version c.args.profile in
     elim c.if-needs_earlier.branch [
       | then-needs_earlier w ↦ subst (λ r. IsFilled need c.args.j r (c.loop-i.i + 1)) (sym w.row-is)
           (filled_set need c.args.j c.loop-i.row w.set.new.self c.loop-i.i (sym c.needs_earlier.ensures ∙ w.if-needs_earlier.true)
@@ -19,6 +19,6 @@ loop-i-preserved c =
     ]
 
 pub returns : goal.returns
-returns c = filled_all c.args.ops.now c.args.syncs.now c.args.version c.args.j c.loop-i.row
-    (subst (λ w. IsFilled (rules.needs c.args.ops.now c.args.syncs.now c.args.version) c.args.j c.loop-i.row w) (omega arith)
+returns c = filled_all c.args.ops.now c.args.syncs.now c.args.version c.args.profile c.args.j c.loop-i.row
+    (subst (λ w. IsFilled (rules.needs c.args.ops.now c.args.syncs.now c.args.version c.args.profile) c.args.j c.loop-i.row w) (omega arith)
     c.loop-i.invariant)

@@ -1,8 +1,9 @@
 use Rattle.std.proofs.Common.{rules, ◌≡◌, true, ◌⊎◌, ◌↔◌, ◌<◌, ℕ, List, IfErr, inl, inr, sym, ap, ◌∙◌, ⊎_elim, length, map, subst}
 use Rattle.std.specs.List.{All}
-use Rattle.cs_apm.specs.Orders as micros
 use Rattle.cs_apm.specs.Orders.{needs_of, order_of}
-use Rattle.cs_apm.specs.Sets as sets
+use Rattle.cs_sets.specs.Orders.{needs_in}
+use Rattle.cs_trace_lines.specs.Versions.{profile_of}
+use Rattle.cs_sets.specs.Sets as sets
 use Rattle.cs_micro.specs.Micros.{Micros}
 use Rattle.cs_plan.specs.Scenes.{micros_of, order_in}
 use Rattle.cs_sets.specs.declared.row.Row.{Row}
@@ -28,7 +29,7 @@ use Rattle.cs_different.proofs.different.different_sets.Goals as goal
 pub class_sets-requires-clause-backward : goal.class_sets-requires-clause-backward
 class_sets-requires-clause-backward c =
     let s = c.args.scene.now in
-    let needs = micros.needs_in (order_in s) in
+    let needs = needs_in (order_in s) in
     let n = length (order_in s) in
     let back : IsBackward needs = subst IsBackward c.requires.needs c.len.ensures.backward in
     let rows = c.as_slice-2.result.now in
@@ -40,7 +41,7 @@ class_sets-requires-clause-backward c =
 pub returns-in_err-classes-clause-refused : goal.returns-in_err-classes-clause-refused
 returns-in_err-classes-clause-refused c =
     let s = c.args.scene.now in
-    let needs = micros.needs_in (order_in s) in
+    let needs = needs_in (order_in s) in
     let n = length (order_in s) in
     let back : IsBackward needs = subst IsBackward c.requires.needs c.len.ensures.backward in
     let rows = c.as_slice-2.result.now in
@@ -61,7 +62,7 @@ returns-in_err-classes-clause-refused c =
 pub firsts_of-requires-clause-sets : goal.firsts_of-requires-clause-sets
 firsts_of-requires-clause-sets c =
     let s = c.args.scene.now in
-    let needs = micros.needs_in (order_in s) in
+    let needs = needs_in (order_in s) in
     let n = length (order_in s) in
     let back : IsBackward needs = subst IsBackward c.requires.needs c.len.ensures.backward in
     let rows = c.as_slice-2.result.now in
@@ -74,8 +75,8 @@ firsts_of-requires-clause-sets c =
     let long : length (order_in s) ≡ length (micros_of s).ops =
     ap length (sym c.order.ensures.value) ∙ c.order.ensures.long in
     let told : (p : List ℕ) → sets.IsAllowed needs n p ↔ IsLeavable s p =
-    subst (λ (m : Micros). (p : List ℕ) → sets.IsAllowed (micros.needs_in (order_of m)) (length (order_of m)) p
-    ↔ sets.IsAllowed (needs_of m) (length m.ops) p) c.micros.ensures c.rules_are_sentences.ensures.sets in
+    subst (λ (m : Micros). (p : List ℕ) → sets.IsAllowed (needs_in (order_of m)) (length (order_of m)) p
+    ↔ sets.IsAllowed (needs_of m) (length m.ops) p) c.micros.ensures (c.rules_are_sentences.ensures.sets (profile_of c.micros.result.now.version)) in
     let law : (places : List ℕ) → IsAllowed needs n places
     → LeaveSame s places (chosen (state_of (see wants) none_seen places) n) = law_of s wants are back long told in
     let all = leavable s wants rows cols back law c.in_ok-classes.classes.items c.in_ok-classes.ensures.allowed in
@@ -84,7 +85,7 @@ firsts_of-requires-clause-sets c =
 pub returns-in_err-sets-clause-refused : goal.returns-in_err-sets-clause-refused
 returns-in_err-sets-clause-refused c =
     let s = c.args.scene.now in
-    let needs = micros.needs_in (order_in s) in
+    let needs = needs_in (order_in s) in
     let n = length (order_in s) in
     let back : IsBackward needs = subst IsBackward c.requires.needs c.len.ensures.backward in
     let rows = c.as_slice-2.result.now in
@@ -97,8 +98,8 @@ returns-in_err-sets-clause-refused c =
     let long : length (order_in s) ≡ length (micros_of s).ops =
     ap length (sym c.order.ensures.value) ∙ c.order.ensures.long in
     let told : (p : List ℕ) → sets.IsAllowed needs n p ↔ IsLeavable s p =
-    subst (λ (m : Micros). (p : List ℕ) → sets.IsAllowed (micros.needs_in (order_of m)) (length (order_of m)) p
-    ↔ sets.IsAllowed (needs_of m) (length m.ops) p) c.micros.ensures c.rules_are_sentences.ensures.sets in
+    subst (λ (m : Micros). (p : List ℕ) → sets.IsAllowed (needs_in (order_of m)) (length (order_of m)) p
+    ↔ sets.IsAllowed (needs_of m) (length m.ops) p) c.micros.ensures (c.rules_are_sentences.ensures.sets (profile_of c.micros.result.now.version)) in
     let law : (places : List ℕ) → IsAllowed needs n places
     → LeaveSame s places (chosen (state_of (see wants) none_seen places) n) = law_of s wants are back long told in
     let same : firsts (leave_same s) (map places_of c.as_slice-3.result.now) ≡ firsts (leave_same s) (every needs n) =
@@ -126,7 +127,7 @@ returns-in_err-sets-clause-refused c =
 pub returns-clause-different : goal.returns-clause-different
 returns-clause-different c =
     let s = c.args.scene.now in
-    let needs = micros.needs_in (order_in s) in
+    let needs = needs_in (order_in s) in
     let n = length (order_in s) in
     let back : IsBackward needs = subst IsBackward c.requires.needs c.len.ensures.backward in
     let rows = c.as_slice-2.result.now in
@@ -139,8 +140,8 @@ returns-clause-different c =
     let long : length (order_in s) ≡ length (micros_of s).ops =
     ap length (sym c.order.ensures.value) ∙ c.order.ensures.long in
     let told : (p : List ℕ) → sets.IsAllowed needs n p ↔ IsLeavable s p =
-    subst (λ (m : Micros). (p : List ℕ) → sets.IsAllowed (micros.needs_in (order_of m)) (length (order_of m)) p
-    ↔ sets.IsAllowed (needs_of m) (length m.ops) p) c.micros.ensures c.rules_are_sentences.ensures.sets in
+    subst (λ (m : Micros). (p : List ℕ) → sets.IsAllowed (needs_in (order_of m)) (length (order_of m)) p
+    ↔ sets.IsAllowed (needs_of m) (length m.ops) p) c.micros.ensures (c.rules_are_sentences.ensures.sets (profile_of c.micros.result.now.version)) in
     let law : (places : List ℕ) → IsAllowed needs n places
     → LeaveSame s places (chosen (state_of (see wants) none_seen places) n) = law_of s wants are back long told in
     let same : firsts (leave_same s) (map places_of c.as_slice-3.result.now) ≡ firsts (leave_same s) (every needs n) =

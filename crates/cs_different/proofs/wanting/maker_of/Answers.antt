@@ -10,7 +10,7 @@ use Rattle.cs_different.proofs.wanting.maker_of.Goals as goal
 pub returns : goal.returns
 returns c =
     let s = c.args.scene.now in
-    maker_is s.trace (micros_of s).ops c.ops-ops.result.now (atlas_in c.args.parts.now.tables) c.args.file c.in_ok-maker.maker
+    maker_is s.trace (micros_of s) c.ops-ops.result.now (atlas_in c.args.parts.now.tables) c.args.file c.in_ok-maker.maker
     (c.ops-ops.ensures.value ∙ ap (λ (m : Micros). m.ops) c.micros.ensures) c.requires.atlas
     (sym c.is_linked.ensures ∙ c.if-is_linked.false)
     (ap (list_any (holds c.args.file)) (sym c.deref.ensures.value) ∙ sym c.is_in_slot.ensures ∙ c.if-is_in_slot.false)

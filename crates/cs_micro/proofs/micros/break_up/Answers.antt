@@ -1,13 +1,13 @@
-use Rattle.std.proofs.Common.{◌<◌, ap, arith, length, refl, subst, sym, ◌∙◌}
-use Rattle.std.proofs.lemmas.List.{length-map}
+use Rattle.std.proofs.Common.{◌≡◌, ◌<◌, ap, arith, length, refl, subst, sym, ◌∙◌}
 use Rattle.std.specs.List.{All}
-use Rattle.cs_trace.specs.Traces.{size_at, start_paths, start_sizes}
-use Rattle.cs_trace_lines.specs.Versions.{block_bytes, block_size_of}
+use Rattle.cs_trace.specs.Operations.{FileSystem}
+use Rattle.cs_trace.specs.Traces.{start_sizes, start_table}
+use Rattle.cs_trace_lines.specs.declared.version.Version.{Version}
 use Rattle.cs_micro.specs.Laws.Starts.{length-paths_of_files}
 use Rattle.cs_micro.specs.MicroOperations.{IsWithinLimit, micro_operations_of}
-use Rattle.cs_micro.specs.Micros.{block_of_version}
-use Rattle.cs_micro.specs.Legal.{AreLegal}
-use Rattle.cs_micro.proofs.Legality.{all_legal}
+use Rattle.cs_micro.specs.Micros.{AreLegalFromStart, micros_in}
+use Rattle.cs_micro.specs.SyncPoints.{sync_points_of}
+use Rattle.cs_micro.proofs.Legality.{micros_legal}
 use Rattle.cs_micro.proofs.Limits.{all_within}
 use Rattle.cs_micro.proofs.micros.break_up.Goals as goal
 
@@ -15,13 +15,17 @@ pub has_room-requires : goal.has_room-requires
 has_room-requires c =
     let t = c.args.trace.now in
     let lent = c.operations-operations.ensures in
-    subst (All IsWithinLimit) (sym lent.value) (all_within (start_paths t) (start_sizes t) t.operations lent.legal)
+    let fs : FileSystem = record { entries = start_table t; sizes = start_sizes t; homes = lent.legal.homes } in
+    let all = subst (All (IsWithinLimit t.version)) (sym lent.value) (all_within t.version fs t.operations lent.legal.legal) in
+    subst (λ (v : Version). All (IsWithinLimit v) c.operations-operations.result.now) (sym c.version-version.ensures.value) all
 
 pub micros_and_syncs-requires : goal.micros_and_syncs-requires
 micros_and_syncs-requires c =
     let t = c.args.trace.now in
     let lent = c.operations-operations.ensures in
-    subst (All IsWithinLimit) (sym lent.value) (all_within (start_paths t) (start_sizes t) t.operations lent.legal)
+    let fs : FileSystem = record { entries = start_table t; sizes = start_sizes t; homes = lent.legal.homes } in
+    let all = subst (All (IsWithinLimit t.version)) (sym lent.value) (all_within t.version fs t.operations lent.legal.legal) in
+    subst (λ (v : Version). All (IsWithinLimit v) c.operations-operations.result.now) (sym c.version-version.ensures.value) all
 
 pub returns-in_err-starts-clause-memory : goal.returns-in_err-starts-clause-memory
 returns-in_err-starts-clause-memory c refused =
@@ -33,13 +37,10 @@ returns-in_err-starts-clause-memory c refused =
 pub returns-clause-legal : goal.returns-clause-legal
 returns-clause-legal c =
     let t = c.args.trace.now in
-    let size = block_of_version t.version in
     let lent = c.operations-operations.ensures in
-    let block = c.block_size-block.ensures ∙ ap block_size_of c.version-version.ensures.value in
-    let broken = c.in_ok-ops.ensures.ops ∙ (λ w. micro_operations_of (block_bytes (block w)) (lent.value w)) in
-    let paths = c.in_ok-starts.starts.items in
-    let counted =
-    ap length c.in_ok-starts.ensures.value ∙ length-paths_of_files t.files t.links ∙ sym (length-map t.files (size_at t.records)) in
-    subst (λ n. AreLegal size (start_paths t) n c.in_ok-ops.ops.items) (sym counted)
-    (subst (AreLegal size (start_paths t) (length (start_sizes t))) (sym broken)
-    (all_legal (block_size_of t.version) (start_paths t) (start_sizes t) t.operations lent.legal))
+    let version = c.version-version.ensures.value in
+    let ops = c.in_ok-ops.ensures.ops ∙ (λ w. micro_operations_of (version w) (lent.value w)) in
+    let syncs = c.in_ok-ops.ensures.syncs ∙ (λ w. sync_points_of (version w) (lent.value w)) in
+    let starts = c.in_ok-starts.ensures in
+    subst (AreLegalFromStart t) (λ i. record { ops = sym ops i; syncs = sym syncs i; starts = sym starts.value i; version = sym version i })
+    (micros_legal t lent.legal c.file_count.ensures.small)

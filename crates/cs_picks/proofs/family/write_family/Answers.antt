@@ -1,6 +1,6 @@
 use Rattle.std.proofs.Common.{List, Bool, subst}
-use Rattle.cs_apm.specs.Chains.{IsBackward}
-use Rattle.cs_apm.specs.Orders.{needs_in}
+use Rattle.cs_sets.specs.Chains.{IsBackward}
+use Rattle.cs_sets.specs.Orders.{needs_in}
 use Rattle.cs_picks.proofs.Allowed.{family_good}
 use Rattle.cs_picks.proofs.family.write_family.Goals as goal
 

@@ -1,7 +1,7 @@
 use Rattle.std.proofs.Common.{◌≡◌, ◌-◌, ◌++◌, ap, arith, length, rules, ◌∙◌}
 use Rattle.std.proofs.lemmas.List.FromFn.{length-map-range_with_len}
 use Rattle.std.specs.List.{flat_map, range_with_len}
-use Rattle.cs_apm.specs.Orders.{needs_in}
+use Rattle.cs_sets.specs.Orders.{needs_in}
 use Rattle.cs_picks.specs.Families.{prefix_sets, sets_without}
 use Rattle.cs_picks.specs.Losses.{losses_of, lost_at}
 use Rattle.cs_every.specs.Texts.{picks_text}

@@ -3,7 +3,7 @@ use Rattle.std.proofs.KnownBytes.{Appends-nil}
 use Rattle.std.proofs.lemmas.List.{take_all}
 use Rattle.std.specs.Io.KnownBytes.{Appends}
 use Rattle.std.specs.List.{flat_map}
-use Rattle.cs_apm.specs.Orders.{needs_in}
+use Rattle.cs_sets.specs.Orders.{needs_in}
 use Rattle.cs_picks.specs.Families.{sets_without}
 use Rattle.cs_every.specs.Texts.{picks_text}
 use Rattle.cs_picks.proofs.Written.{files_more, written_more}

@@ -1,7 +1,7 @@
 use Rattle.std.proofs.Common.{take}
 use Rattle.std.specs.Io.KnownBytes.{Appends}
 use Rattle.std.specs.List.{flat_map}
-use Rattle.cs_apm.specs.Orders.{needs_in}
+use Rattle.cs_sets.specs.Orders.{needs_in}
 use Rattle.cs_picks.specs.Families.{sets_without}
 use Rattle.cs_every.specs.Texts.{picks_text}
 use Rattle.cs_picks.proofs.files.write_prefix.Given as goal

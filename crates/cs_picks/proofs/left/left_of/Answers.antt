@@ -1,6 +1,6 @@
 use Rattle.std.proofs.Common.{arith, ap, sym, ◌∙◌, ◌≡◌, ◌++◌, ◌∷◌, [], length, subst}
-use Rattle.cs_apm.specs.Orders.{needs_in}
-use Rattle.cs_apm.specs.Sets.{IsAllowed}
+use Rattle.cs_sets.specs.Orders.{needs_in}
+use Rattle.cs_sets.specs.Sets.{IsAllowed}
 use Rattle.cs_picks.proofs.Allowed.{left_allowed}
 use Rattle.cs_picks.specs.Left.{left_of, stays}
 use Rattle.cs_plan.proofs.Listed.{kept_more, kept_same}

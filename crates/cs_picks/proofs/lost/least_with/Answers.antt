@@ -1,7 +1,7 @@
 use Rattle.std.proofs.Common.{arith, ap, sym, ◌∙◌, ◌≡◌, ◌+◌, ◌++◌, ◌∷◌, [], length, subst}
 use Rattle.std.specs.List.{filter, range_with_len}
-use Rattle.cs_apm.specs.Orders.{needs_in}
-use Rattle.cs_apm.specs.Sets.{IsAllowed}
+use Rattle.cs_sets.specs.Orders.{needs_in}
+use Rattle.cs_sets.specs.Sets.{IsAllowed}
 use Rattle.cs_picks.proofs.Allowed.{least_allowed}
 use Rattle.cs_picks.specs.Families.{is_needed}
 use Rattle.cs_plan.proofs.Listed.{kept_more, kept_same}

@@ -1,6 +1,6 @@
 use Rattle.std.proofs.Common.{◌≡◌}
 use Rattle.std.specs.List.{filter, range_with_len}
-use Rattle.cs_apm.specs.Orders.{needs_in}
+use Rattle.cs_sets.specs.Orders.{needs_in}
 use Rattle.cs_picks.specs.Families.{is_needed}
 use Rattle.cs_picks.proofs.lost.least_with.Given as goal
 

@@ -1,7 +1,7 @@
 use Rattle.std.proofs.Common.{map}
 use Rattle.std.specs.Io.KnownBytes.{Appends}
 use Rattle.std.specs.List.{range_with_len}
-use Rattle.cs_apm.specs.Orders.{needs_in}
+use Rattle.cs_sets.specs.Orders.{needs_in}
 use Rattle.cs_picks.specs.Families.{least_with}
 use Rattle.cs_every.specs.Texts.{picks_text}
 use Rattle.cs_picks.proofs.lost.write_lost.Given as goal

@@ -1,5 +1,5 @@
 use Rattle.std.proofs.Common.{arith, rules, ap, ◌∙◌, length, length-append, ◌≡◌}
-use Rattle.cs_apm.specs.Orders.{needs_in}
+use Rattle.cs_sets.specs.Orders.{needs_in}
 use Rattle.cs_plan.specs.Plans.{holes_of, holes_at}
 use Rattle.cs_plan.proofs.Listed.{holes_more}
 use Rattle.cs_plan.proofs.families.count_holes.Goals as goal

@@ -1,6 +1,6 @@
 use Rattle.std.proofs.Common.{arith, ap, sym, ◌∙◌, length, ◌+◌, ◌≡◌}
 use Rattle.std.proofs.lemmas.List.{length_push}
-use Rattle.cs_apm.specs.Orders.{needs_in}
+use Rattle.cs_sets.specs.Orders.{needs_in}
 use Rattle.cs_plan.specs.declared.recipe.Recipe.TheVariants.{Hole}
 use Rattle.cs_plan.proofs.Listed.{holes_below, below_more, below_same}
 use Rattle.cs_plan.proofs.families.count_holes_at.Goals.{then-is_kept, else-is_kept}

@@ -1,5 +1,5 @@
 use Rattle.std.proofs.Common.{◌≡◌, ◌≤◌, length}
-use Rattle.cs_apm.specs.Orders.{needs_in}
+use Rattle.cs_sets.specs.Orders.{needs_in}
 use Rattle.cs_plan.proofs.Listed.{holes_below}
 use Rattle.cs_plan.proofs.families.count_holes_at.Given as goal
 

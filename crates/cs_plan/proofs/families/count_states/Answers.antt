@@ -1,5 +1,5 @@
 use Rattle.std.proofs.Common.{arith, length}
-use Rattle.cs_apm.specs.Orders.{needs_in}
+use Rattle.cs_sets.specs.Orders.{needs_in}
 use Rattle.cs_plan.proofs.Listed.{length_families, length_prefixes_only}
 use Rattle.cs_plan.proofs.families.count_states.Goals as goal
 

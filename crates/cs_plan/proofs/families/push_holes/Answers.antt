@@ -1,6 +1,6 @@
 use Rattle.std.proofs.Common.{arith, ap, sym, ◌∙◌, length, ◌≡◌, ◌++◌}
 use Rattle.std.proofs.lemmas.List.{append-nil}
-use Rattle.cs_apm.specs.Orders.{needs_in}
+use Rattle.cs_sets.specs.Orders.{needs_in}
 use Rattle.cs_plan.specs.Plans.{holes_of, holes_at}
 use Rattle.cs_plan.proofs.Listed.{holes_more, push_after}
 use Rattle.cs_plan.proofs.families.push_holes.Goals as goal

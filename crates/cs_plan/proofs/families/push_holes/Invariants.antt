@@ -1,5 +1,5 @@
 use Rattle.std.proofs.Common.{◌≡◌, ◌++◌}
-use Rattle.cs_apm.specs.Orders.{needs_in}
+use Rattle.cs_sets.specs.Orders.{needs_in}
 use Rattle.cs_plan.specs.Plans.{holes_of}
 use Rattle.cs_plan.proofs.families.push_holes.Given as goal
 

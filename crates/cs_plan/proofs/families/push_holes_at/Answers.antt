@@ -1,5 +1,5 @@
 use Rattle.std.proofs.Common.{arith, ap, sym, ◌∙◌, ◌+◌, ◌≡◌, ◌++◌, ◌∷◌, []}
-use Rattle.cs_apm.specs.Orders.{needs_in}
+use Rattle.cs_sets.specs.Orders.{needs_in}
 use Rattle.cs_plan.specs.declared.recipe.Recipe.TheVariants.{Hole}
 use Rattle.cs_plan.proofs.Listed.{holes_below, below_more, below_same, push_after}
 use Rattle.cs_plan.proofs.families.push_holes_at.Goals.{then-is_kept+in_ok-push, else-is_kept}

@@ -1,5 +1,5 @@
 use Rattle.std.proofs.Common.{◌≡◌, ◌++◌}
-use Rattle.cs_apm.specs.Orders.{needs_in}
+use Rattle.cs_sets.specs.Orders.{needs_in}
 use Rattle.cs_plan.proofs.Listed.{holes_below}
 use Rattle.cs_plan.proofs.families.push_holes_at.Given as goal
 

@@ -1,5 +1,5 @@
 use Rattle.std.proofs.Common.{arith, ap, sym, ◌∙◌, ◌≡◌, ◌++◌, ◌∷◌, []}
-use Rattle.cs_apm.specs.Orders.{needs_in}
+use Rattle.cs_sets.specs.Orders.{needs_in}
 use Rattle.cs_plan.specs.Plans.{places_of_hole, is_kept}
 use Rattle.cs_plan.proofs.Listed.{kept_more, kept_same}
 use Rattle.cs_plan.proofs.members.hole_of.Goals.{then-is_kept+in_ok-push, else-is_kept}

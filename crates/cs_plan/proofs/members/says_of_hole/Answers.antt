@@ -1,5 +1,5 @@
 use Rattle.std.proofs.Common.{arith, ap, sym, ◌∙◌, ◌≡◌, true, false}
-use Rattle.cs_apm.specs.Orders.{needs_in}
+use Rattle.cs_sets.specs.Orders.{needs_in}
 use Rattle.cs_apm.specs.Rules.{op_at}
 use Rattle.cs_plan.specs.Plans.{places_of_hole, is_kept}
 use Rattle.cs_plan.specs.Scenes.{is_say, says_of}

@@ -1,5 +1,5 @@
 use Rattle.std.proofs.Common.{◌≡◌, ◌≤◌}
-use Rattle.cs_apm.specs.Orders.{needs_in}
+use Rattle.cs_sets.specs.Orders.{needs_in}
 use Rattle.cs_plan.specs.Plans.{places_of_hole}
 use Rattle.cs_plan.specs.Scenes.{says_of}
 use Rattle.cs_plan.proofs.members.says_of_hole.Given as goal

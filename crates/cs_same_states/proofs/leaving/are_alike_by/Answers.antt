@@ -1,4 +1,4 @@
-use Rattle.std.proofs.Common.{ℕ, ◌<◌, arith, below_more, get_or}
+use Rattle.std.proofs.Common.{arith, below_more, get_or}
 use Rattle.cs_apm.specs.Rules.{op_at}
 use Rattle.cs_same_states.specs.Parts.{IsAlikeBy}
 use Rattle.cs_same_states.proofs.leaving.are_alike_by.Goals as goal

@@ -1,4 +1,4 @@
-use Rattle.std.proofs.Common.{◌≡◌, ◌+◌, ◌<◌, sym, ap, ◌∙◌, arith, length}
+use Rattle.std.proofs.Common.{◌+◌, ◌<◌, sym, ap, ◌∙◌, arith, length}
 use Rattle.std.specs.Cmp.Lexicographic.{same_text}
 use Rattle.cs_apm.specs.Contents.{content_left}
 use Rattle.cs_apm.specs.States.{Content}

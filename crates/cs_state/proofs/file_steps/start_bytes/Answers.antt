@@ -1,12 +1,11 @@
-use Rattle.std.proofs.Common.{◌≡◌, ◌<◌, List, [], ℕ, Option, None, Some, Bor, refl, sym, ap, ◌∙◌, subst, arith, length, get_or}
+use Rattle.std.proofs.Common.{◌≡◌, ◌-◌, ◌<◌, List, [], ℕ, Option, None, Some, Bor, refl, sym, ap, ◌∙◌, subst, arith, length, get_or}
 use Rattle.std.proofs.lemmas.List.{get_or_read}
 use Rattle.std.specs.Option.{option_copied, unwrap_or}
 use Rattle.cs_tree_model.specs.declared.record.Record.{Record}
 use Rattle.cs_tree_model.specs.Tree.{Path}
-use Rattle.cs_apm.specs.Atlases.{no_record}
-use Rattle.cs_apm.specs.States.{bytes_of}
+use Rattle.cs_apm.specs.States.{bytes_of, files_made, no_content, no_record}
 use Rattle.cs_apm.proofs.Fields.{read_at}
-use Rattle.cs_state.proofs.Filing.{made_bytes, start_bytes}
+use Rattle.cs_state.proofs.Filing.{bytes_made_later, start_bytes}
 use Rattle.cs_state.proofs.file_steps.start_bytes.Goals as goal
 
 -- what is lent, or nothing
@@ -17,10 +16,14 @@ lent_or (Some b) r d content is none same = ap (λ (v : Bor (List ℕ)). v.now) 
 
 pub returns-then-file-len : goal.returns-then-file-len
 returns-then-file-len c =
-    let tables = c.args.tables.now in
-    let long : c.len.result ≡ length tables.starts.items = c.len.ensures ∙ tables.starts.ok.0 in
+    let starts = c.args.tables.now.starts.items in
+    let ops = c.args.ops.now in
+    let long : c.len.result ≡ length starts = c.len.ensures ∙ c.args.tables.now.starts.ok.0 in
+    let long_here : c.len-then-file-len.result ≡ length starts = c.len-then-file-len.ensures ∙ c.args.tables.now.starts.ok.0 in
     let high = c.if-file-len.true in
-    made_bytes c.args.trace.now c.args._ops.now tables.starts.items c.requires c.args.file (omega (arith, long, high))
+    c.made_bytes.ensures
+    ∙ ap (λ n. (get_or (files_made ops) (c.args.file - n) no_content).bytes) long_here
+    ∙ bytes_made_later c.args.trace.now ops starts c.requires.starts c.args.file (omega (arith, long, high))
 
 pub returns : goal.returns
 returns c =
@@ -34,7 +37,7 @@ returns c =
     let records = c.records.ensures.value in
     let inside : c.index.result.now < length c.records.result.now =
     subst (λ (es : List (Path × Record)). c.index.result.now < length es) (sym records)
-    (subst (λ n. n < length trace.records) (sym place) (c.requires.each c.args.file low)) in
+    (subst (λ n. n < length trace.records) (sym place) (c.requires.starts.each c.args.file low)) in
     let content = c.content-content.result.now in
     let read =
     read_at (λ (e : Path × Record). e.1.content) c.records.result.now c.index.result.now no_record content inside
@@ -42,4 +45,4 @@ returns c =
     lent_or c.bytes.result c.unwrap_or.result _ _ c.unwrap_or.ensures refl c.bytes.ensures
     ∙ ap (λ v. unwrap_or v []) (sym read)
     ∙ (λ i. bytes_of (get_or (records i) (place i) no_record).1)
-    ∙ start_bytes trace c.args._ops.now starts c.requires c.args.file low
+    ∙ start_bytes trace c.args.ops.now starts c.requires.starts c.args.file low

@@ -3,7 +3,7 @@ use Rattle.std.proofs.Math.Seq.{get_or-append_seam}
 use Rattle.std.proofs.lemmas.List.{get_or_append_left}
 use Rattle.cs_state.specs.Numbers.{kept_at}
 use Rattle.cs_state.specs.Shares.{numbers_that_pass, is_in_every_state}
-use Rattle.cs_state.proofs.Listing.{count_more}
+use Rattle.cs_paths.proofs.Listing.{count_more}
 use Rattle.cs_state.proofs.marks.kept_below.Goals as goal
 use borrow.Author.Count.{below_more}
 
@@ -20,8 +20,8 @@ loop-id-preserved c =
     let pushed = c.in_ok-push.ensures.items in
     let long = c.loop-id.invariant.long in
     record {
-      count = c.count_if-count.ensures ∙ (λ i. c.loop-id.invariant.count i + cond (c.is_kept_path.ensures i) 1 0) ∙ sym (count_more f id);
-      few = (let e = c.count_if-count.ensures in let one = one_at_most c.is_kept_path.result count in let few = c.loop-id.invariant.few in
+      count = c.count_if-count.ensures ∙ (λ i. c.loop-id.invariant.count i + cond (c.is_kept_id.ensures i) 1 0) ∙ sym (count_more f id);
+      few = (let e = c.count_if-count.ensures in let one = one_at_most c.is_kept_id.result count in let few = c.loop-id.invariant.few in
           omega (arith, e, one, few));
       long = ap length pushed ∙ length-append counts (count ∷ []) ∙ ap (λ n. n + 1) long;
       each = below_more (λ k. kept_at c.push.new.self.items k ≡ length (numbers_that_pass f k)) id

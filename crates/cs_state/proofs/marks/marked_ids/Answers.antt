@@ -1,6 +1,6 @@
 use Rattle.std.proofs.Common.{[], ◌∷◌, ◌++◌, cond, sym, ap, ◌∙◌}
 use Rattle.cs_state.specs.Shares.{mark_at}
-use Rattle.cs_state.proofs.Listing.{one_more}
+use Rattle.cs_paths.proofs.Listing.{one_more}
 use Rattle.cs_state.proofs.marks.marked_ids.Goals as goal
 
 pub loop-id-preserved : goal.loop-id-preserved

@@ -1,6 +1,6 @@
 use Rattle.std.proofs.Common.{◌-◌, ap, ◌∙◌, arith, get_or}
 use Rattle.std.proofs.lemmas.List.{get_or_read}
-use Rattle.cs_trace.specs.declared.operation.Rights.{Rights}
+use Rattle.cs_start.specs.declared.rights.Rights.{Rights}
 use Rattle.cs_micro.specs.declared.micro_op.MicroOp.TheVariants.{Say}
 use Rattle.cs_apm.specs.Owners.{owner_after, owner_left}
 use Rattle.cs_state.specs.Owners.{sets_rights}

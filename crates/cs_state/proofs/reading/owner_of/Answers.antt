@@ -9,13 +9,13 @@ use Rattle.cs_state.proofs.reading.owner_of.Goals as goal
 
 pub owner_after_members-requires-clause-places : goal.owner_after_members-requires-clause-places
 owner_after_members-requires-clause-places c =
-    c.row-steps.ensures ∙ c.requires.parts.owner_steps c.args.file ∙ ap (λ os. rights_places os c.args.file) (sym c.ops.ensures.value)
+    c.row-steps.ensures ∙ c.requires.parts.owner_steps.files c.args.file ∙ ap (λ os. rights_places os c.args.file) (sym c.ops.ensures.value)
 
 pub owner_after_members-requires-clause-first : goal.owner_after_members-requires-clause-first
 owner_after_members-requires-clause-first c =
     first_under c.args.parts.now.micros (length c.args.parts.now.micros.ops) c.args.members.now c.requires.set.allowed
     (sets_rights c.args.file) (owner_needed c.args.parts.now.micros c.args.file) c.row-steps.result.now
-    (c.row-steps.ensures ∙ c.requires.parts.owner_steps c.args.file)
+    (c.row-steps.ensures ∙ c.requires.parts.owner_steps.files c.args.file)
 
 pub returns : goal.returns
 returns c =

@@ -4,9 +4,10 @@ use Rattle.std.proofs.lemmas.List.FromFn.{length-enumerate_from}
 use Rattle.std.proofs.lemmas.Iterator.Splits.{YieldsList-from_str_split}
 use Rattle.std.proofs.lemmas.Iterator.Consumers.{YieldsList-at, YieldsList-from_enumerate, YieldsList-turn, YieldsList-end}
 use Rattle.cs_trace.specs.Kept.{state_of}
-use Rattle.cs_trace.specs.States.{State, lines_in, state_in}
+use Rattle.cs_trace.specs.State.{State}
+use Rattle.cs_trace.specs.States.{lines_in, state_in}
 use Rattle.cs_trace.proofs.LineByLine.{ends, goes_on, stops, turn, MayWant-line}
-use Rattle.cs_trace.proofs.SoundSteps.{bounded}
+use Rattle.cs_trace.proofs.SoundAll.{bounded}
 use Rattle.cs_trace.proofs.lines.state_after_lines.Goals as goal
 
 read_before : (lines : List (List ℕ)) (done i : ℕ) (m : State) → done ≡ i → state_in (take done lines) ≡ Ok m

@@ -1,9 +1,8 @@
-use Rattle.std.proofs.Common.{◌≡◌, ◌+◌, [], ◌∷◌, ◌++◌, refl, ap, ◌∙◌}
-use Rattle.std.specs.FinMap as map
-use Rattle.cs_trace.specs.Entries.{node_of}
+use Rattle.std.proofs.Common.{[], ◌∷◌, ◌++◌, refl, sym, ap, ◌∙◌}
+use Rattle.std.proofs.lemmas.Slice.{pushed}
+use Rattle.cs_start.specs.Owned.{own_paths}
 use Rattle.cs_trace.specs.Kept.{state_of}
-use Rattle.cs_trace.specs.Owned.{own_paths}
-use Rattle.cs_trace.proofs.Starting.{put-link}
+use Rattle.cs_trace.proofs.StartNext.{files_kept, link_state, put_held}
 use Rattle.cs_trace.proofs.put_start.put_link.Goals as goal
 
 pub returns : goal.returns
@@ -11,20 +10,14 @@ returns c =
     let s = state_of c.args.state.now in
     let p = c.args.path in
     let e = c.args.entry in
+    let file = c.args.file in
     let count = c.args.state.now.file_count in
-    let links : c.push.new.self.items ≡ s.links ++ (p, e.number) ∷ [] =
-    c.in_ok-push.ensures.items ∙ ap (λ q. s.links ++ (q, e.number) ∷ []) c.in_ok-try_clone.ensures in
-    (λ i. record s {
-      start = (c.in_ok-insert_start.ensures.state i).start;
-      files = own_paths (c.in_ok-insert_start.ensures.state i).start count;
-      links = links i;
-      paths = (c.in_ok-insert_start.ensures.state i).nodes;
-      made = s.made + 1;
-    })
-    ∙ (λ i. record s {
-      start = map.insert s.start p e;
-      files = put-link s count refl c.requires.starting p e c.requires.free c.requires.further i;
-      links = s.links ++ (p, e.number) ∷ [];
-      paths = map.insert s.paths p (node_of e);
-      made = s.made + 1;
-    })
+    let links = c.args.state.now.links.items in
+    let start = c.in_ok-insert.ensures.state in
+    link_state s p e file _ _ _ _ _ start
+    (ap (λ m. own_paths m count) start ∙ files_kept s p e count refl c.requires.absent c.requires.further)
+    (pushed ((c.in_ok-try_clone.field-0, file) ∷ []) refl c.in_ok-push.was c.push.ensures.items
+    ∙ ap (λ q. links ++ (q, file) ∷ []) c.in_ok-try_clone.ensures)
+    (c.in_ok-put_named.ensures.state
+    ∙ put_held s p c.args.directory c.last_name-name.result.now c.requires.named c.requires.above (sym c.last_name-name.ensures) e.node)
+    refl

@@ -3,13 +3,13 @@ use Rattle.std.proofs.lemmas.List.Splits.{length-slice_split}
 use Rattle.std.proofs.lemmas.Result.{err_from_is_err_and}
 use Rattle.std.specs.Result.{is_ok}
 use Rattle.cs_trace.specs.Judging.{and_then}
-use Rattle.cs_trace.specs.States.{State, lines_in, state_in}
+use Rattle.cs_trace.specs.State.{State}
+use Rattle.cs_trace.specs.States.{lines_in, state_in}
 use Rattle.cs_trace.specs.Traces.{MayWant, trace_by, trace_in, trace_of, trace_of_state}
 use Rattle.cs_trace.specs.declared.fault.TraceFaultKind.TheVariants.{Syntax}
 use Rattle.cs_trace.proofs.FirstFaults.{first_of, no_header_of}
 use Rattle.cs_trace.proofs.LineByLine.{MayWant-last}
-use Rattle.cs_trace.proofs.SoundSteps.{sound-state_in}
-use Rattle.cs_trace.proofs.Whole.{whole_is}
+use Rattle.cs_trace.proofs.SoundAll.{trace_whole}
 use Rattle.cs_trace.proofs.trace.read_trace.Goals as goal
 
 module _ (lines : List (List ℕ)) (s : State) (read : state_in lines ≡ Ok s) where
@@ -43,9 +43,6 @@ pub returns-then-state-eq0-clause-fault : goal.returns-then-state-eq0-clause-fau
 unfolding trace_in
 returns-then-state-eq0-clause-fault c = λ _. no_header (lines_in c.args.text.now) _ c.in_ok-state.ensures.done c.if-state-eq0.true
 
-pub trace_of_state-requires : goal.trace_of_state-requires
-trace_of_state-requires c = whole_is _ (sound-state_in (lines_in c.args.text.now) _ c.in_ok-state.ensures.done) c.if-state-eq0.false
-
 pub returns-in_default-clause-memory : goal.returns-in_default-clause-memory
 returns-in_default-clause-memory c = λ _.
     let lines = lines_in c.args.text.now in
@@ -55,3 +52,6 @@ returns-in_default-clause-memory c = λ _.
 pub returns-clause-done : goal.returns-clause-done
 unfolding trace_in
 returns-clause-done c = a_trace (lines_in c.args.text.now) _ c.in_ok-state.ensures.done c.if-state-eq0.false ∙ ap Ok (sym c.in-Ok.ensures)
+
+pub trace_of_state-requires : goal.trace_of_state-requires
+trace_of_state-requires c = trace_whole (lines_in c.args.text.now) _ c.in_ok-state.ensures.done c.if-state-eq0.false

@@ -1,6 +1,6 @@
 use Rattle.std.proofs.Common.{subst, sym, length}
 use Rattle.std.specs.List.{All}
-use Rattle.cs_apm.specs.Orders.{needs_in}
+use Rattle.cs_sets.specs.Orders.{needs_in}
 use Rattle.cs_plan.specs.Plans.{IsAllowedIn, IsWithin, set_in}
 use Rattle.cs_plan.proofs.Permitted.{all_good, all_within}
 use Rattle.cs_plan.proofs.plan.Plan.make.Goals as goal

@@ -9,7 +9,7 @@ use Rattle.cs_apm.specs.Rules.{op_at}
 use Rattle.cs_state.specs.Shares.{numbers_that_pass}
 use Rattle.cs_state.specs.Steps.{places_reaching, HasRow}
 use Rattle.cs_state.proofs.Pages.{rows_are}
-use Rattle.cs_state.proofs.Listing.{ids_are}
+use Rattle.cs_paths.proofs.Listing.{ids_are}
 use Rattle.cs_state.proofs.file_steps.FileSteps.of.Goals as goal
 
 places_inside : (n : ℕ) (ops : List MicroOp) (places : List ℕ) → places ≡ numbers_that_pass (λ k. changes_file n (op_at ops k)) (length ops)

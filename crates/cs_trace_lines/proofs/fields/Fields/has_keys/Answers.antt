@@ -31,7 +31,7 @@ returns-then-not-self c =
     let s = c.args.self.now in
     let fields : List (Option Field) =
     s.profile ∷ s.block ∷ s.start ∷ s.op ∷ s.path ∷ s.from ∷ s.to ∷ s.owner ∷ s.group ∷ s.mode ∷ s.bytes ∷ s.offset ∷ s.length
-    ∷ s.text ∷ [] in
+    ∷ s.text ∷ s.target ∷ s.parts ∷ s.at ∷ [] in
     let summed : _ ≡ sum_from (from_bool (is_some s.trace)) fields =
     λ i. one c.from.ensures c.is_some.ensures i + one c.from-2.ensures c.is_some-2.ensures i
     + one c.from-3.ensures c.is_some-3.ensures i + one c.from-4.ensures c.is_some-4.ensures i
@@ -40,7 +40,8 @@ returns-then-not-self c =
     + one c.from-9.ensures c.is_some-9.ensures i + one c.from-10.ensures c.is_some-10.ensures i
     + one c.from-11.ensures c.is_some-11.ensures i + one c.from-12.ensures c.is_some-12.ensures i
     + one c.from-13.ensures c.is_some-13.ensures i + one c.from-14.ensures c.is_some-14.ensures i
-    + one c.from-15.ensures c.is_some-15.ensures i in
+    + one c.from-15.ensures c.is_some-15.ensures i + one c.from-16.ensures c.is_some-16.ensures i
+    + one c.from-17.ensures c.is_some-17.ensures i + one c.from-18.ensures c.is_some-18.ensures i in
     let known : s.has_others ≡ false = search rules in
     ap (λ n. n == c.args.count) (summed ∙ all_present s.trace fields) ∙ ap
     (λ b. not b && (saying (s.trace ∷ fields) == c.args.count)) (sym known)

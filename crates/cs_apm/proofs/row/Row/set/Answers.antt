@@ -1,8 +1,0 @@
-use Rattle.std.proofs.Common.{rules}
-use Rattle.cs_apm.specs.Bits.{has_place}
-use Rattle.cs_apm.proofs.Words.{set_bit}
-use Rattle.cs_apm.proofs.row.Row.set.Goals as goal
-
-pub returns : goal.returns
-unfolding has_place
-returns c = λ k. set_bit c.args.self.now.words c.args.place k (search rules) c.requires

@@ -1,0 +1,3 @@
+pub mod Rules
+pub mod States
+pub mod Same

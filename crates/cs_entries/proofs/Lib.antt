@@ -1,0 +1,4 @@
+pub mod Changed
+pub mod Nothing
+pub mod Results
+pub mod Tables

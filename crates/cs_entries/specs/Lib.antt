@@ -1,0 +1,11 @@
+pub mod Entries
+pub mod Nodes
+pub mod Legal
+pub mod Rules
+pub mod Sets
+pub mod Paths
+pub mod Tables
+pub mod Directories
+pub mod DirEntries
+pub mod Positions
+pub mod Laws

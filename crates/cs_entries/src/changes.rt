@@ -1,0 +1,64 @@
+//! Changes of what entries hold.
+ghost use Rattle.std.specs.Prelude.{◌≡◌, ◌<◌, IfOk, None, OnErr, OnOk, Some, length};
+ghost use Rattle.cs_entries.specs.Directories.{entries_in};
+ghost use Rattle.cs_entries.specs.Entries.{Entry, put};
+ghost use Rattle.cs_entries.specs.Paths.{entry_in};
+ghost use Rattle.std.specs.String.{string_bytes};
+
+use crate::node::Node;
+use std::alloc::{AllocError, Global};
+use std::collections::BTreeMap;
+
+/// Adds maps without an entry until there is one for the directory of the number. A failed
+/// allocation leaves some of them, which hold nothing.
+pub(crate) fn grow(
+    alloc: Global,
+    directories: &mut Vec<BTreeMap<String, Node>>,
+    directory: u32,
+) -> Result<(), AllocError>
+    ensures enough { OnOk result (directory < length directories.new.items) }
+    ensures same { (e : Entry) → entries_in directories.new.items e
+        ≡ entries_in directories.old.items e }
+{
+    'maps: while directories.len() <= directory as usize {
+        directories.push(BTreeMap::new(alloc))?;
+    }
+    Ok(())
+}
+
+/// Puts a node under the name in the directory of the number, and returns what the entry held. A
+/// failed allocation leaves everything as it was.
+pub(crate) fn hold(
+    directories: &mut [BTreeMap<String, Node>],
+    directory: u32,
+    name: String,
+    node: Node,
+) -> Result<Option<Node>, AllocError>
+    requires { directory < length directories.old }
+    ensures before { IfOk result (λ before. before
+        ≡ entries_in directories.old (entry_in directory (string_bytes name))) }
+    ensures ok { OnOk result ((e : Entry) → entries_in directories.new e
+        ≡ put (entries_in directories.old) (entry_in directory (string_bytes name)) (Some node) e) }
+    ensures err { OnErr result ((e : Entry) → entries_in directories.new e
+        ≡ entries_in directories.old e) }
+{
+    let before = directories[directory as usize].insert(name, node)?;
+    Ok(before)
+}
+
+/// Takes away what the entry of the name holds in the directory of the number, and returns it. It
+/// takes no memory.
+pub(crate) fn release(
+    directories: &mut [BTreeMap<String, Node>],
+    directory: u32,
+    name: &str,
+) -> Option<Node>
+    ensures before { result ≡ entries_in directories.old (entry_in directory name.now) }
+    ensures state { (e : Entry) → entries_in directories.new e
+        ≡ put (entries_in directories.old) (entry_in directory name.now) None e }
+{
+    if directories.len() <= directory as usize {
+        return None;
+    }
+    directories[directory as usize].remove(name)
+}

@@ -1,0 +1,11 @@
+pub mod Listing
+pub mod Counted
+pub mod Keeping
+pub mod Homes
+pub mod Placed
+pub mod Steps
+pub mod Tabled
+pub mod Sorted
+pub mod Climbs
+pub mod Orders
+pub mod Laws

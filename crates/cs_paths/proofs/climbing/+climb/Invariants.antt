@@ -1,0 +1,4 @@
+use Rattle.cs_paths.proofs.climbing.+climb.Given as goal
+
+abbrev pub decreases-climb : goal.decreases-climb
+decreases-climb l = l.deep

@@ -1,0 +1,2 @@
+//! Orders of paths of small traces.
+mod moved;

@@ -1,0 +1,11 @@
+pub mod Around
+pub mod Beneath
+pub mod InDirectory
+pub mod Named
+pub mod Numbered
+pub mod Owned
+pub mod Paths
+pub mod Recorded
+pub mod Spelling
+pub mod Unions
+pub mod Views

@@ -1,0 +1,3 @@
+//! States against plain stores of their sets.
+mod compared;
+mod moved;

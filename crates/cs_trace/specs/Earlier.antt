@@ -1,0 +1,14 @@
+pub mod Attributes
+pub mod Below
+pub mod Covers
+pub mod Entries
+pub mod Judging
+pub mod Names
+pub mod Node
+pub mod Operation
+pub mod Operations
+pub mod StartEntry
+pub mod States
+pub mod Target
+pub mod Traces
+pub mod Same

@@ -1,0 +1,20 @@
+//! The limits of a trace that depend on its version.
+ghost use Rattle.std.specs.Prelude.{◌≡◌};
+ghost use Rattle.cs_trace.specs.Limits.{most_bytes};
+
+use cs_names::limits::FILE_BYTES;
+use cs_trace_lines::Version;
+
+/// Bytes of a file in a trace of the fourth version.
+pub const LARGE_FILE_BYTES: u64 = 1_073_741_824;
+
+/// The greatest size of a file in a trace of this version.
+pub fn most_bytes(version: Version) -> u64
+    ensures { result ≡ most_bytes version }
+{
+    if version.is_fourth() {
+        LARGE_FILE_BYTES
+    } else {
+        FILE_BYTES
+    }
+}

@@ -1,0 +1,5 @@
+pub mod Fields
+pub mod Lines
+pub mod StartKind
+pub mod Verb
+pub mod Version
