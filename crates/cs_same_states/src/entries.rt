@@ -71,11 +71,7 @@ fn is_changed(changed: &Changed, node: Node) -> bool {
 /// path if it is in the root, or in a directory whose own entry isn't touched and stays. Entries
 /// are in the order of their directories' numbers, and those of the start are numbered from above:
 /// so a directory's own entry comes before those in it. If it didn't, they would count as varying.
-fn untouched_places(
-    alloc: Global,
-    parts: &Parts,
-    ops: &[MicroOp],
-) -> Result<Vec<u32>, AllocError> {
+fn untouched_places(alloc: Global, parts: &Parts, ops: &[MicroOp]) -> Result<Vec<u32>, AllocError> {
     let changed = changed_by(alloc, parts, ops)?;
     let mut touched = vec![in alloc; false; parts.tables.entries.len()]?;
     for place in &parts.touched.ids {
@@ -164,11 +160,7 @@ fn touched_left(
 
 impl VaryingEntries {
     /// The entries at which the states of the trace with these parts and micro-operations differ.
-    pub fn of(
-        alloc: Global,
-        parts: &Parts,
-        ops: &[MicroOp],
-    ) -> Result<VaryingEntries, AllocError> {
+    pub fn of(alloc: Global, parts: &Parts, ops: &[MicroOp]) -> Result<VaryingEntries, AllocError> {
         let mut names = Vec::new(alloc);
         for entry in &parts.tables.entries {
             names.push(digest_of_bytes(entry.name.as_bytes()))?;
@@ -198,7 +190,13 @@ impl VaryingEntries {
             }
         }
         for place in &self.untouched {
-            if let Some(node) = parts.tables.slots.get(*place as usize).copied().unwrap_or(None) {
+            if let Some(node) = parts
+                .tables
+                .slots
+                .get(*place as usize)
+                .copied()
+                .unwrap_or(None)
+            {
                 held.push((*place, node))?;
             }
         }

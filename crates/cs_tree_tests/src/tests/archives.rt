@@ -50,8 +50,12 @@ fn zeros_take_no_room(rt: HostRuntime) {
     let alloc = rt.alloc();
     let zeros = holey(&rt, alloc, 65_536, &[]);
     let archive = archive_of(&rt, alloc, 0o644, zeros, true);
-    assert_eq!(rt; (archive.len(), archive[156], archive[1_024 + 156]), (2_048, b'x', b'0'));
-    let records = "22 GNU.sparse.major=1\n22 GNU.sparse.minor=0\n21 GNU.sparse.name=f\n29 GNU.sparse.realsize=65536\n";
+    assert_eq!(rt;
+        (archive.len(), archive[156], archive[1_024 + 156]),
+        (2_048, b'x', b'0')
+    );
+    let records = "22 GNU.sparse.major=1\n22 GNU.sparse.minor=0\n\
+        21 GNU.sparse.name=f\n29 GNU.sparse.realsize=65536\n";
     assert_eq!(rt; &archive[512..512 + records.len()], records.as_bytes());
     assert_eq!(rt; &archive[1_024..1_041], b"GNUSparseFile.0/f".as_slice());
     assert_eq!(rt; &archive[1_536..1_547], b"1\n65536\n0\n\0".as_slice());
@@ -65,7 +69,10 @@ fn pieces_are_the_runs_of_other_pages(rt: HostRuntime) {
     let bytes = holey(&rt, alloc, 70_000, &[0, 4_095, 4_096, 69_999]);
     let archive = archive_of(&rt, alloc, 0o644, bytes, true);
     assert_eq!(rt; archive.len(), 2_048 + 8_192 + 368 + 144);
-    assert_eq!(rt; &archive[1_536..1_557], b"2\n0\n8192\n69632\n368\n\0\0".as_slice());
+    assert_eq!(rt;
+        &archive[1_536..1_557],
+        b"2\n0\n8192\n69632\n368\n\0\0".as_slice()
+    );
     let places = [0, 4_095, 4_096, 8_192 + 367];
     for (place, byte) in archive[2_048..].iter().enumerate() {
         assert!(rt; (*byte == b'x') == places.contains(&place), "{place}");
@@ -82,7 +89,9 @@ fn small_and_full_files_are_whole(rt: HostRuntime) {
     let half = [0, 8_192, 16_384, 24_576, 32_768, 40_960, 49_152, 57_344];
     let parted = archive_of(&rt, alloc, 0o644, holey(&rt, alloc, 65_536, &half), true);
     assert_eq!(rt; parted.len(), 2_048 + 8 * 4_096);
-    let more = [0, 4_096, 8_192, 16_384, 24_576, 32_768, 40_960, 49_152, 57_344];
+    let more = [
+        0, 4_096, 8_192, 16_384, 24_576, 32_768, 40_960, 49_152, 57_344,
+    ];
     let full = archive_of(&rt, alloc, 0o644, holey(&rt, alloc, 65_536, &more), true);
     assert_eq!(rt; full.len(), 512 + 65_536);
     let plain = archive_of(&rt, alloc, 0o644, holey(&rt, alloc, 65_536, &[]), false);
