@@ -136,7 +136,8 @@ module _ (p : Pair) (found : List ℕ) (are : AreDiffering p.places.now p.others
 
   -- a directory that each of them leaves alike is left alike
   pub directory_settled : (n : ℕ)
-      → ((k : ℕ) → k < length found → directory_set (op_at p.ops.now (get_or found k 0)) ≡ Some n → first_directory p n ≡ second_directory p n)
+      → ((k : ℕ) → k < length found → directory_set (op_at p.ops.now (get_or found k 0)) ≡ Some n
+      → first_directory p n ≡ second_directory p n)
       → first_directory p n ≡ second_directory p n
   directory_settled n settled = split (first_directory p n ≡ second_directory p n) (sets_directory n)
       (λ k low is. settled k low (sets_directory_its n (op_at p.ops.now (get_or found k 0)) is))

@@ -20,7 +20,7 @@ pub struct Span {
 }
 
 /// The file whose size, bytes, owner, group or permissions the micro-operation changes; None if it
-/// changes no file. `file_changed` of cs_picks has the same cases: change both.
+/// changes no file.
 pub fn changed_file(op: &MicroOp) -> Option<u32>
     ensures { result ≡ reaching.changed_file op.now }
 {

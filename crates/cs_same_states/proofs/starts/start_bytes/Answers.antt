@@ -22,7 +22,8 @@ returns-then-file-len c =
     let high = c.if-file-len.true in
     let same = c.len-then-file-len.ensures ∙ c.args.tables.now.starts.ok.0 in
     made_before c.args.trace.now c.args.ops.now starts c.requires.starts c.args.file (whole_content c.made_bytes.result.now)
-    (omega (arith, long, high)) (c.made_bytes.ensures ∙ ap (λ (k : ℕ). get_or (files_made c.args.ops.now) (c.args.file - k) no_content) same)
+    (omega (arith, long, high))
+    (c.made_bytes.ensures ∙ ap (λ (k : ℕ). get_or (files_made c.args.ops.now) (c.args.file - k) no_content) same)
 
 pub returns : goal.returns
 returns c =
