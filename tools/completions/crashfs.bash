@@ -19,7 +19,8 @@ _crashfs() {
                             --trace' ;;
                     tar)
                         words='
-                            -h --help --changes --state --states --holes --picks --trace' ;;
+                            -h --help --changes --sparse --state --states --holes --picks
+                            --trace' ;;
                     picks)
                         words='
                             -h --help --lost --files --sample --seed --every --different --count

@@ -12,6 +12,7 @@ complete -c crashfs -n '__fish_seen_subcommand_from list' -l picks -r -d 'Adds t
 complete -c crashfs -n '__fish_seen_subcommand_from list' -l trace -r -d 'The same as TRACE'
 complete -c crashfs -n __fish_use_subcommand -a tar -d 'Writes the files of crash states as a tar archive'
 complete -c crashfs -n '__fish_seen_subcommand_from tar' -l changes -d 'Only what differs from the start tree: new and changed files below N/, and a file N.missing of the paths that are gone, each with a NUL after it'
+complete -c crashfs -n '__fish_seen_subcommand_from tar' -l sparse -d 'Write files of at least 65,536 bytes, half of whose pages are zeros, without the zeros'
 complete -c crashfs -n '__fish_seen_subcommand_from tar' -l state -r -d 'The state of that number'
 complete -c crashfs -n '__fish_seen_subcommand_from tar' -l states -r -d 'The states of a list, as 3,7-9, each below a directory of its number'
 complete -c crashfs -n '__fish_seen_subcommand_from tar' -l holes -d 'Adds the states of prefixes with a hole'

@@ -31,6 +31,7 @@ else
             _arguments \
                 '(-h --help)'{-h,--help}'[Prints the help]' \
                 '--changes[Only what differs from the start tree\: new and changed files below N/, and a file N.missing of the paths that are gone, each with a NUL after it]' \
+                '--sparse[Write files of at least 65,536 bytes, half of whose pages are zeros, without the zeros]' \
                 '--state[The state of that number]:N:_files' \
                 '--states[The states of a list, as 3,7-9, each below a directory of its number]:LIST:_files' \
                 '--holes[Adds the states of prefixes with a hole]' \
