@@ -136,5 +136,6 @@ fn a_file_that_is_written_back_is_the_same_where_it_was(rt: HostRuntime) {
         r#"{"op":"rename","from":"/w","to":"/v"}"#,
     ];
     let scene = digests_find_all(&rt, rt.alloc(), &lines);
+    assert!(rt; scene.plan().len() > 2);
     expect_seen(&rt, rt.alloc(), &scene, 0, 2, true);
 }
