@@ -45,18 +45,17 @@ def json_listing(plan: StateList) -> Iterator[str]:
             }
         )
     first: Dict[Digest, int] = {}
-    # So far the program prints no profiles.
-    profiles = Profiles(plan.reading) if plan.reading.version >= 4 else None
+    profiles = Profiles(plan.reading)
     for number, (text, places) in enumerate(plan.states):
-        fields: Dict[str, Any] = {
-            'state': number,
-            **state_fields(text),
-            'says': plan.trees.count_says(places),
-            'same': first.setdefault(plan.trees.digest(places), number),
-        }
-        if profiles is not None:
-            fields['profiles'] = profiles.names(places)
-        yield as_line(fields)
+        yield as_line(
+            {
+                'state': number,
+                **state_fields(text),
+                'says': plan.trees.count_says(places),
+                'same': first.setdefault(plan.trees.digest(places), number),
+                'profiles': profiles.names(places),
+            }
+        )
 
 
 def state_fields(text: str) -> Dict[str, Any]:
