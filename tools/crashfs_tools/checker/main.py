@@ -75,7 +75,12 @@ def refuse_outputs(options: Options) -> None:
 
 def outputs_of(options: Options) -> Dict[str, str]:
     """The paths of the files that are written, by their options."""
-    outputs = {'--json': options.json, '--junit': options.junit, '--html': options.html}
+    outputs = {
+        '--json': options.json,
+        '--junit': options.junit,
+        '--tap': options.tap,
+        '--html': options.html,
+    }
     return {name: path for name, path in outputs.items() if path is not None}
 
 
@@ -109,6 +114,8 @@ def write_files(options: Options, report: Report) -> None:
         report.write_json(options.json)
     if options.junit is not None:
         report.write_junit(options.junit)
+    if options.tap is not None:
+        report.write_tap(options.tap)
     if options.html is not None:
         report.write_html(options.html)
 

@@ -170,9 +170,13 @@ class CheckReport:
         second = any(group.accepted is None for group, _ in self.recovery_groups())
         if failing or further or second:
             return SOME_FAIL
+        return NONE_FAILS if self.is_whole else NOT_ALL_TRIED
+
+    @property
+    def is_whole(self) -> bool:
+        """Whether all was tried that should have been."""
         is_whole = not self.counts.left and not self.head.stopped
-        is_whole = is_whole and not any(one.fault for one in self.recoveries)
-        return NONE_FAILS if is_whole else NOT_ALL_TRIED
+        return is_whole and not any(one.fault for one in self.recoveries)
 
 
 def rows_of(findings: Findings) -> List[StateRow]:

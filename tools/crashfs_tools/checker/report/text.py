@@ -34,7 +34,7 @@ HOW_TO_BUILD = ' (tools/build builds crashfs)'
 
 
 class ReportText:
-    """The lines of a report, and those of its parts for the page and for JUnit."""
+    """The lines of a report, and those of its parts for the page, for JUnit and for TAP."""
 
     def __init__(self, report: CheckReport) -> None:
         self.report = report
@@ -164,12 +164,15 @@ class ReportText:
             )
         for group, where in self.report.recovery_groups():
             lines += self.group_lines(group, where)
-        lines += [
+        return lines + self.not_tried_lines()
+
+    def not_tried_lines(self) -> List[str]:
+        """The recoveries in which no second crash was tried, each with the reason."""
+        return [
             f'  the recovery of state {one.state} was not tried: {one.fault}'
             for one in self.report.recoveries
             if one.fault
         ]
-        return lines
 
     def disk_lines(self) -> List[str]:
         """What was seen on real disks, and the failures there that no tried state has."""
@@ -190,8 +193,13 @@ class ReportText:
         lines = [f'  {cause:<{CAUSE_WIDTH}} {states}']
         if second is None:
             return lines + folded(self.details(group), '    ')
+        return lines + folded(self.second_crash_details(group, second), '    ')
+
+    @staticmethod
+    def second_crash_details(group: Group, second: SecondCrash) -> List[str]:
+        """The lines below the cause of an entry of second crashes."""
         crashes = f'state {second.state}, then a crash {second.place}'
-        return lines + folded([crashes, *group.advice.lines()], '    ')
+        return [crashes, *group.advice.lines()]
 
     def sentences(self, group: Group) -> List[str]:
         """Which lines of the trace an entry is about, without what to do."""
