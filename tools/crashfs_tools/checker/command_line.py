@@ -5,8 +5,7 @@ from __future__ import annotations
 import argparse
 from typing import Dict, List, Optional, Tuple
 
-from crashfs_tools.common.command import parse_command_line
-from crashfs_tools.common.version import version_text
+from crashfs_tools.common.command import parse_command_line, version_text
 
 from .address import Address
 from .options import MOST_JOBS, MOST_STATES, NAME, TIMEOUT, Options, Shard, processors
