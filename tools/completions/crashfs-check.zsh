@@ -21,6 +21,7 @@ _arguments -S \
     '--cache[keep outcomes in this directory]:DIR:_files' \
     '--json[write the outcomes, for --merge, --resume and other tools]:FILE:_files' \
     '--junit[write the report as JUnit XML]:FILE:_files' \
+    '--tap[write the report in the Test Anything Protocol]:FILE:_files' \
     '--html[write the report as one page, to be opened in a browser]:FILE:_files' \
     '--timeout[kill a command after S seconds]:S:_files' \
     '--crashfs[the program crashfs]:PATH:_files' \

@@ -15,7 +15,7 @@ from crashfs_tools.disks.levers import Lever
 from crashfs_tools.reading import Reading, read
 from crashfs_tools.reading.classes import Classes
 from crashfs_tools.reading.lines import PROFILES
-from crashfs_tools.reading.profiles import order_in, profile_names
+from crashfs_tools.reading.order import order_in, profile_names
 from crashfs_tools.reading.states import States
 
 # The profile that each file system is compared with.

@@ -13,6 +13,7 @@ from crashfs_tools.checker.findings.groups import Findings
 from crashfs_tools.common.guard import Guard
 from crashfs_tools.common.program import Crashfs
 from crashfs_tools.checker.report.report import CheckReport
+from crashfs_tools.checker.running.trials import Trials
 
 
 class CheckedExample(NamedTuple):
@@ -41,5 +42,5 @@ def check_example(trace: str, command: Sequence[str]) -> CheckedExample:
         if not report.groups():
             raise ValueError(f'no state of {trace} fails')
         state = report.groups()[0].example.number
-        files = checked_trace.trials(planned).tree(state)
+        files = Trials(checked_trace.workplace, planned).tree(state)
     return CheckedExample(check.last.findings, report, files)

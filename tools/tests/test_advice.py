@@ -7,7 +7,7 @@ from crashfs_tools.checker.findings.advice import Advice, Tried
 from crashfs_tools.checker.findings.swaps import moved_lines
 from crashfs_tools.checker.findings.sync_points import sync_points
 from crashfs_tools.checker.report.text import ReportText
-from crashfs_tools.common.trace_text import read_text, with_syncs
+from crashfs_tools.common.trace_lines import read_text, with_syncs
 
 from .support import FAKE
 from .test_check_command import InStore

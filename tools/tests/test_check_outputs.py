@@ -24,7 +24,7 @@ class Outputs(InStore):
         trace = self.write('own.trace', (EXAMPLES / 'store.trace').read_text(encoding='utf-8'))
         os.symlink('own.trace', self.path('link'))
         before = self.read('own.trace')
-        for option in ('--json', '--junit', '--html'):
+        for option in ('--json', '--junit', '--tap', '--html'):
             for path in ('own.trace', './own.trace', 'link'):
                 ran = self.check(option, path, trace, command=['true'])
                 self.assertEqual((ran.returncode, ran.stdout), (2, ''))
@@ -55,8 +55,9 @@ class Outputs(InStore):
             trace = self.write(
                 'own.trace', (EXAMPLES / 'store.trace').read_text(encoding='utf-8'), mode
             )
-            names = ['r.json', 'r.xml', 'r.html']
-            words = [f'--{kind}={name}' for kind, name in zip(('json', 'junit', 'html'), names)]
+            names = ['r.json', 'r.xml', 'r.tap', 'r.html']
+            kinds = 'json', 'junit', 'tap', 'html'
+            words = [f'--{kind}={name}' for kind, name in zip(kinds, names)]
             for _ in range(2):
                 self.check('--prefixes', *words, trace, command=['true'])
                 self.assertEqual({self.mode(name) for name in names}, {wanted})

@@ -13,8 +13,8 @@ from typing import Any, Dict, List, Set, Tuple
 from unittest import mock
 from xml.etree import ElementTree
 
-from crashfs_tools.api.checks import run_check
-from crashfs_tools.checker.checking import Check
+from crashfs_tools.api.reports import Report
+from crashfs_tools.checker.checking import Check, check_trace
 from crashfs_tools.checker.findings import disk_search
 from crashfs_tools.checker.findings.sightings import (
     OUTSIDE,
@@ -113,9 +113,10 @@ class NotDone(InStore):
         options.time_limit = time_limit or None
         with mock.patch.object(filesystems, 'require_filesystems'):
             with Guard('crashfs-check', may_reap=False) as guard:
-                found = run_check(options, guard, Progress(io.StringIO()))
-        found.report.write_json(self.path('r.json'))
-        return found.report.lines, json.loads(Path(self.path('r.json')).read_text('utf-8'))
+                found = check_trace(options, guard, Progress(io.StringIO()))
+        report = Report(found.report)
+        report.write_json(self.path('r.json'))
+        return report.lines, json.loads(Path(self.path('r.json')).read_text('utf-8'))
 
     def test_disks_and_recoveries_that_no_time_is_left_for_are_named(self) -> None:
         lines, fields = self.checked(0.7, disks=['ext4'], nested=2)

@@ -158,10 +158,12 @@ class Checks(InterfaceCase):
         report = check(CONFIG, lost_version)
         report.write_json(self.path('r.json'))
         report.write_junit(self.path('r.xml'))
+        report.write_tap(self.path('r.tap'))
         report.write_html(self.path('r.html'))
         fields = json.loads(self.read('r.json'))
         self.assertEqual(fields['groups'][0]['text'][0], SENTENCE)
         self.assertIn('<failure', self.read('r.xml'))
+        self.assertIn(f'\n#   {SENTENCE}\n', self.read('r.tap'))
         self.assertIn(
             '<canvas' if '<canvas' in self.read('r.html') else '<h2>', self.read('r.html')
         )

@@ -19,8 +19,7 @@ from crashfs_tools.disks.levers import Lever
 from crashfs_tools.disks.moments import Moment
 from crashfs_tools.reading import read
 from crashfs_tools.reading.every import every_set
-from crashfs_tools.reading.order import Order
-from crashfs_tools.reading.profiles import Profiles
+from crashfs_tools.reading.order import Order, Profiles
 from crashfs_tools.reading.states import States
 from measuring.command import main
 from measuring.disk_sessions import SessionResult, session_result, table_lines, trace_text

@@ -7,13 +7,13 @@ import unittest
 from types import SimpleNamespace
 from typing import Any, Dict, List, Set, Tuple
 
-from crashfs_tools.checker.report.profiles import profiles_text
+from crashfs_tools.checker.report.text import profiles_text
 from crashfs_tools.checker.states.plan import Planned
 from crashfs_tools.checker.states.planning import Planner
 from crashfs_tools.common.command import Refused
 from crashfs_tools.reading import StateList, read
 from crashfs_tools.reading.every import every_set
-from crashfs_tools.reading.profiles import orders_in
+from crashfs_tools.reading.order import orders_in
 
 from .support import FAKE, InFolder
 from .test_all_states import OPTIONS, trace_texts

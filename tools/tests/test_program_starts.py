@@ -7,9 +7,9 @@ import unittest
 from typing import Any, List
 from unittest import mock
 
-from crashfs_tools.checker.states import small_plan
+from crashfs_tools.checker.states import layout as layouts
+from crashfs_tools.checker.states.layout import Archive, trees_of_small_plan
 from crashfs_tools.checker.states.plan import Planned
-from crashfs_tools.checker.states.small_plan import SmallPlanLayout, trees_of
 from crashfs_tools.common.command import Refused
 from crashfs_tools.common.program import BUILT, Crashfs, ProgramFault
 
@@ -60,12 +60,13 @@ class Starts(Listing):
 
 class Archived(Listing):
     def trees(self, planned: Planned) -> Any:
-        return trees_of(Crashfs(FAKE, unproved=True), planned, {})
+        return trees_of_small_plan(Crashfs(FAKE, unproved=True), planned, {})
 
     def test_each_state_of_a_small_plan_has_its_tree(self) -> None:
         planned = self.planned(STORE)
         program, trees = Crashfs(FAKE, unproved=True), self.trees(planned)
-        layout = SmallPlanLayout(planned.plan, trees, self.temporary)
+        # No program is started for trees that are kept.
+        layout = Archive(Crashfs('/none'), planned, self.temporary, {}, trees)
         for state in planned.plan.listed:
             ((number, directory),) = layout.states({state.number})
             (request,) = planned.requests([state.number])
@@ -87,7 +88,7 @@ class Archived(Listing):
             ({'MOST_TREES': count - 1, 'MOST_BYTES': 1 << 20}, False),
             ({'MOST_TREES': count, 'MOST_BYTES': 11}, False),
         ):
-            with self.subTest(bounds), mock.patch.multiple(small_plan, **bounds):
+            with self.subTest(bounds), mock.patch.multiple(layouts, **bounds):
                 self.assertEqual(self.trees(planned) is not None, is_kept)
 
     def test_a_program_that_leaves_a_state_out_is_named(self) -> None:

@@ -12,6 +12,7 @@ from crashfs_tools.checker.report.drawing import drawing_of
 from crashfs_tools.checker.report.junit import junit_lines
 from crashfs_tools.checker.report.page import page
 from crashfs_tools.checker.report.json_report import json_pieces
+from crashfs_tools.checker.report.tap import tap_lines
 from crashfs_tools.checker.report.text import ReportText
 from crashfs_tools.checker.running.runner import BAD, GOOD, NO_ANSWER, Outcome
 from crashfs_tools.common.entry import Entry
@@ -105,6 +106,7 @@ class Pages(unittest.TestCase):
             'report': '\n'.join(ReportText(report).lines()),
             'page': ''.join(page(report)),
             'junit': ''.join(junit_lines(report)),
+            'tap': ''.join(tap_lines(report)),
             'json': ''.join(json_pieces(report)),
         }
         for name, text in shown.items():

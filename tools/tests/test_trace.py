@@ -26,7 +26,7 @@ from crashfs_tools.common.trace import (
     Write,
 )
 from crashfs_tools.common.trace_read import read_trace, replay
-from crashfs_tools.common.trace_text import read_text
+from crashfs_tools.common.trace_lines import read_text
 from crashfs_tools.common.tree import Tree
 from crashfs_tools.recorder.comparison import ByProgram, Replayed, lines_on_differences
 from crashfs_tools.recorder.directory import Scan

@@ -6,7 +6,7 @@ import unittest
 
 from crashfs_tools.common.trace import Creat, Say, TraceError, fields_of_lines
 from crashfs_tools.common.trace_read import read_numbered
-from crashfs_tools.common.trace_text import (
+from crashfs_tools.common.trace_lines import (
     is_large_trace,
     read_text,
     root_owner,

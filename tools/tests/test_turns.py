@@ -7,9 +7,8 @@ from types import SimpleNamespace
 from typing import Any, List, Set
 
 from crashfs_tools.checker.options import Shard
-from crashfs_tools.checker.report.rest import shown_share
-from crashfs_tools.checker.running.pace import MEASURED, Pace, TooSlow
-from crashfs_tools.checker.running.progress import Progress
+from crashfs_tools.checker.report.summary import shown_share
+from crashfs_tools.checker.running.progress import MEASURED, Pace, Progress, TooSlow
 from crashfs_tools.checker.running.results import Results
 from crashfs_tools.checker.running.runner import GOOD_OUTCOME
 from crashfs_tools.checker.running.trials import Trials, Workplace

@@ -23,9 +23,8 @@ from crashfs_tools.reading.micro import (
     WriteBlock,
 )
 from crashfs_tools.reading.names import DIRECTORY, Inode
-from crashfs_tools.reading.order import Order
+from crashfs_tools.reading.order import Order, Profiles, order_in, profile_names
 from crashfs_tools.reading.place_sets import places_of
-from crashfs_tools.reading.profiles import Profiles, order_in, profile_names
 from crashfs_tools.reading.states import States
 
 from .plain_rules import chains

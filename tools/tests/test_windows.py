@@ -16,7 +16,7 @@ from crashfs_tools.checker.states.steps import Session, Steps
 from crashfs_tools.checker.states.windows import Windows
 from crashfs_tools.common import limits
 from crashfs_tools.common.program import ProgramFault
-from crashfs_tools.common.trace_text import read_text
+from crashfs_tools.common.trace_lines import read_text
 from crashfs_tools.reading import ReadingFault, plan_of, read
 from crashfs_tools.reading.listing import json_listing
 from crashfs_tools.reading.main import read_options

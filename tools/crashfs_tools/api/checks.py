@@ -6,7 +6,7 @@ import functools
 import io
 import os
 from pathlib import Path
-from typing import Callable, List, NamedTuple, Optional, Sequence, Union
+from typing import Callable, List, Optional, Sequence, Union
 
 from crashfs_tools.checker.checking import check_trace
 from crashfs_tools.checker.options import NAME, TIMEOUT, Options, processors
@@ -18,13 +18,6 @@ from .reports import PathLike, Report
 
 # Opens a state's directory, and compares it with the acknowledged lines; raises what is wrong.
 RecoveryOf = Callable[[Path, List[str]], object]
-
-
-class Checked(NamedTuple):
-    """The report of a check, and what ended it early, if anything did."""
-
-    report: Report
-    end: Optional[Exception]
 
 
 def check(
@@ -63,10 +56,10 @@ def check(
     options.accept, options.cache = path_of(accept), path_of(cache)
     set_recovery(options, recovery)
     with Guard(NAME, may_reap=False) as guard:
-        checked = run_check(options, guard, Progress(io.StringIO()), has_states=True)
+        checked = check_trace(options, guard, Progress(io.StringIO()), has_states=True)
     if checked.end is not None:
         raise checked.end.__cause__ or checked.end
-    return checked.report
+    return Report(checked.report, checked.mode)
 
 
 def path_of(path: Optional[PathLike]) -> Optional[str]:
@@ -90,12 +83,3 @@ def set_recovery(options: Options, recovery: Union[RecoveryOf, Sequence[str]]) -
         return function(Path(directory), lines)
 
     options.function = call
-
-
-def run_check(
-    options: Options, guard: Guard, progress: Progress, has_states: bool = False
-) -> Checked:
-    """Runs a check by its options: the command is no more than this. has_states says whether the
-    report has the outcome of each state."""
-    result = check_trace(options, guard, progress, has_states)
-    return Checked(Report(result.report, result.mode), result.end)

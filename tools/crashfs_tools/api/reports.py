@@ -123,6 +123,12 @@ class Report:
 
         self._write(path, junit_lines)
 
+    def write_tap(self, path: PathLike) -> None:
+        """Writes the report in the Test Anything Protocol."""
+        from crashfs_tools.checker.report.tap import tap_lines
+
+        self._write(path, tap_lines)
+
     def write_html(self, path: PathLike) -> None:
         """Writes the report as a page for a browser."""
         from crashfs_tools.checker.report.page import page

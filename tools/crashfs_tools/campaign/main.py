@@ -17,7 +17,7 @@ from crashfs_tools.common.command import (
     write_whole,
 )
 from crashfs_tools.common.guard import Stopped, stop_by_exception
-from crashfs_tools.common.own_faults import run_guarded
+from crashfs_tools.common.own_faults import print_own_fault
 from crashfs_tools.common.printable import print_utf8, printable
 
 from .book import Book, KnownFailure, failure_key, read_book
@@ -143,4 +143,8 @@ def main(arguments: Optional[List[str]] = None) -> int:
     status."""
     words = sys.argv[1:] if arguments is None else arguments
     print_utf8()
-    return run_guarded(NAME, lambda: run_campaign(words), NO_VERDICT)
+    try:
+        return run_campaign(words)
+    except Exception as error:
+        print_own_fault(NAME, error)
+        return NO_VERDICT

@@ -12,11 +12,11 @@ from typing import List, Optional, Tuple
 
 from crashfs_tools.common.command import (
     Refused,
-    with_program_path,
-    split_command,
     parse_command_line,
+    split_command,
+    version_text,
+    with_program_path,
 )
-from crashfs_tools.common.version import version_text
 
 NAME = 'crashfs-campaign'
 SEEDS = (1, 100)

@@ -10,7 +10,7 @@ import time
 from typing import Iterator, List
 
 from crashfs_tools.common.printable import count_text, printable
-from crashfs_tools.common.version import version_text
+from crashfs_tools.common.command import version_text
 
 from .book import Book, KnownFailure
 from .options import NAME, CampaignOptions

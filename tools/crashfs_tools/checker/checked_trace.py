@@ -17,7 +17,7 @@ from crashfs_tools.checker.states.planning import Planner, TooLarge
 from crashfs_tools.common.command import TEXT, Refused
 from crashfs_tools.common.guard import Guard
 from crashfs_tools.common.program import Crashfs
-from crashfs_tools.common.trace_text import TraceText, read_text, trace_version
+from crashfs_tools.common.trace_lines import TraceText, read_text, trace_version
 
 from .options import Options
 
@@ -89,19 +89,15 @@ class CheckedTrace:
 
     @cached_property
     def workplace(self) -> Workplace:
-        """What all trials of this trace share."""
+        """What all trials of this trace's plans share."""
         return Workplace(self.options, self.program, self.guard, self.says, self.progress)
-
-    def trials(self, planned: Planned, keeps_trees: bool = False) -> Trials:
-        """Where states of one of its plans are tried; with keeps_trees most of them."""
-        return Trials(self.workplace, planned, keeps_trees)
 
     def trials_of(self, number: int) -> Trials:
         """The trials of the window that has a state; Refused if none has it."""
         count = 0
         for planned in self.all_planned():
             if planned.plan.has_state(number):
-                return self.trials(planned)
+                return Trials(self.workplace, planned)
             count += len(planned.plan.listed)
         raise Refused(f'no such state: {number} (there are {count:,})')
 

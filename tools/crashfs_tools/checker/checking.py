@@ -7,24 +7,23 @@ import os
 import stat
 from contextlib import contextmanager
 from functools import cached_property
-from typing import TYPE_CHECKING, Iterator, NamedTuple, Optional
+from typing import TYPE_CHECKING, Callable, Iterator, NamedTuple, Optional
 
+from crashfs_tools.checker.findings.accepted_failures import AcceptedFailures
 from crashfs_tools.checker.findings.groups import Findings
 from crashfs_tools.checker.report.report import CheckReport
 from crashfs_tools.checker.running.first_trials import FirstTrials
 from crashfs_tools.checker.running.progress import Progress
 from crashfs_tools.checker.running.read_results import read_json
 from crashfs_tools.checker.running.recoveries import FunctionRecovery
-from crashfs_tools.checker.running.results import AllResults, Results, known_states
-from crashfs_tools.checker.running.saving import Saver
+from crashfs_tools.checker.running.results import AllResults, Head, Results, known_states
+from crashfs_tools.checker.running.runner import do_nothing
 from crashfs_tools.checker.running.trials import Trials
-from crashfs_tools.checker.states.plan import Planned
 from crashfs_tools.common.command import Refused, print_line, with_program_path, write_whole
 from crashfs_tools.common.guard import Guard, Stopped, TimeUp, time_limit
 from crashfs_tools.common.program import Crashfs, ProgramFault
 
 from .checked_trace import CheckedTrace
-from .merging import new_report
 from .options import NAME, Options
 
 if TYPE_CHECKING:
@@ -54,11 +53,6 @@ class Window(NamedTuple):
 
     trials: Trials
     findings: Findings
-
-    @property
-    def planned(self) -> Planned:
-        """Its plan."""
-        return self.trials.planned
 
 
 class Check:
@@ -122,7 +116,7 @@ class Check:
 
     def complete_report(self) -> None:
         """Adds to the report what is only known at the end, however it came."""
-        self.head.has_rest = self.last is not None and not self.last.planned.is_last
+        self.head.has_rest = self.last is not None and not self.last.trials.planned.is_last
         if self.trace.windows is not None:
             self.head.cut_off = [(one.line, one.tried) for one in self.trace.windows.cut_off]
         if self.head.stopped == TIME_LIMIT and self.last is not None:
@@ -142,7 +136,7 @@ class Check:
         """Checks each window, up to one that was not tried whole or, with --fail-fast, that has a
         failure."""
         for planned in self.trace.all_planned():
-            trials = self.trace.trials(planned, keeps_trees=True)
+            trials = Trials(self.trace.workplace, planned, keeps_trees=True)
             is_whole = self.try_window(trials)
             assert self.last is not None
             window = self.last
@@ -158,29 +152,28 @@ class Check:
         """Tries the states of a window, which becomes the last one, with what was found even if an
         exception comes; returns whether all were tried."""
         before, planned = self.last, trials.planned
-        known = known_states(before.planned.plan, planned.plan) if before else {}
+        known = known_states(before.trials.plan, planned.plan) if before else {}
         results = Results(planned.plan, known=known)
-        self.take_earlier(results)
+        if self.earlier is not None:
+            self.take_earlier(self.earlier, results)
         if before is None:
             self.head.lines = self.trace.lines.operations
-            self.open_cache(trials)
+            if self.options.cache is not None:
+                self.open_cache(self.options.cache, trials)
             FirstTrials(trials, results, self.trace.end()).run()
-        saver = Saver(lambda: self.save(results), SAVE_SECONDS)
         try:
-            return trials.try_all(results, saver.save_if_due)
+            return trials.try_all(results, self.saver_of(results))
         finally:
             known_outcomes = before.findings.by_state if before else {}
             self.last = Window(trials, Findings(self.head, results, known_outcomes))
             self.report.add(self.last.findings)
 
-    def open_cache(self, trials: Trials) -> None:
-        """Opens the outcomes of earlier checks, if they are asked for by --cache."""
-        if self.options.cache is None:
-            return
+    def open_cache(self, path: str, trials: Trials) -> None:
+        """Opens the outcomes of earlier checks in the directory of --cache."""
         from crashfs_tools.checker.running.cache import OutcomeCache, open_folder
         from crashfs_tools.checker.running.command_files import command_name
 
-        folder = open_folder(self.options.cache)
+        folder = open_folder(path)
         prefixes = [one.number for one in trials.plan.states if one.family == 'prefix']
         ends = [prefixes[0], prefixes[-1]]
         name = command_name(folder, self.options.command, ends, trials.run_words)
@@ -197,24 +190,28 @@ class Check:
             except OSError as error:
                 print_line(NAME, f'--cache {error.filename}: {error.strerror}')
 
-    def take_earlier(self, results: Results) -> None:
-        """Adds to the results of a window the outcomes that --resume has of it; Refused if it is
-        another one there."""
+    def take_earlier(self, earlier: AllResults, results: Results) -> None:
+        """Adds to the results of a window the outcomes that earlier results have of it; Refused if
+        it is another one there."""
         place = self.report.counts.windows
-        if self.earlier is None or place >= len(self.earlier.windows):
-            return
-        if self.earlier.windows[place].identity() != results.identity():
-            raise Refused(ANOTHER)
-        results.take_earlier(self.earlier.windows[place])
+        if place < len(earlier.windows):
+            if earlier.windows[place].identity() != results.identity():
+                raise Refused(ANOTHER)
+            results.take_earlier(earlier.windows[place])
 
-    def save(self, results: Results) -> None:
-        """Writes the file of --json, if there is one, as it would be if the check was killed
-        now."""
-        if self.options.json not in (None, '-'):
-            from crashfs_tools.checker.report.json_report import partial_pieces
+    def saver_of(self, results: Results) -> Callable[[], None]:
+        """What is called after each state of a window: from time to time it writes the file of
+        --json, if there is one, so that a kill loses only what came later."""
+        path = self.options.json or '-'
+        if path == '-':
+            return do_nothing
+        from crashfs_tools.checker.report.json_report import partial_pieces
+        from crashfs_tools.checker.running.saving import Saver
 
-            pieces = partial_pieces(self.report, results)
-            write_whole(self.options.json or '', pieces, self.trace.mode)
+        def save() -> None:
+            write_whole(path, partial_pieces(self.report, results), self.trace.mode)
+
+        return Saver(save, SAVE_SECONDS).save_if_due
 
     def ends_at_failure(self, window: Window) -> bool:
         """Whether a window that was tried whole is the last one because a state of it fails."""
@@ -266,6 +263,12 @@ class Check:
         from crashfs_tools.checker.findings.nested import Nested
 
         return Nested(self.options.nested)
+
+
+def new_report(head: Head, options: Options) -> CheckReport:
+    """A report without findings, with the failures of --accept. Refused if they can't be read."""
+    accepted = AcceptedFailures.read(options.accept) if options.accept else None
+    return CheckReport(head, options.json is not None, options.html is not None, accepted)
 
 
 @contextmanager

@@ -5,8 +5,7 @@ from __future__ import annotations
 import argparse
 from typing import Dict, List, Optional, Tuple
 
-from crashfs_tools.common.command import parse_command_line
-from crashfs_tools.common.version import version_text
+from crashfs_tools.common.command import parse_command_line, version_text
 
 from .address import Address
 from .options import MOST_JOBS, MOST_STATES, NAME, TIMEOUT, Options, Shard, processors
@@ -186,6 +185,9 @@ def add_output_options(parser: argparse.ArgumentParser) -> None:
     )
     parser.add_argument('--junit', metavar='FILE', help='write the report as JUnit XML')
     parser.add_argument(
+        '--tap', metavar='FILE', help='write the report in the Test Anything Protocol'
+    )
+    parser.add_argument(
         '--html', metavar='FILE', help='write the report as one page, to be opened in a browser'
     )
 
@@ -252,7 +254,7 @@ def make_parser() -> argparse.ArgumentParser:
         epilog=EPILOG,
         usage='crashfs-check [OPTION].. TRACE -- COMMAND [ARG]..\n'
         '       crashfs-check [TRACE] --merge REPORT.json.. [--json FILE] [--junit FILE] '
-        '[--html FILE]',
+        '[--tap FILE] [--html FILE]',
         formatter_class=argparse.RawDescriptionHelpFormatter,
     )
     parser.add_argument('--version', action='version', version=version_text(NAME))

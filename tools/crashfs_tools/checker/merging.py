@@ -5,29 +5,24 @@ from __future__ import annotations
 from typing import Dict, Optional
 
 from crashfs_tools.checker.findings.groups import Findings
-from crashfs_tools.checker.findings.accepted_failures import AcceptedFailures
 from crashfs_tools.checker.findings.tree_diff import find_differences
 from crashfs_tools.checker.report.report import CheckReport
-from crashfs_tools.checker.running.results import AllResults, Head, Results, merged_shards
+from crashfs_tools.checker.running.results import AllResults, Results, merged_shards
 from crashfs_tools.checker.running.read_results import read_json
 from crashfs_tools.checker.running.runner import Outcome
+from crashfs_tools.checker.running.trials import Trials
 from crashfs_tools.common.command import Refused
 from crashfs_tools.common.guard import Guard
 from crashfs_tools.common.program import Crashfs
 
 from .checked_trace import CheckedTrace
+from .checking import new_report
 from .options import NAME, Options
 
 OTHER_TRACE = 'that is not the trace of the reports'
 OTHER_PLAN = (
     'the trace has other states than the reports: give the options that they were made with'
 )
-
-
-def new_report(head: Head, options: Options) -> CheckReport:
-    """A report without findings, with the failures of --accept. Refused if they can't be read."""
-    accepted = AcceptedFailures.read(options.accept) if options.accept else None
-    return CheckReport(head, options.json is not None, options.html is not None, accepted)
 
 
 def merged_report(options: Options) -> CheckReport:
@@ -59,5 +54,5 @@ def report_of(
             one = next(planned)
             if Results(one.plan).identity() != window.identity():
                 raise Refused(OTHER_PLAN)
-            find_differences(trace.trials(one), findings)
+            find_differences(Trials(trace.workplace, one), findings)
     return report

@@ -63,6 +63,7 @@ class Options:
     json: Optional[str] = None
     resume: Optional[str] = None
     junit: Optional[str] = None
+    tap: Optional[str] = None
     html: Optional[str] = None
     timeout: float = TIMEOUT
     crashfs: Optional[str] = None

@@ -1,4 +1,5 @@
-"""What the commands share: the command line's two halves, finding COMMAND, and writing files."""
+"""What the commands share: the command line's two halves, --version, finding COMMAND, and writing
+files."""
 
 from __future__ import annotations
 
@@ -12,7 +13,10 @@ import stat
 import sys
 import tempfile
 from contextlib import contextmanager, redirect_stdout
+from importlib import import_module
 from typing import Any, Dict, Iterable, Iterator, List, Tuple
+
+from crashfs_tools import VERSION
 
 # How every file of text is written.
 TEXT: Dict[str, Any] = {'encoding': 'utf-8', 'errors': 'surrogateescape', 'newline': '\n'}
@@ -66,6 +70,16 @@ def print_help(program: str, text: str) -> None:
     except OSError as error:
         print_line(program, f'{error.filename}: {error.strerror}')
         raise SystemExit(NOT_PRINTED) from error
+
+
+def version_text(command: str) -> str:
+    """What --version prints of a command. Only a release has the module `built`, which names its
+    commit and its kit."""
+    try:
+        built = import_module('crashfs_tools.built')
+    except ModuleNotFoundError:
+        return f'{command} {VERSION} (not a release)'
+    return f'{command} {VERSION} (commit {built.COMMIT}, kit {built.KIT})'
 
 
 def with_program_path(command: List[str]) -> List[str]:

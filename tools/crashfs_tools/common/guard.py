@@ -54,7 +54,7 @@ class Guard:
                 self.report_other_place()
         except BaseException:
             if self.directory:
-                self.close()
+                self.__exit__()
             raise
         return self
 
@@ -113,9 +113,6 @@ class Guard:
         return sent
 
     def __exit__(self, *_: object) -> None:
-        self.close()
-
-    def close(self) -> None:
         """Lets the watcher clean up, waits for it, and names what it could not remove."""
         os.close(self.alive)
         os.waitpid(self.watcher, 0)

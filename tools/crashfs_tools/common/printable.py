@@ -1,8 +1,10 @@
-"""Text as a terminal may show it: what would control the terminal is shown as an escape."""
+"""Text as a terminal may show it: what would control the terminal is shown as an escape. And the
+standard streams that show it."""
 
 from __future__ import annotations
 
 import io
+import os
 import re
 import sys
 
@@ -45,3 +47,18 @@ def print_utf8() -> None:
     for stream in (sys.stdout, sys.stderr):
         if isinstance(stream, io.TextIOWrapper):
             stream.reconfigure(encoding='utf-8', errors='backslashreplace')
+
+
+def prepare_standard_streams() -> None:
+    """Opens standard streams that are closed, so that no other file gets their numbers: what is
+    printed there goes nowhere. What is printed is UTF-8."""
+    for number in (0, 1, 2):
+        try:
+            os.fstat(number)
+        except OSError:
+            os.set_inheritable(os.open(os.devnull, os.O_RDWR), True)
+    if sys.stdout is None:
+        sys.stdout = open(1, 'w', encoding='utf-8', closefd=False)
+    if sys.stderr is None:
+        sys.stderr = open(2, 'w', encoding='utf-8', closefd=False)
+    print_utf8()

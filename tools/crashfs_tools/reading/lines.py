@@ -3,6 +3,7 @@
 from __future__ import annotations
 
 import re
+from dataclasses import dataclass
 from typing import Any, Dict, Iterator, List, Set, Tuple
 
 from .faults import LineFault, syntax
@@ -51,15 +52,15 @@ HEXADECIMAL = '0123456789abcdefABCDEF'
 Fields = Dict[str, Any]
 
 
+@dataclass
 class Line:
     """A line that is well formed, by its number: the key that says what it is (`trace`, `start` or
     `op`), its word, which is empty for the header, and its keys with their values."""
 
-    def __init__(self, number: int, key: str, word: str, fields: Fields) -> None:
-        self.number = number
-        self.key = key
-        self.word = word
-        self.fields = fields
+    number: int
+    key: str
+    word: str
+    fields: Fields
 
     def paths(self) -> Iterator[str]:
         """The paths that the line has."""

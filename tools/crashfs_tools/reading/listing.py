@@ -8,7 +8,7 @@ from typing import Any, Dict, Iterator
 from .micro import Micro
 from .place_sets import places_of
 from .plan import StateList
-from .profiles import Profiles
+from .order import Profiles
 from .states import Digest
 
 

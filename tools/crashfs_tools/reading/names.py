@@ -155,7 +155,7 @@ class Names:
         if line.word in ('creat', 'mkdir', 'dir', 'file', 'symlink'):
             self.need_free(line.fields['path'])
         elif line.word == 'link':
-            self.need_file(line.fields['from'])
+            self.need_kind(line.fields['from'], (FILE,))
             self.need_free(line.fields['path' if line.key == 'start' else 'to'])
         elif line.word == 'rename':
             self.refuse_rename(line.fields['from'], line.fields['to'])
@@ -168,7 +168,7 @@ class Names:
         elif line.word == 'unlink':
             self.need_kind(line.fields['path'], (FILE, SYMLINK))
         elif line.word in ('write', 'truncate', 'fdatasync', 'fsync_range'):
-            self.need_file(line.fields['path'])
+            self.need_kind(line.fields['path'], (FILE,))
         self.refuse_too_large(line)
 
     def need(self, path: str) -> Inode:
@@ -183,10 +183,6 @@ class Names:
         node = self.need(path)
         if node.kind not in kinds:
             raise LineFault('NotFile', f'{path} is {WORDS[node.kind]}')
-
-    def need_file(self, path: str) -> None:
-        """LineFault unless a file is at a path."""
-        self.need_kind(path, (FILE,))
 
     def need_parent(self, path: str) -> None:
         """LineFault unless a path's directory is there."""

@@ -10,10 +10,9 @@ from .classes import Classes
 from .every import count_sets, every_set, sample
 from .faults import ReadingFault
 from .lines import PROFILES
-from .order import Order
+from .order import Order, order_in
 from .place_sets import places_of
 from .plan import StateList, different_places, file_sets, lost_sets
-from .profiles import order_in
 from .trace import Reading
 
 MOST = 1_000_000

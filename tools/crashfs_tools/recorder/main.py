@@ -11,8 +11,8 @@ from typing import List, Optional, Tuple
 from crashfs_tools.common import descendants
 from crashfs_tools.common.command import Refused, print_line, write_whole
 from crashfs_tools.common.guard import Guard, Stopped, stop_by_exception
-from crashfs_tools.common.own_faults import prepare_standard_streams, print_own_fault
-from crashfs_tools.common.printable import printable
+from crashfs_tools.common.own_faults import print_own_fault
+from crashfs_tools.common.printable import prepare_standard_streams, printable
 from crashfs_tools.common.program import Crashfs
 from crashfs_tools.common.trace import Say
 

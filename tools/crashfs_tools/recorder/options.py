@@ -10,11 +10,11 @@ from typing import List, Optional
 from crashfs_tools.common.command import (
     Refused,
     folder_to_write,
-    with_program_path,
     parse_command_line,
+    version_text,
+    with_program_path,
 )
 from crashfs_tools.common.trace import BLOCK_SIZES, BLOCKS, JOURNAL, PROFILES
-from crashfs_tools.common.version import version_text
 
 from .ignore import Ignore, Rule
 from .output_streams import SOCKETS, SayEach

@@ -11,12 +11,11 @@ from crashfs_tools.checker.running.trials import Trials
 from crashfs_tools.checker.states.plan import Offsets, Plan, Planned, Trial
 from crashfs_tools.checker.states.planning import Planner
 from crashfs_tools.common.command import TEXT
-from crashfs_tools.common.trace_text import with_syncs
+from crashfs_tools.common.trace_lines import with_syncs
 
 from .advice import Tried
-from .equal_sets import equal_sets
+from .equal_sets import EqualSets
 from .groups import Findings, Group, Totals, Union
-from .swaps import add_swaps
 from .tree_diff import find_differences
 
 # So many entries have their advice tried, and so many may be removed by it: the largest.
@@ -37,7 +36,11 @@ class SyncedCopy(NamedTuple):
 def add_details(trials: Trials, planner: Planner, findings: Findings) -> None:
     """Adds to the groups how files differ, and the results of their advice."""
     find_differences(trials, findings)
-    add_swaps(trials, planner, findings)
+    spans = [group for group in findings.groups if group.is_swappable]
+    if spans:
+        from .swaps import add_swaps
+
+        add_swaps(trials, planner, findings, spans)
     AdviceTrials(trials, planner, findings).run()
 
 
@@ -55,8 +58,8 @@ class AdviceTrials:
             self.kept[state]: one for state, one in findings.by_state.items()
         }
         self.before = count_failing(findings.plan, self.known)
-        self.equal = equal_sets(trials.planned, findings)
         every = findings.plan.all_states
+        self.equal = EqualSets(trials.planned, findings) if every else None
         # Only of all crash states it is known what each allowed set leaves.
         has_all = every is not None and every.are_listed
         self.equal_of_all = self.equal if has_all else None
@@ -143,7 +146,7 @@ class AdviceTrials:
     def try_states(self, planned: Planned) -> None:
         """Tries the states of a copy whose outcomes aren't known; `known` has the outcome of each
         of its sets afterwards."""
-        copy = self.trials.with_plan(planned)
+        copy = Trials(self.trials.workplace, planned)
         plan = planned.plan
         found: Dict[Trial, Outcome] = {}
         for state in plan.states:

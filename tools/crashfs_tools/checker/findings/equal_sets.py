@@ -13,8 +13,8 @@ from .groups import Findings
 
 
 class EqualSets:
-    """The outcomes of states by what they leave. Of a plan of all crash states each allowed set
-    leaves a tree that was tried, if the check was not stopped."""
+    """The outcomes of a plan's states by what they leave. Made for plans of all crash states only:
+    of these each allowed set leaves a tree that was tried, if the check was not stopped."""
 
     def __init__(self, planned: Planned, findings: Findings) -> None:
         self.plan = findings.plan
@@ -37,8 +37,3 @@ class EqualSets:
         if kept not in self.found:
             self.found[kept] = self.trees.digest(kept), self.trees.count_says(kept)
         return self.found[kept]
-
-
-def equal_sets(planned: Planned, findings: Findings) -> Optional[EqualSets]:
-    """The outcomes of the states of a plan by what they leave; None for a plan of families."""
-    return EqualSets(planned, findings) if findings.plan.all_states is not None else None

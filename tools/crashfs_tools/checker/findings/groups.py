@@ -108,11 +108,6 @@ class Group:
         return max(1, len(self.tried))
 
     @property
-    def result(self) -> str:
-        """BAD, or NO_ANSWER."""
-        return self.outcome.result
-
-    @property
     def as_accepted(self) -> AcceptedFailure:
         """The group as a file of accepted failures names it, without a reason."""
         return AcceptedFailure(self.cause, operation_text(self.lost), operation_text(self.kept), '')
@@ -135,15 +130,21 @@ class Group:
         return self.pair.lost is None or (self.pair.kept or 0) <= self.pair.lost
 
     @property
+    def is_swappable(self) -> bool:
+        """Whether the advice may be another order of the two lines."""
+        is_known = self.is_reproducible and self.kept is not None
+        return is_known and self.is_span and self.lost is not None and self.lost.word != 'say'
+
+    @property
     def key(self) -> Tuple[object, ...]:
         """Equal for groups that are one entry: if the example isn't reproducible, by the cause
         alone."""
         kinds = [line.statement if line else '' for line in (self.kept, self.lost)]
         if not self.is_reproducible:
-            return without_numbers(self.cause), self.result
+            return without_numbers(self.cause), self.outcome.result
         return (
             without_numbers(self.cause),
-            self.result,
+            self.outcome.result,
             self.is_torn,
             self.is_span,
             *kinds,

@@ -18,7 +18,7 @@ from crashfs_tools.checker.states.place_sets import lacking_of, places_of
 from crashfs_tools.checker.states.plan import Plan, State
 from crashfs_tools.checker.states.planning import Planner
 
-from .equal_sets import EqualSets, equal_sets
+from .equal_sets import EqualSets
 from .groups import Findings
 from .pairs import Loss, Pair
 
@@ -45,7 +45,8 @@ def find_losses(trials: Trials, planner: Planner, findings: Findings) -> None:
     """Finds the smallest loss of each group's example whose pair is a guess, and adds it to the
     findings. Other states that lack the same and keep the same get the same pair. The planner makes
     plans of the sets to try."""
-    searched, equal = 0, equal_sets(trials.planned, findings)
+    searched = 0
+    equal = EqualSets(trials.planned, findings) if findings.plan.all_states else None
     every = findings.plan.all_states
     most = SEARCHED_OF_ALL if every is not None and every.are_listed else SEARCHED
     while searched < most:
@@ -140,7 +141,7 @@ class Searches:
         def on_outcome(number: int, outcome: Outcome) -> None:
             self.known[of_number[number]] = outcome
 
-        self.trials.with_plan(planned).try_states([set(of_number)], on_outcome)
+        Trials(self.trials.workplace, planned).try_states([set(of_number)], on_outcome)
 
 
 class EndSearch(Exception):

@@ -16,8 +16,7 @@ from crashfs_tools.checker.states.planning import Planner, TooLarge
 from crashfs_tools.common.command import TEXT, Refused
 from crashfs_tools.common.program import LIBRARY
 from crashfs_tools.common.removal import remove_tree
-from crashfs_tools.common.trace_lines import without_numbers
-from crashfs_tools.common.trace_text import read_text, trace_version, without_says
+from crashfs_tools.common.trace_lines import read_text, trace_version, without_numbers, without_says
 
 from .groups import Findings, Group
 from .reruns import rerun_examples

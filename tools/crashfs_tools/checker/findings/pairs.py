@@ -65,7 +65,8 @@ class Pairs:
     prefixes are the numbers of all prefixes by their lengths, and holes those of the holes by the
     place that they lack and their length; those that aren't tried, since no crash leaves them or
     only under another profile, are among them. equal_prefixes are the lengths of prefixes by what
-    they are tried by: of equal ones the shortest."""
+    they are tried by: of equal ones the shortest. causes counts the states that aren't good by
+    their whole causes, except for numbers."""
 
     def __init__(self, plan: Plan, outcomes: Dict[int, Outcome]) -> None:
         self.plan = plan
@@ -74,7 +75,8 @@ class Pairs:
         self.prefixes = {one.numbers[0]: one.number for one in prefixes}
         self.equal_prefixes = {one.trial: one.numbers[0] for one in reversed(prefixes)}
         self.holes = {one.numbers: one.number for one in plan.listed if one.family == 'hole'}
-        self.causes = Causes(outcomes)
+        failing = (one for one in outcomes.values() if one.result != GOOD)
+        self.causes = Counter(one.cause_without_numbers for one in failing)
 
     def pair_of(self, state: State) -> Pair:
         """The pair of a state that was tried and isn't good, by the rules."""
@@ -105,8 +107,9 @@ class Pairs:
         no other state has the whole cause of the first one."""
         if not other.result == outcome.result != GOOD:
             return False
-        if self.causes.is_shared(outcome):
-            return other.cause_without_numbers == outcome.cause_without_numbers
+        cause = outcome.cause_without_numbers
+        if self.causes[cause] > 1:
+            return other.cause_without_numbers == cause
         return other.word == outcome.word
 
     def prefix_pair(self, length: int, compare: Compare) -> Pair:
@@ -159,15 +162,3 @@ class Pairs:
 def is_failing_alike(number: Optional[int], compare: Compare) -> bool:
     """Whether there is a state of a number, and it fails alike; a number that is None has none."""
     return number is not None and compare(number) is Comparison.FAILS_ALIKE
-
-
-class Causes:
-    """How many states that aren't good have each whole cause, except for its numbers."""
-
-    def __init__(self, outcomes: Dict[int, Outcome]) -> None:
-        failing = (one for one in outcomes.values() if one.result != GOOD)
-        self.counts = Counter(one.cause_without_numbers for one in failing)
-
-    def is_shared(self, outcome: Outcome) -> bool:
-        """Whether several states have the whole cause of an outcome."""
-        return self.counts[outcome.cause_without_numbers] > 1

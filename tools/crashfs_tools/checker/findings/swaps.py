@@ -22,25 +22,13 @@ from .groups import Findings, Group, Totals
 ENTRIES, MOST_STATES = 3, 2_000
 
 
-def add_swaps(trials: Trials, planner: Planner, findings: Findings) -> None:
-    """Tries the other order for the largest groups that lose nothing, finds out whether their first
-    line overwrites what is in use, and sets their advice."""
-    spans = [group for group in findings.groups if is_swappable(group)]
+def add_swaps(trials: Trials, planner: Planner, findings: Findings, spans: List[Group]) -> None:
+    """Tries the other order for the first ENTRIES of some swappable groups, finds out whether their
+    first line overwrites what is in use, and sets their advice."""
     for group in spans[:ENTRIES]:
         group.swap = Swap(trials, planner, findings, group).run()
         group.overwrites = overwrites(trials, findings, group)
         group.set_advice(findings.head.lines)
-
-
-def is_swappable(group: Group) -> bool:
-    """Whether a group's advice may be another order of its two lines."""
-    return (
-        group.is_reproducible
-        and group.is_span
-        and group.kept is not None
-        and group.lost is not None
-        and group.lost.word != 'say'
-    )
 
 
 class Swap:
@@ -107,7 +95,7 @@ class Swap:
             results.outcomes[number] = outcome
 
         new = set(results.trials.values()) - set(results.outcomes)
-        self.trials.with_plan(planned).try_states([new], on_outcome)
+        Trials(self.trials.workplace, planned).try_states([new], on_outcome)
         return results.outcomes_by_state({})
 
 

@@ -10,7 +10,7 @@ from typing import FrozenSet, List, NamedTuple, Optional, Tuple
 
 from crashfs_tools.checker.findings.groups import Findings, Group
 from crashfs_tools.checker.running.results import Head
-from crashfs_tools.checker.running.runner import BAD, GOOD, Outcome
+from crashfs_tools.checker.running.runner import BAD, GOOD
 from crashfs_tools.checker.states.plan import AllStates
 
 # There are more sets than so many if they can't be counted.
@@ -72,10 +72,6 @@ class StateCounts:
         self.drawn += [one is not None and one.result == BAD for one in tried]
         self.tried += len(outcomes)
         self.all_failing += sum(one.result == BAD for one in findings.own_outcomes())
-        self.add_outcomes(outcomes)
-
-    def add_outcomes(self, outcomes: List[Outcome]) -> None:
-        """Adds the outcomes of different states."""
         self.results.update(one.result for one in outcomes)
         self.words.update(one.word for one in outcomes if one.result == BAD)
 

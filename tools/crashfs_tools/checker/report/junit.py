@@ -25,7 +25,10 @@ def junit_lines(report: CheckReport) -> Iterator[str]:
     entry is that of its example's second run, and that of the last case is the rest of the
     check's."""
     groups, on_disks = report.groups(), report.disk_failures()
-    results = [*(group.result for group in groups), *(one.outcome.result for one in on_disks)]
+    results = [
+        *(group.outcome.result for group in groups),
+        *(one.outcome.result for one in on_disks),
+    ]
     skipped = sum(group.accepted is not None for group in groups)
     failures = results.count(BAD) - skipped
     seconds = report.seconds
@@ -54,7 +57,7 @@ def case_lines(report: CheckReport, group: Group, attributes: str) -> Iterator[s
     """The test case of an entry, with these attributes; its message is the whole sentence with the
     advice, or why the entry is accepted."""
     head, *details = ReportText(report).group_lines(group)
-    kind = 'failure' if group.result == BAD else 'error'
+    kind = 'failure' if group.outcome.result == BAD else 'error'
     message = ' '.join(group.advice.lines()) or head.strip()
     yield f'<testcase {attributes} time="{group.seconds:.3f}">\n'
     if group.accepted is not None:

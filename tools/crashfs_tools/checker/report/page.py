@@ -10,7 +10,7 @@ from typing import Iterator, List
 from crashfs_tools.checker.findings.groups import Group
 from crashfs_tools.common.printable import printable
 from crashfs_tools.common.trace_lines import SYNCS, TraceLine
-from crashfs_tools.common.version import version_text
+from crashfs_tools.common.command import version_text
 
 from .page_parts import SCRIPT, STYLE
 from .json_text import COMPACT, as_json

@@ -19,7 +19,7 @@ from crashfs_tools.checker.running.results import Head
 from crashfs_tools.checker.running.runner import BAD, NO_ANSWER, Outcome
 from crashfs_tools.checker.states.plan import State
 
-from .counts import AcceptedStates, StateCounts, states_of_accepted
+from .counts import StateCounts, states_of_accepted
 from .json_text import COMPACT, as_json, packed
 
 if TYPE_CHECKING:
@@ -67,7 +67,7 @@ class CheckReport:
         self.not_done: List[str] = []
 
     def add(self, findings: Findings) -> None:
-        """Adds the findings of a window."""
+        """Adds the findings of a window; its drawing if it is the first or has failures."""
         self.counts.add(findings)
         self.profiles = findings.plan.profiles.names
         if self.has_states:
@@ -76,7 +76,10 @@ class CheckReport:
         self.unions.append(findings.union)
         if self.has_json:
             self.packed_windows.append(packed(as_json(findings.results.fields(), **COMPACT)))
-        self.add_drawing(findings)
+        if self.has_page and (findings.groups or not self.drawings):
+            from .drawing import drawing_of
+
+            self.drawings.append(drawing_of(findings))
 
     def replace_last(self, findings: Findings) -> None:
         """Replaces what is kept of the last window's groups, to which something was added."""
@@ -84,13 +87,6 @@ class CheckReport:
         self.unions[-1] = findings.union
         if self.has_json:
             self.packed_windows[-1] = packed(as_json(findings.results.fields(), **COMPACT))
-
-    def add_drawing(self, findings: Findings) -> None:
-        """Adds the drawing of a window to the page, if it is the first or has failures."""
-        if self.has_page and (findings.groups or not self.drawings):
-            from .drawing import drawing_of
-
-            self.drawings.append(drawing_of(findings))
 
     @property
     def seconds(self) -> float:
@@ -112,7 +108,7 @@ class CheckReport:
 
     def mark(self, group: Group) -> None:
         """Marks a group that is an accepted failure. One without an answer never is."""
-        if self.accept_list is None or group.result != BAD:
+        if self.accept_list is None or group.outcome.result != BAD:
             return
         entry = self.accept_list.entry_for(group.as_accepted)
         if entry is not None:
@@ -131,10 +127,6 @@ class CheckReport:
         for group, _ in found:
             self.mark(group)
         return found
-
-    def accepted_states(self) -> AcceptedStates:
-        """The failing states that are of accepted failures only."""
-        return states_of_accepted(self.groups())
 
     def accepted_not_found(self) -> List[AcceptedFailure]:
         """The accepted failures that no group is."""
@@ -166,13 +158,17 @@ class CheckReport:
         if self.counts.results[NO_ANSWER]:
             return NOT_ALL_TRIED
         further = self.disk_failures()
-        failing = self.counts.failing - self.accepted_states().total
+        failing = self.counts.failing - states_of_accepted(self.groups()).total
         second = any(group.accepted is None for group, _ in self.recovery_groups())
         if failing or further or second:
             return SOME_FAIL
+        return NONE_FAILS if self.is_whole else NOT_ALL_TRIED
+
+    @property
+    def is_whole(self) -> bool:
+        """Whether all was tried that should have been."""
         is_whole = not self.counts.left and not self.head.stopped
-        is_whole = is_whole and not any(one.fault for one in self.recoveries)
-        return NONE_FAILS if is_whole else NOT_ALL_TRIED
+        return is_whole and not any(one.fault for one in self.recoveries)
 
 
 def rows_of(findings: Findings) -> List[StateRow]:

@@ -6,15 +6,14 @@ from typing import TYPE_CHECKING, Iterable, List, Optional
 
 from crashfs_tools.checker.findings.groups import Group
 from crashfs_tools.checker.findings.accepted_failures import AcceptedFailure
-from crashfs_tools.checker.findings.wording import fails, number_of
+from crashfs_tools.checker.findings.wording import fails, joined_by, number_of
 from crashfs_tools.common.printable import printable
 from crashfs_tools.common.program import can_be_built
 from crashfs_tools.common.trace_lines import TraceLine
 
-from .profiles import profiles_text
+from .counts import states_of_accepted
 from .report import CheckReport
-from .rest import rest_lines
-from .summary import Summary
+from .summary import Summary, rest_lines
 
 if TYPE_CHECKING:
     from crashfs_tools.checker.findings.second_crashes import SecondCrash
@@ -31,10 +30,12 @@ VERSION_UNPROVED = (
 )
 SETS_UNPROVED = 'unproved: the Python implementation found which states there are, not crashfs'
 HOW_TO_BUILD = ' (tools/build builds crashfs)'
+# File systems that keep to a profile, as far as was seen (docs/DISKS.md).
+SEEN = {'journal': 'ext4, XFS'}
 
 
 class ReportText:
-    """The lines of a report, and those of its parts for the page and for JUnit."""
+    """The lines of a report, and those of its parts for the page, for JUnit and for TAP."""
 
     def __init__(self, report: CheckReport) -> None:
         self.report = report
@@ -97,7 +98,7 @@ class ReportText:
 
     def summary(self) -> str:
         """The first line: what was checked, and the verdict."""
-        return Summary(self.head, self.counts, self.report.accepted_states()).line
+        return Summary(self.head, self.counts, states_of_accepted(self.report.groups())).line
 
     def union_lines(self, shown: List[Group], covered: List[Group]) -> List[str]:
         """The result of all advised syncs at once, and the entries that need no other syncs."""
@@ -164,12 +165,15 @@ class ReportText:
             )
         for group, where in self.report.recovery_groups():
             lines += self.group_lines(group, where)
-        lines += [
+        return lines + self.not_tried_lines()
+
+    def not_tried_lines(self) -> List[str]:
+        """The recoveries in which no second crash was tried, each with the reason."""
+        return [
             f'  the recovery of state {one.state} was not tried: {one.fault}'
             for one in self.report.recoveries
             if one.fault
         ]
-        return lines
 
     def disk_lines(self) -> List[str]:
         """What was seen on real disks, and the failures there that no tried state has."""
@@ -190,8 +194,13 @@ class ReportText:
         lines = [f'  {cause:<{CAUSE_WIDTH}} {states}']
         if second is None:
             return lines + folded(self.details(group), '    ')
+        return lines + folded(self.second_crash_details(group, second), '    ')
+
+    @staticmethod
+    def second_crash_details(group: Group, second: SecondCrash) -> List[str]:
+        """The lines below the cause of an entry of second crashes."""
         crashes = f'state {second.state}, then a crash {second.place}'
-        return lines + folded([crashes, *group.advice.lines()], '    ')
+        return [crashes, *group.advice.lines()]
 
     def sentences(self, group: Group) -> List[str]:
         """Which lines of the trace an entry is about, without what to do."""
@@ -246,6 +255,28 @@ class ReportText:
         """A line of the trace, by its number, in words."""
         line = self.head.lines.get(number, TraceLine(number, ''))
         return f'line {number} ({line.text})'
+
+
+def profiles_text(group: Group, are_all: bool) -> str:
+    """The profiles that allow states of an entry, with how many if not all, and those that allow
+    none. are_all says whether all sets that leave the states were looked at."""
+    counts = {name: len(states) for name, states in group.under.items()}
+    is_same = all(count in (0, group.count) for count in counts.values())
+    allow = [
+        shown_profile(name) if is_same else f'{shown_profile(name)}: {count:,}'
+        for name, count in counts.items()
+        if count
+    ]
+    others = [shown_profile(name) for name, count in counts.items() if not count]
+    if not others:
+        return f'under {joined_by("and", allow)}'
+    how = '' if are_all else 'by the sets that were tried '
+    return f'under {joined_by("and", allow)}; {how}not under {joined_by("or", others)}'
+
+
+def shown_profile(name: str) -> str:
+    """A profile's name, with the file systems that were seen to keep to it."""
+    return f'{name} ({SEEN[name]})' if name in SEEN else name
 
 
 def folded(lines: Iterable[str], indent: str) -> List[str]:

@@ -10,8 +10,7 @@ import shutil
 import tempfile
 from typing import Callable, Dict, Iterable, Iterator, List, Set, Tuple
 
-from crashfs_tools.common.command import Refused
-from crashfs_tools.common.version import version_text
+from crashfs_tools.common.command import Refused, version_text
 
 from .cache import read_checked, write_checked
 from .runner import NO_ANSWER, Outcome

@@ -23,11 +23,8 @@ class FirstTrials:
         self.trials = trials
         self.results = results
         self.end = end
-
-    @property
-    def is_command(self) -> bool:
-        """Whether a command is tried, not a function."""
-        return self.trials.options.function is None
+        # Whether a command is tried, not a function.
+        self.is_command = trials.options.function is None
 
     def run(self) -> None:
         """Refused if COMMAND fails in one. An outcome is added to the results if its state is one
@@ -37,7 +34,7 @@ class FirstTrials:
             self.try_state(prefixes[-1], "the tree at the session's end")
         else:
             state = self.end.plan.listed[0]
-            outcome = self.trials.with_plan(self.end).try_one(state)
+            outcome = Trials(self.trials.workplace, self.end).try_one(state)
             self.refuse_bad(
                 outcome,
                 f"the tree at the session's end, where nothing is lost (says {state.says})",

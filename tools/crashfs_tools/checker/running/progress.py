@@ -1,4 +1,5 @@
-"""How far a check is: a line on a terminal, else one every half a minute."""
+"""How far a check is: a line on a terminal, else one every half a minute. And how long its states
+take: whether all of them can be tried."""
 
 from __future__ import annotations
 
@@ -13,6 +14,8 @@ from .runner import BAD, Outcome
 EVERY_SECONDS = 30.0
 TERMINAL_SECONDS = 0.1
 UNITS = ((3600, 'hour'), (60, 'minute'), (1, 'second'))
+# So many states tell how long all will take.
+MEASURED = 100
 
 
 class Progress:
@@ -69,6 +72,37 @@ class Progress:
         """Removes the line of the part from a terminal."""
         if self.is_terminal and self.tried:
             print('\r\033[K', end='', file=self.stream, flush=True)
+
+
+class TooSlow(Exception):
+    """All states would take longer than they may."""
+
+
+class Pace:
+    """Measures how long states take as they are tried; all together may take so many seconds."""
+
+    def __init__(self, most: float, clock: Callable[[], float] = time.monotonic) -> None:
+        self.most = most
+        self.clock = clock
+        self.begin(0)
+
+    def begin(self, total: int) -> None:
+        """Begins to measure so many states."""
+        self.total = total
+        self.tried = 0
+        self.begun = self.clock()
+
+    def note_tried(self) -> None:
+        """Counts one more state as tried. TooSlow, once, if all will take too long."""
+        self.tried += 1
+        if self.tried == MEASURED and self.seconds * self.total > self.most:
+            self.most = float('inf')
+            raise TooSlow
+
+    @property
+    def seconds(self) -> float:
+        """How long each state has taken, with all jobs at work; 0 if none was tried."""
+        return (self.clock() - self.begun) / self.tried if self.tried else 0.0
 
 
 def duration_text(seconds: float) -> str:

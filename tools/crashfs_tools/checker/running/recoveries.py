@@ -7,6 +7,7 @@ import os
 import signal
 import sys
 import traceback
+from dataclasses import dataclass
 from typing import Dict, List, NamedTuple, NoReturn, Protocol
 
 from crashfs_tools.checker.options import RecoveryFunction
@@ -38,11 +39,11 @@ class StateRecovery(Protocol):
         """Starts it, and returns the number of its process."""
 
 
+@dataclass
 class CommandRecovery:
     """A program with its arguments."""
 
-    def __init__(self, words: List[str]) -> None:
-        self.words = words
+    words: List[str]
 
     def start(self, environment: Dict[bytes, bytes], streams: StandardStreams) -> int:
         """Refused if the program can't be started; an OSError if there is no room for a process."""
@@ -65,12 +66,12 @@ class CommandRecovery:
             raise Refused(f'{self.words[0]}: {error.strerror}') from error
 
 
+@dataclass
 class FunctionRecovery:
     """A function. Each call is in a fork of this process: nothing that it does to this one's memory
     is seen later, and it can be killed if it is slow."""
 
-    def __init__(self, function: RecoveryFunction) -> None:
-        self.function = function
+    function: RecoveryFunction
 
     @property
     def words(self) -> List[str]:

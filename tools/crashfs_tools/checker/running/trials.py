@@ -7,18 +7,21 @@ from functools import cached_property, lru_cache
 from typing import TYPE_CHECKING, Callable, Dict, Iterable, List, Optional, Sequence, Set, Tuple
 
 from crashfs_tools.checker.options import Options
-from crashfs_tools.checker.states.layout import Archive, Layout
+from crashfs_tools.checker.states.layout import (
+    Archive,
+    Layout,
+    TreesByState,
+    trees_of_small_plan,
+)
 from crashfs_tools.checker.states.plan import Planned, State
-from crashfs_tools.checker.states.small_plan import SmallPlanLayout, TreesByState, trees_of
 from crashfs_tools.common.command import TEXT, Refused
 from crashfs_tools.common.guard import Guard
 from crashfs_tools.common.limits import RUNS
 from crashfs_tools.common.program import Crashfs
-from crashfs_tools.common.trace_text import is_large_trace, root_owner
+from crashfs_tools.common.trace_lines import is_large_trace, root_owner
 
 from .cache import OutcomeCache, StateKeys
-from .pace import Pace, TooSlow
-from .progress import Progress
+from .progress import Pace, Progress, TooSlow
 from .recoveries import CommandRecovery, FunctionRecovery, StateRecovery
 from .results import Results
 from .runner import AcknowledgedLines, Checker, Outcome, do_nothing
@@ -63,28 +66,20 @@ class Trials:
         self.planned = planned
         self.plan = planned.plan
 
-    def with_plan(self, planned: Planned) -> Trials:
-        """The same for some states of another plan."""
-        return Trials(self.workplace, planned)
-
     def for_recovery(self, planned: Planned, program: Crashfs) -> Trials:
         """The same for all states of a recovery, whose trees a program makes."""
         return Trials(replace(self.workplace, program=program), planned, keeps_trees=True)
 
     def checker(self) -> Checker:
-        """What runs COMMAND in a state that is laid out."""
-        return Checker(self.recovery(), self.options.timeout, self.guard.environment, self.says)
-
-    def recovery(self) -> StateRecovery:
-        """What is run in the states: COMMAND, or the function in its place."""
-        function = self.options.function
-        if function is not None:
-            return FunctionRecovery(function)
-        return CommandRecovery(self.options.command)
+        """What runs COMMAND, or the function in its place, in a state that is laid out."""
+        recovery: StateRecovery = CommandRecovery(self.options.command)
+        if self.options.function is not None:
+            recovery = FunctionRecovery(self.options.function)
+        return Checker(recovery, self.options.timeout, self.guard.environment, self.says)
 
     def archive(self, folder: str) -> Archive:
         """A layout of states below a folder that also has states that stay."""
-        return Archive(self.program, self.planned, folder, self.guard.environment)
+        return Archive(self.program, self.planned, folder, self.guard.environment, self.kept_trees)
 
     def layout(self, many: bool = False) -> Layout:
         """Where states are tried; it is removed when the guard ends. many says whether so many are
@@ -96,8 +91,6 @@ class Trials:
                 return KeptLayout(
                     self.program, self.planned, self.guard.directory, self.guard.environment
                 )
-            if self.kept_trees is not None:
-                return SmallPlanLayout(self.plan, self.kept_trees, self.guard.directory)
             return self.archive(self.guard.directory)
         from crashfs_tools.checker.states.mounts import Mounts
 
@@ -115,7 +108,7 @@ class Trials:
         """All trees of the plan; None if they aren't kept."""
         if not self.keeps_trees or self.are_trees_large:
             return None
-        return trees_of(self.program, self.planned, self.guard.environment)
+        return trees_of_small_plan(self.program, self.planned, self.guard.environment)
 
     def tree(self, number: int) -> Entries:
         """The tree of a state, without its root."""

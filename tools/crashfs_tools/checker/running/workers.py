@@ -8,7 +8,7 @@ import os
 import select
 import signal
 import time
-from dataclasses import replace
+from dataclasses import dataclass, replace
 from functools import partial
 from typing import Any, Callable, Dict, List, NoReturn, Optional, Set
 
@@ -30,14 +30,14 @@ SENT_SECONDS = 0.05
 OnOutcome = Callable[[int, Outcome], None]
 
 
+@dataclass
 class Worker:
     """One process by its number, this end of its pipe, and what it has written so far of a line
     that isn't whole."""
 
-    def __init__(self, process: int, pipe: int) -> None:
-        self.process = process
-        self.pipe = pipe
-        self.rest = b''
+    process: int
+    pipe: int
+    rest: bytes = b''
 
     def lines(self) -> Optional[List[bytes]]:
         """The whole lines that it has written since, maybe none; None if it writes no more.

@@ -6,7 +6,7 @@ from __future__ import annotations
 import json
 from functools import cached_property
 from itertools import islice
-from typing import TYPE_CHECKING, Dict, Iterable, Iterator, List, Optional, Protocol
+from typing import TYPE_CHECKING, Dict, Iterable, List, Optional, Protocol
 
 from crashfs_tools.common.program import Crashfs, ProgramFault
 
@@ -137,7 +137,7 @@ class ReadSets:
     @cached_property
     def orders(self) -> Dict[str, Order]:
         """The order that a file system of each profile keeps, by the profile's name."""
-        from crashfs_tools.reading.profiles import orders_in
+        from crashfs_tools.reading.order import orders_in
 
         orders = orders_in(self.reading)
         if self.reading.version >= ACKNOWLEDGED_FIRST:
@@ -161,19 +161,9 @@ class ReadSets:
         acknowledged lines needn't be."""
         return self.plan.order.pending(count) & ~self.plan.trees.says != 0
 
-    def sets_without_lines(self) -> List[int]:
-        """For each line of the trace the largest set that has nothing of it."""
-        return self.needs.sets_without_lines(one.line for one in self.reading.operations)
-
-    def file_sets(self) -> Iterator[int]:
-        """The family --files, as `picks` prints it, but that sets may come again."""
-        from crashfs_tools.reading.plan import file_sets
-
-        return file_sets(self.plan)
-
     def profile_bits_of(self, sets: Iterable[int]) -> List[int]:
         """Of each set the profiles that allow it, as bits of a number, in the order of orders."""
-        from crashfs_tools.reading.profiles import Profiles
+        from crashfs_tools.reading.order import Profiles
 
         profiles, names = Profiles(self.reading), list(self.orders)
         return [set_of(map(names.index, profiles.names(kept))) for kept in sets]

@@ -1,4 +1,5 @@
-"""What states are laid out by, and one way of it: from the archive that `crashfs tar` writes."""
+"""What states are laid out by, and one way of it: from the archives that `crashfs tar` writes. Of a
+small plan all trees are read from one archive and kept: the program is started once for them."""
 
 from __future__ import annotations
 
@@ -6,7 +7,7 @@ import os
 from abc import ABC, abstractmethod
 from contextlib import contextmanager
 from itertools import groupby
-from typing import ContextManager, Dict, Iterable, Iterator, List, Set, Tuple
+from typing import ContextManager, Dict, Iterable, Iterator, List, Optional, Set, Tuple
 
 from crashfs_tools.common.archive import Member
 from crashfs_tools.common.entry import Entry
@@ -14,12 +15,17 @@ from crashfs_tools.common.removal import FOLDER, remove_tree, set_folder_mode
 from crashfs_tools.common.program import Crashfs, ProgramFault, first_name
 from crashfs_tools.common.sparse import SparseBytes
 
-from .plan import Planned
+from .plan import Plan, Planned
 from .rewriting import PIECE_BYTES, Bytes, has_bytes, write_at
 
 NEW_FILE = os.O_WRONLY | os.O_CREAT | os.O_EXCL | os.O_NOFOLLOW | os.O_CLOEXEC
 # A directory's mode while it is filled.
 FILLED_MODE = 0o700
+# Of more trees, or more bytes of files, each process reads an archive of its own at the same time.
+MOST_TREES, MOST_BYTES = 256, 1 << 24
+
+# The trees by the first state that has each; a path is below the state's directory.
+TreesByState = Dict[int, List[Member]]
 
 
 class Layout(ABC):
@@ -36,15 +42,22 @@ class Layout(ABC):
 
 
 class Archive(Layout):
-    """Lays states out below a folder, each as a directory that has its number."""
+    """Lays states out below a folder, each as a directory that has its number. kept has all trees
+    of the plan, if they are kept in memory."""
 
     def __init__(
-        self, program: Crashfs, planned: Planned, folder: str, environment: Dict[str, str]
+        self,
+        program: Crashfs,
+        planned: Planned,
+        folder: str,
+        environment: Dict[str, str],
+        kept: Optional[TreesByState] = None,
     ) -> None:
         self.program = program
         self.planned = planned
         self.folder = folder
         self.environment = environment
+        self.kept = kept
 
     @contextmanager
     def laid_out(self, number: int, directory: str) -> Iterator[None]:
@@ -55,22 +68,59 @@ class Archive(Layout):
     def states(self, wanted: Set[int]) -> Iterator[Tuple[int, str]]:
         """Each directory has its tree already: an archive is read as fast as states are taken.
         ProgramFault if the program lacks one."""
-        left = set(wanted)
-        for request in self.planned.requests(wanted):
-            with self.program.archive(request.words, self.environment) as members:
-                for top, tree in groupby(members, first_name):
-                    number = int(top) + request.lead
-                    if number in left:
-                        left.remove(number)
-                        yield number, self.directory_of(number, top, tree)
-        if left:
-            raise ProgramFault(0, f'crashfs tar wrote no state {min(left)}'.encode())
+        for number, tree in self.trees(wanted):
+            directory = unused_path(os.path.join(self.folder, str(number)))
+            lay_out(directory, tree)
+            yield number, directory
 
-    def directory_of(self, number: int, top: str, tree: Iterable[Member]) -> str:
-        """Lays out a state, whose paths in the archive begin with a name; returns its directory."""
-        directory = unused_path(os.path.join(self.folder, str(number)))
-        lay_out(directory, ((path[len(top) + 1 :], entry) for path, entry in tree))
-        return directory
+    def trees(self, wanted: Set[int]) -> Iterator[Tuple[int, Iterable[Member]]]:
+        """The trees of the wanted states, by their numbers, as archived_trees has them."""
+        if self.kept is None:
+            yield from archived_trees(self.program, self.planned, wanted, self.environment)
+            return
+        for number in sorted(wanted):
+            yield number, self.kept[self.planned.plan.state(number).same]
+
+
+def archived_trees(
+    program: Crashfs, planned: Planned, wanted: Set[int], environment: Dict[str, str]
+) -> Iterator[Tuple[int, Iterator[Member]]]:
+    """The trees of the wanted states of a plan, by the states' numbers, ascending. A tree is read
+    before the next one is asked for; its paths are below the state's directory. ProgramFault, at
+    the end, if the program lacks one."""
+    left = set(wanted)
+    for request in planned.requests(wanted):
+        with program.archive(request.words, environment) as members:
+            for top, tree in groupby(members, first_name):
+                number = int(top) + request.lead
+                if number in left:
+                    left.remove(number)
+                    yield number, ((path[len(top) + 1 :], entry) for path, entry in tree)
+    if left:
+        raise ProgramFault(0, f'crashfs tar wrote no state {min(left)}'.encode())
+
+
+def is_small(plan: Plan) -> bool:
+    """Whether a plan has few different trees."""
+    return len({state.same for state in plan.listed}) <= MOST_TREES
+
+
+def trees_of_small_plan(
+    program: Crashfs, planned: Planned, environment: Dict[str, str]
+) -> Optional[TreesByState]:
+    """All trees of a plan; None if they are too many, or have too many bytes, to be kept.
+    ProgramFault if the program lacks one."""
+    if not is_small(planned.plan):
+        return None
+    trees: TreesByState = {}
+    size = 0
+    firsts = {state.same for state in planned.plan.listed}
+    for number, tree in archived_trees(program, planned, firsts, environment):
+        trees[number] = list(tree)
+        size += sum(len(entry.data or b'') for _, entry in trees[number])
+        if size > MOST_BYTES:
+            return None
+    return trees
 
 
 def unused_path(path: str) -> str:

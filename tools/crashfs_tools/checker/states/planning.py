@@ -16,9 +16,9 @@ from crashfs_tools.common.program import READING, Crashfs, ProgramFault, is_plan
 
 from .all_sets import AllSets, ReadSets, all_sets
 from .joining import joined_states
+from .layout import is_small
 from .place_sets import places_of
 from .plan import AllStates, Needs, Offsets, Part, Plan, Planned, SetProfiles, read_plan
-from .small_plan import is_small
 
 # Sets are drawn by the same seed each time.
 SEED = 1
@@ -52,7 +52,8 @@ class Planner:
         if not options.has_every:
             planned = self.plan_of_picks(trace, offsets, [families])
         else:
-            without = read.sets_without_lines()
+            lines = (one.line for one in read.reading.operations)
+            without = read.needs.sets_without_lines(lines)
             families += [one for one in without if not self.is_always_listed(read.needs, one)]
             planned = self.plan_of_all(trace, offsets, read, list(dict.fromkeys(families)))
         if planned.plan.needs.masks != read.needs.masks:
@@ -133,8 +134,7 @@ class Planner:
         words = ['--trace', trace, *([] if self.options.prefixes else ['--holes'])]
         options_of_parts = [words] if not any(picks) else []
         for number, sets in enumerate(picks if any(picks) else []):
-            path = self.picks_path(trace, number)
-            write_picks(path, sets)
+            path = self.write_picks(trace, f'.picks{number or ""}', sets)
             own = words if number == 0 else ['--trace', trace]
             options_of_parts.append([*own, '--picks', path])
         listed = [self.output_of(['list', *one, '--json']) for one in options_of_parts]
@@ -146,8 +146,7 @@ class Planner:
 
     def plan_of_sets(self, planned: Planned, sets: Iterable[int]) -> Planned:
         """A plan of the same trace that has the prefixes and these sets of micro-operations."""
-        path = os.path.join(self.guard.directory, os.path.basename(planned.trace) + '.sets')
-        write_picks(path, dict.fromkeys(sets))
+        path = self.write_picks(planned.trace, '.sets', dict.fromkeys(sets))
         words = ['--trace', planned.trace, '--picks', path]
         plan = read_plan(self.output_of(['list', *words, '--json']), planned.offsets)
         return Planned(planned.trace, parts_of(plan, [words], []), plan, planned.offsets)
@@ -158,8 +157,10 @@ class Planner:
 
     def family_sets(self, read: ReadSets) -> List[int]:
         """The sets of the families that are asked for and not always listed, each once."""
+        from crashfs_tools.reading.plan import file_sets
+
         sets = list(read.needs.masks) if self.options.has_lost else []
-        sets += read.file_sets() if self.options.has_files else []
+        sets += file_sets(read.plan) if self.options.has_files else []
         return [one for one in dict.fromkeys(sets) if not self.is_always_listed(read.needs, one)]
 
     def is_always_listed(self, needs: Needs, kept: int) -> bool:
@@ -169,10 +170,13 @@ class Planner:
             return False
         return needs.is_prefix_or_hole(kept)
 
-    def picks_path(self, trace: str, part: int = 0) -> str:
-        """The file that has the picks of a part of a plan."""
-        name = f'{os.path.basename(trace)}.picks{part or ""}'
-        return os.path.join(self.guard.directory, name)
+    def write_picks(self, trace: str, ending: str, sets: Iterable[int]) -> str:
+        """Writes a picks file, a set in each line, whose name is the trace's with an ending.
+        Returns its path."""
+        path = os.path.join(self.guard.directory, os.path.basename(trace) + ending)
+        with open(path, 'w', encoding='ascii') as file:
+            file.writelines(f'{json.dumps(list(places_of(one)))}\n' for one in sets)
+        return path
 
     def output_of(self, words: List[str]) -> str:
         """What the program prints. Refused in its words; TooLarge if the plan would be too
@@ -206,12 +210,6 @@ def sets_of_all_states(sets: AllSets, read: ReadSets, most: int) -> Optional[Lis
     others = [name for place, name in enumerate(read.orders) if not of_all >> place & 1]
     # The program has no option for another profile yet.
     return found + [one for name in others for one in read.different_sets(most, name) or []]
-
-
-def write_picks(path: str, sets: Iterable[int]) -> None:
-    """Writes a picks file, a set in each line."""
-    with open(path, 'w', encoding='ascii') as file:
-        file.writelines(f'{json.dumps(list(places_of(one)))}\n' for one in sets)
 
 
 def picks_in_parts(picks: List[int], room: int, operations: int) -> List[List[int]]:
