@@ -53,7 +53,8 @@ def wide_lines() -> Iterator[str]:
     """A sentence for each line of crates and of Python that is too wide; in Python a text is split
     by hand."""
     for path in crate_sources():
-        is_proof = path.relative_to(CRATES).parts[1] == 'proofs'
+        # Laws are proved lemmas that crates above use.
+        is_proof = bool({'proofs', 'Laws'} & set(path.relative_to(CRATES).parts[1:-1]))
         columns = PROOF_COLUMNS if is_proof else CODE_COLUMNS
         for line in long_lines(path.read_text('utf-8'), columns):
             yield f'{name_of(path)}: longer than {columns} columns: {line.strip()}'

@@ -129,7 +129,8 @@ directories_below : (version : Version) (m : Made) (ops : List MicroOp) → AreL
     → DirectoriesBelow (length m.homes + length (directories_made ops)) (op_at ops k)
 directories_below version m ops legal homes k = ⊎_elim
     (λ (low : k < length ops). by (op_at ops k) refl low)
-    (λ (high : length ops ≤ k). subst (DirectoriesBelow (length m.homes + length (directories_made ops))) (sym (get_or_past ops k Say high)) tt)
+    (λ (high : length ops ≤ k). subst (DirectoriesBelow (length m.homes + length (directories_made ops)))
+    (sym (get_or_past ops k Say high)) tt)
     (cases_lt k (length ops))
   where
     by : (o : MicroOp) → op_at ops k ≡ o → k < length ops → DirectoriesBelow (length m.homes + length (directories_made ops)) o
@@ -166,5 +167,6 @@ pub known_steps : (version : Version) (m : Made) (ops : List MicroOp) → AreLeg
     → (es : List Entry) (n : ℕ) (steps : List Step) → n ≡ length es → AreSteps es ops steps
     → AreKnownSteps n (length m.homes + length (directories_made ops)) (m.files + length (owners_made ops)) steps
 known_steps version m ops legal homes es n steps long are k =
-    known_step es n (length m.homes + length (directories_made ops)) (m.files + length (owners_made ops)) (op_at ops k) (step_at steps k) long
+    known_step es n (length m.homes + length (directories_made ops)) (m.files + length (owners_made ops)) (op_at ops k) (step_at steps k)
+    long
     (directories_below version m ops legal homes k) (files_below version m ops legal k) (step_is es ops steps are k)

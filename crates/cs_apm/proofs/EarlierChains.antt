@@ -73,10 +73,12 @@ module _ (ops : List MicroOp) (syncs : List SyncPoint) (version : Version) (prof
       (λ (other : E j (entry_of f) ≢ Some (Directory d)).
       (let v = removed_between ops home number E h j i (entry_of f) d (omega (arith, order)) (omega (arith, high)) held other in
       let from = v.1 in
-      let apart : i ≢ v.0 = λ same. (let x : Other ≡ Delete (entry_of f) (Directory d) = sym (ap entry_op sets.1) ∙ ap (entry_op_at ops) same ∙ v.3 in absurd (cc)) in
+      let apart : i ≢ v.0 = λ same. (let x : Other ≡ Delete (entry_of f) (Directory d) = sym (ap entry_op sets.1)
+          ∙ ap (entry_op_at ops) same ∙ v.3 in absurd (cc)) in
       two i v.0 j (omega (arith, from, apart)) v.2
       (settles_one_directory d settles (inl (inr (removes_by (op_at ops v.0) (entry_of f) d v.3))))
-      (touches_one_entry (entry_of f) (touches_by (op_at ops v.0) (entry_of f) (Delete (entry_of f) (Directory d)) v.3 (0, omega arith, refl))
+      (touches_one_entry (entry_of f) (touches_by (op_at ops v.0) (entry_of f) (Delete (entry_of f) (Directory d)) v.3
+      (0, omega arith, refl))
       (touch (op_at ops j) f w))))
       (directory_cases (E j (entry_of f)) d)
 
@@ -103,7 +105,8 @@ module _ (ops : List MicroOp) (syncs : List SyncPoint) (version : Version) (prof
       (directory_cases (E (suc i) (entry_of f)) d)
 
   -- both name one path
-  pub name_chained : (i j : ℕ) → i < j → j < n → before.shares_path (op_before (op_at ops i)) (op_before (op_at ops j)) ≡ true → IsChained i j
+  pub name_chained : (i j : ℕ) → i < j → j < n → before.shares_path (op_before (op_at ops i)) (op_before (op_at ops j)) ≡ true
+      → IsChained i j
   name_chained i j order high is =
       let w = shares_found (op_at ops i) (op_at ops j) is in
       let low : i < n = omega (arith, order, high) in
@@ -122,7 +125,8 @@ module _ (ops : List MicroOp) (syncs : List SyncPoint) (version : Version) (prof
       (λ (g : (d : ℕ) × SetsAt (op_at ops j) d w.path).
       (let x : at_path (E i) w.path ≡ Some (Directory f.0) = subst (AreNamed (E i)) f.1.1 (h.named i low) in
       let y : at_path (E j) w.path ≡ Some (Directory g.0) = subst (AreNamed (E j)) g.1.1 (h.named j high) in
-      let same = one_directory home number (E i) (E j) (h.placed i (omega (arith, low))) (h.placed j (omega (arith, high))) w.path f.0 g.0 x y in
+      let same = one_directory home number (E i) (E j) (h.placed i (omega (arith, low))) (h.placed j (omega (arith, high))) w.path f.0 g.0
+          x y in
       one i j order (settles_one_directory f.0 (inr (w.path, f.1.0, f.1.1))
       (subst (Settles (op_at ops j)) (sym same) (inr (w.path, g.1.0, g.1.1))))))
       (named_says (op_at ops j) w.path w.second))
@@ -142,7 +146,8 @@ module _ (ops : List MicroOp) (syncs : List SyncPoint) (version : Version) (prof
       record {
         made = creates_says (op_at ops i) q (sym (ap (λ o. before.creates o q) (at_before ops i)) ∙ parts.0);
         last = λ k from to made. false≢true (sym (ap not
-            (any_between (λ k. before.creates (before.op_at (map op_before ops) k) q) (i + 1) (j - (i + 1)) k (omega (arith, from)) (omega (arith, from, to))
+            (any_between (λ k. before.creates (before.op_at (map op_before ops) k) q) (i + 1) (j - (i + 1)) k (omega (arith, from))
+            (omega (arith, from, to))
             (ap (λ o. before.creates o q) (at_before ops k) ∙ made))) ∙ parts.1);
       }
 
@@ -174,14 +179,16 @@ module _ (ops : List MicroOp) (syncs : List SyncPoint) (version : Version) (prof
       named = made_named ops home number E h i low latest.made.node first
 
       held : E j (entry_of g) ≡ Some (Directory c)
-      held = entry_at_path ops home number E h j i (omega (arith, high)) (omega (arith, low)) g c named (ap (at_path (E j)) latest.made.path ∙ at)
+      held = entry_at_path ops home number E h j i (omega (arith, high)) (omega (arith, low)) g c named
+          (ap (at_path (E j)) latest.made.path ∙ at)
 
       here : IsNamed (E j) g
       here = held_named ops home number E h i j (omega (arith, low)) (omega (arith, high)) g (Directory c) named held
 
       again : (m : ℕ) × (i ≤ m) × (m < j) × Creates (op_at ops m) (Directory c)
       again = made_again ops home number E h i j order (omega (arith, high)) g c here held
-          (record { entry = g; node = latest.made.node; rights = latest.made.rights; bytes = latest.made.bytes; is = latest.made.is; path = refl })
+          (record { entry = g; node = latest.made.node; rights = latest.made.rights; bytes = latest.made.bytes; is = latest.made.is; path =
+          refl })
 
       made : Creates (op_at ops i) (Directory c)
       made = ⊎_elim
@@ -195,7 +202,8 @@ module _ (ops : List MicroOp) (syncs : List SyncPoint) (version : Version) (prof
           let same = sym ((h.placed (suc again.0) (omega (arith, m_low))).at_home (entry_of w.0) c there)
           ∙ (h.placed j (omega (arith, high))).at_home (entry_of g) c held in
           let path = one_name ops home number E h again.0 i (omega (arith, m_low)) (omega (arith, low)) w.0 g named_m named same in
-          absurd (latest.last again.0 (omega (arith, from, other)) to (says_creates (op_at ops again.0) q (Directory c) w (path ∙ latest.made.path)))))
+          absurd (latest.last again.0 (omega (arith, from, other)) to
+          (says_creates (op_at ops again.0) q (Directory c) w (path ∙ latest.made.path)))))
           (cases_eq i again.0)
 
   -- nothing is in a directory just made
@@ -221,14 +229,17 @@ module _ (ops : List MicroOp) (syncs : List SyncPoint) (version : Version) (prof
 
   pub making_chained : (i j : ℕ) → i < j → j < n → before.makes_parent (map op_before ops) i j ≡ true → IsChained i j
   making_chained i j order high is =
-      let w = any_found (λ p. before.is_latest (map op_before ops) i j (parent_path p)) (before.paths_named (before.op_at (map op_before ops) j)) is in
+      let w = any_found (λ p. before.is_latest (map op_before ops) i j (parent_path p))
+          (before.paths_named (before.op_at (map op_before ops) j)) is in
       let latest = latest_at i j (parent_path w.0) w.2 in
       let low : i < n = omega (arith, order, high) in
       ⊎_elim
       (λ (f : (e : DirEntry) × Contains (dir_entries (op_at ops j)) e × (e.path ≡ w.0)).
       (let nf = named_at ops home number E h j high f.0 f.1 in
-      let at : at_path (E j) (parent_path w.0) ≡ Some (Directory f.0.directory) = ap (λ p. at_path (E j) (parent_path p)) (sym f.2) ∙ nf.1 in
-      one i j order (makes_directory (entry_of f.0) (touch (op_at ops j) f.0 f.1) (latest_making i j order high (parent_path w.0) f.0.directory at latest))))
+      let at : at_path (E j) (parent_path w.0) ≡ Some (Directory f.0.directory) = ap (λ p. at_path (E j) (parent_path p)) (sym f.2)
+          ∙ nf.1 in
+      one i j order (makes_directory (entry_of f.0) (touch (op_at ops j) f.0 f.1)
+      (latest_making i j order high (parent_path w.0) f.0.directory at latest))))
       (λ (g : (d : ℕ) × SetsAt (op_at ops j) d w.0). ⊎_elim
       (λ (nil : w.0 ≡ []).
       (let named = made_named ops home number E h i low latest.made.node

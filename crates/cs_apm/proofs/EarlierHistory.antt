@@ -23,7 +23,8 @@ use Rattle.cs_apm.proofs.EarlierPaths.{IsPlaced}
 use Rattle.cs_apm.proofs.EarlierRules.{IsPlain}
 use Rattle.cs_apm.proofs.EarlierTimes.{IsHistory, come, directory_cases}
 
-plain_of : (version : Version) (m : Made) (o : MicroOp) → is_fourth version ≡ false → is_first_half o ≡ false → IsLegal version m o → IsPlain o
+plain_of : (version : Version) (m : Made) (o : MicroOp) → is_fourth version ≡ false → is_first_half o ≡ false → IsLegal version m o
+    → IsPlain o
 plain_of version m (MoveDirEntry a b (Directory d) None) early whole legal = false≢true (sym early ∙ legal.fitting)
 plain_of version m (MoveDirEntry a b (Directory d) (Some (Directory c))) early whole legal = false≢true (sym early ∙ legal.fitting)
 plain_of version m (MoveDirEntry a b (Directory d) (Some (File kind file))) early whole legal = legal.fitting

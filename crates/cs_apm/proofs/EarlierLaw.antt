@@ -119,7 +119,8 @@ module _ (t : Trace) (early : IsOfEarlierVersion t) (tree : IsTree (held_in (sta
   content_same : (p : Path) → content_before (content_at t.records p) ≡ before.content_at t.records p
   content_same p = by (record_in t.records p)
     where
-      by : (o : Option Record) → content_before (option_map_or content_of o no_content) ≡ option_map_or before.content_of o before.no_content
+      by : (o : Option Record) → content_before (option_map_or content_of o no_content) ≡ option_map_or before.content_of o
+          before.no_content
       by None = refl
       by (Some r) = refl
 
@@ -150,7 +151,8 @@ module _ (t : Trace) (early : IsOfEarlierVersion t) (tree : IsTree (held_in (sta
 
   begins : AreAlike first.directories (held_in m.entries) old.paths
   begins =
-      start_alike t legal.homes legal.are legal.many each (ascending_of (map (λ e. e.0) t.records) sorted) tree early.leads (directories_made ops)
+      start_alike t legal.homes legal.are legal.many each (ascending_of (map (λ e. e.0) t.records) sorted) tree early.leads
+      (directories_made ops)
 
   no_links : IsWithoutLinks (held_in m.entries)
   no_links e file held =
@@ -180,16 +182,20 @@ module _ (t : Trace) (early : IsOfEarlierVersion t) (tree : IsTree (held_in (sta
         (sym (members_run state_after first ops n places allowed.ascending allowed.in_range))
         (subst (λ (o : before.State). AreAlike (run state_after has first ops n).directories left_entries o.paths)
         (sym (members_run after_before old ops n places allowed.ascending allowed.in_range))
-        (alike_at t.version m ops micro_legal legal.are tree early.version used whole has has_needs first old known_low rooted begins n (omega arith)))
+        (alike_at t.version m ops micro_legal legal.are tree early.version used whole has has_needs first old known_low rooted begins n
+        (omega arith)))
 
     leads_left : (q : Path) → get (nodes_left (state_of (start_state t) ops places)) q ≡ at_path left_entries q
     leads_left q =
         (λ i. get (paths_in (deep i + 1) (table i)) q)
-        ∙ state_leads m.entries (entry_op_at ops) n (length m.homes + length (directories_made ops)) has tree (legal_entries t.version m ops micro_legal legal.are)
+        ∙ state_leads m.entries (entry_op_at ops) n (length m.homes + length (directories_made ops)) has tree
+        (legal_entries t.version m ops micro_legal legal.are)
         (inr (fixed t.version m ops micro_legal legal.are early.version)) (few t.version m ops micro_legal legal.are)
-        (inside ops (needs_of (micros_in t)) n places allowed) (entries_closed ops syncs t.version (profile_of t.version) n places allowed) q
+        (inside ops (needs_of (micros_in t)) n places allowed) (entries_closed ops syncs t.version (profile_of t.version) n places allowed)
+        q
         ∙ ap (λ (held : Entries). at_path held q) (λ i e.
-        table_held m.entries (entry_op_at ops) n (length m.homes + length (directories_made ops)) has tree (legal_entries t.version m ops micro_legal legal.are)
+        table_held m.entries (entry_op_at ops) n (length m.homes + length (directories_made ops)) has tree
+        (legal_entries t.version m ops micro_legal legal.are)
         (inr (fixed t.version m ops micro_legal legal.are early.version)) (few t.version m ops micro_legal legal.are)
         (inside ops (needs_of (micros_in t)) n places allowed) (entries_closed ops syncs t.version (profile_of t.version) n places allowed)
         n (omega arith) e i)
@@ -198,12 +204,15 @@ module _ (t : Trace) (early : IsOfEarlierVersion t) (tree : IsTree (held_in (sta
         deep = long_left (start_state t) m ops syncs t.version (profile_of t.version) places tree refl legal.are as_many micro_legal allowed
 
         table : (state_of (start_state t) ops places).entries ≡ table_of has m.entries (entry_op_at ops) n
-        table = entries_left (start_state t) m ops syncs t.version (profile_of t.version) places tree refl legal.are as_many micro_legal allowed
+        table = entries_left (start_state t) m ops syncs t.version (profile_of t.version) places tree refl legal.are as_many micro_legal
+            allowed
 
-    states : crash_state_of t (micros_in t) places ≡ before.crash_state_of (trace_before t) (micros_before.micros_in (trace_before t)) places
+    states : crash_state_of t (micros_in t) places ≡ before.crash_state_of (trace_before t) (micros_before.micros_in (trace_before t))
+        places
     unfolding state_of before.state_of
     states =
-        trees_alike (fold state_after first members) (fold after_before old members) (nodes_left (fold state_after first members)) left_entries
+        trees_alike (fold state_after first members) (fold after_before old members) (nodes_left (fold state_after first members))
+        left_entries
         (without_links t.version m ops micro_legal legal.are tree early.version used whole has has_needs no_links n (omega arith))
         leads_left left_alike (files_alike first old files_same members) (owners_alike first old owners_same members)
         ∙ ap before.tree_of_state (sym (same_fold old ops places))

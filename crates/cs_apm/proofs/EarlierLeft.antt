@@ -41,7 +41,8 @@ use Rattle.cs_apm.proofs.EarlierStates.{AreAlike, InOp, alike_after, held_or_roo
 use Rattle.cs_apm.proofs.EarlierTimes.{come, directory_cases}
 
 -- the directory of what a legal operation touches is reached
-reached_op : (m : Entries) (o : MicroOp) → IsTree m → IsLegalEntryOp m (entry_op o) → (f : DirEntry) → InOp o f → IsReached m Any f.directory
+reached_op : (m : Entries) (o : MicroOp) → IsTree m → IsLegalEntryOp m (entry_op o) → (f : DirEntry) → InOp o f
+    → IsReached m Any f.directory
 reached_op m (CreateDirEntry e node rights bytes) tree l f is = subst (λ (x : DirEntry). IsReached m Any x.directory) is l.1
 reached_op m (LinkDirEntry e kind file old half) tree l f is = subst (λ (x : DirEntry). IsReached m Any x.directory) is l.1
 reached_op m (DeleteDirEntry e node) tree l f is =
@@ -91,7 +92,8 @@ puts_none version m (WriteBlock file block start at bytes) early plain legal = t
 puts_none version m (SetAttr target rights) early plain legal = tt
 puts_none version m Say early plain legal = tt
 
-put_none : (m : Entries) (e : Entry) (held : Option Node) → ((file : ℕ) → held ≢ Some (File Symlink file)) → IsWithoutLinks m → IsWithoutLinks (put m e held)
+put_none : (m : Entries) (e : Entry) (held : Option Node) → ((file : ℕ) → held ≢ Some (File Symlink file)) → IsWithoutLinks m
+    → IsWithoutLinks (put m e held)
 put_none m e held none without q file is = ⊎_elim
     (λ (s : (entry_eq e q ≡ true) × (e ≡ q)). none file (sym (put_here m e held) ∙ ap (put m e held) s.1 ∙ is))
     (λ (s : (entry_eq e q ≡ false) × (e ≢ q)). without q file (sym (put_other m e q held s.1) ∙ is))
@@ -111,7 +113,8 @@ without_after m (LinkDirEntry e Regular file old half) puts without =
     put_none m (entry_of e) (Some (File Regular file)) (λ n is. cc) without
 without_after m (DeleteDirEntry e node) puts without = put_none m (entry_of e) None nothing_else without
 without_after m (MoveDirEntry a b node old) puts without =
-    put_none (put m (entry_of a) None) (entry_of b) (m (entry_of a)) (without (entry_of a)) (put_none m (entry_of a) None nothing_else without)
+    put_none (put m (entry_of a) None) (entry_of b) (m (entry_of a)) (without (entry_of a))
+    (put_none m (entry_of a) None nothing_else without)
 without_after m (ChangeFileSize file to) puts without = without
 without_after m (WriteBlock file block start at bytes) puts without = without
 without_after m (SetAttr target rights) puts without = without
@@ -211,7 +214,8 @@ module _ (version : Version) (m : Made) (ops : List MicroOp) (legal : AreLegal v
 
   -- ---- what is at each path
 
-  module _ (first : State) (old : before.State) (known : (k d : ℕ) (e : Entry) → k ≤ n → T k e ≡ Some (Directory d) → d < length first.directories)
+  module _ (first : State) (old : before.State) (known : (k d : ℕ) (e : Entry) → k ≤ n → T k e ≡ Some (Directory d)
+      → d < length first.directories)
       (rooted : 0 < length first.directories)
       (begins : AreAlike first.directories (held_in m.entries) old.paths) where
     abbrev pub new_at : ℕ → State

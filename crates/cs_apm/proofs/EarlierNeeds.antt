@@ -34,7 +34,8 @@ use Rattle.cs_apm.proofs.EarlierTimes.{some_node, touch, touched}
 
 -- ---- paths that both name
 
-pub shares_from : (a b : MicroOp) (p q : Path) → Contains (before.paths_named (op_before a)) p → Contains (before.paths_named (op_before b)) q
+pub shares_from : (a b : MicroOp) (p q : Path) → Contains (before.paths_named (op_before a)) p
+    → Contains (before.paths_named (op_before b)) q
     → p ≡ q → before.shares_path (op_before a) (op_before b) ≡ true
 shares_from a b p q x y is =
     any_from (before.names_path (op_before a)) (before.paths_named (op_before b)) q y
@@ -100,7 +101,8 @@ module _ (ops : List MicroOp) (home : ℕ → Entry) (number : Entry → ℕ) (E
   named_as : (k : ℕ) → k < n → (d : ℕ) → Settles (op_at ops k) d → IsNamedAs E n (op_at ops k) d
   named_as k low d (inl (inl made)) =
       (let at = made_after ops home number E h k low d made in
-      let c : Contains (dir_entries (op_at ops k)) made.0 = subst (λ o. Contains (dir_entries o) made.0) (sym made.3) (0, omega arith, refl) in
+      let c : Contains (dir_entries (op_at ops k)) made.0 =
+          subst (λ o. Contains (dir_entries o) made.0) (sym made.3) (0, omega arith, refl) in
       let here = held_named ops home number E h k (suc k) (omega (arith, low)) (omega (arith, low)) made.0 (Directory d)
       (named_at ops home number E h k low made.0 c) at in
       record {
@@ -164,14 +166,16 @@ module _ (ops : List MicroOp) (home : ℕ → Entry) (number : Entry → ℕ) (E
       → (w : IsMadeAt (op_at ops k) g.path) → (m : ℕ) × (k ≤ m) × (m < j) × Creates (op_at ops m) (Directory c)
   made_again k j before_j high g c named held w = ⊎_elim
       (λ (is : Some w.node ≡ Some (Directory c)).
-      (k, omega arith, before_j, (w.entry, w.rights, w.bytes, w.is ∙ ap (λ x. CreateDirEntry w.entry x w.rights w.bytes) (some_node w.node c is))))
+      (k, omega arith, before_j, (w.entry, w.rights, w.bytes, w.is
+      ∙ ap (λ x. CreateDirEntry w.entry x w.rights w.bytes) (some_node w.node c is))))
       (λ (other : Some w.node ≢ Some (Directory c)).
       (let low : k < n = omega (arith, before_j, high) in
       let made : Creates (op_at ops k) w.node = (w.entry, w.rights, w.bytes, w.is) in
       let there : E (suc k) (entry_of w.entry) ≡ Some w.node =
       h.step k low (entry_of w.entry) ∙ ap (λ o. after (E k) (entry_op o) (entry_of w.entry)) w.is
       ∙ put_here (E k) (entry_of w.entry) (Some w.node) in
-      let same = one_entry ops home number E h k j (omega (arith, low)) high w.entry g (made_named ops home number E h k low w.node made) named w.path in
+      let same = one_entry ops home number E h k j (omega (arith, low)) high w.entry g (made_named ops home number E h k low w.node made)
+          named w.path in
       let v = made_between ops home number E h j (suc k) (entry_of g) c (omega (arith, before_j)) high
       (λ held_now. other (sym there ∙ ap (E (suc k)) same ∙ held_now)) held in
       let from = v.1 in
@@ -189,14 +193,18 @@ module _ (ops : List MicroOp) (home : ℕ → Entry) (number : Entry → ℕ) (E
       let at = made_after ops home number E h i low e.directory latest.made in
       let ng = held_named ops home number E h i (suc i) (omega (arith, low)) (omega (arith, low)) g (Directory e.directory)
       (made_named ops home number E h i low (Directory e.directory) latest.made) at in
-      let above : at_path (E j) (parent_path f.0.path) ≡ Some (Directory e.directory) = nf.1 ∙ ap (λ (x : Entry). Some (Directory x.directory)) f.2 in
+      let above : at_path (E j) (parent_path f.0.path) ≡ Some (Directory e.directory) = nf.1
+          ∙ ap (λ (x : Entry). Some (Directory x.directory)) f.2 in
       let same : g.path ≡ parent_path f.0.path =
-      one_path home number (E (suc i)) (E j) (h.placed (suc i) (omega (arith, low))) (h.placed j (omega (arith, high))) g.path (parent_path f.0.path)
+      one_path home number (E (suc i)) (E j) (h.placed (suc i) (omega (arith, low))) (h.placed j (omega (arith, high))) g.path
+      (parent_path f.0.path)
       e.directory (named_holds (E (suc i)) g ng ∙ at) above in
       let there : E j (entry_of g) ≡ Some (Directory e.directory) =
-      entry_at_path ops home number E h j (suc i) (omega (arith, high)) (omega (arith, low)) g e.directory ng (ap (at_path (E j)) same ∙ above) in
+      entry_at_path ops home number E h j (suc i) (omega (arith, high)) (omega (arith, low)) g e.directory ng (ap (at_path (E j)) same
+      ∙ above) in
       let here = held_named ops home number E h (suc i) j (omega (arith, low)) (omega (arith, high)) g (Directory e.directory) ng there in
-      any_from (λ p. before.is_latest (map op_before ops) i j (parent_path p)) (before.paths_named (before.op_at (map op_before ops) j)) f.0.path
+      any_from (λ p. before.is_latest (map op_before ops) i j (parent_path p)) (before.paths_named (before.op_at (map op_before ops) j))
+      f.0.path
       (subst (λ o. Contains (before.paths_named o) f.0.path) (sym (at_before ops j)) (touched_named (op_at ops j) f.0 f.1))
       (and_from (before.creates (before.op_at (map op_before ops) i) (parent_path f.0.path))
       (not (list_any (λ k. before.creates (before.op_at (map op_before ops) k) (parent_path f.0.path)) (before.places_between i j)))

@@ -131,12 +131,14 @@ module _ (ops : List MicroOp) (syncs : List SyncPoint) (version : Version) (home
       from_reason (touches_one_entry e x y) = found tests block 0 (entry_shared ops home number E h i j low high e x y)
       from_reason (settles_one_directory d x y) = found tests block 0 (directory_shared ops home number E h i j low high d x y)
       from_reason (makes_directory e y latest) = found tests block 7 (making_was ops home number E h i j order high e y latest)
-      from_reason (empties_directory d removed inside) = found tests block 1 (emptied_before ops home number E h i j low high d removed inside)
+      from_reason (empties_directory d removed inside) =
+          found tests block 1 (emptied_before ops home number E h i j low high d removed inside)
       from_reason (is_waited_for w) =
           found tests block 8 (synced_same ops home number E h i low j syncs named_syncs ∙ says_synced ops syncs i j w)
       from_reason (tells_after x y) = found tests block 2 (early_say a b ∙ (λ t. rules.both_say (x t) (y t)))
       from_reason (sets_one_file file x y) = found tests block 3 (early_owner a b ∙ says_file a b file x y)
-      from_reason (is_kept_in_order keeps x y) = found tests block 4 (early_order profile a b plain_profile ∙ says_order profile a b keeps x y)
+      from_reason (is_kept_in_order keeps x y) = found tests block 4 (early_order profile a b plain_profile
+          ∙ says_order profile a b keeps x y)
       from_reason (is_acknowledged_first first is) = found tests block 5 (early_first version a early ∙ says_first_line version a first is)
       from_reason (creates_what_is_linked file kind other x y) =
           found tests block 6 (early_linked a b ∙ says_linked a b file kind other x y)
@@ -165,14 +167,19 @@ module _ (ops : List MicroOp) (syncs : List SyncPoint) (version : Version) (home
 
       by_test : (k : ℕ) → get_or tests k false ≡ true → Chained
       by_test zero is = name_chained ops syncs version profile home number E h i j order high is
-      by_test (suc zero) is = (let w = emptied_now ops home number E h i j low high is in single (empties_directory w.directory w.removed w.inside))
+      by_test (suc zero) is = (let w = emptied_now ops home number E h i j low high is in single
+          (empties_directory w.directory w.removed w.inside))
       by_test (suc (suc zero)) is = (let w = say_says a b (sym (early_say a b) ∙ is) in single (tells_after w.0 w.1))
       by_test (suc (suc (suc zero))) is = (let w = file_says a b (sym (early_owner a b) ∙ is) in single (sets_one_file w.0 w.1 w.2))
-      by_test (suc (suc (suc (suc zero)))) is = (let w = order_says profile a b (sym (early_order profile a b plain_profile) ∙ is) in single (is_kept_in_order w.0 w.1 w.2))
-      by_test (suc (suc (suc (suc (suc zero))))) is = (let w = first_line_says version a (sym (early_first version a early) ∙ is) in single (is_acknowledged_first w.0 w.1))
-      by_test (suc (suc (suc (suc (suc (suc zero)))))) is = (let w = linked_says a b (sym (early_linked a b) ∙ is) in single (creates_what_is_linked w.0 w.1 w.2 w.3 w.4))
+      by_test (suc (suc (suc (suc zero)))) is = (let w =
+          order_says profile a b (sym (early_order profile a b plain_profile) ∙ is) in single (is_kept_in_order w.0 w.1 w.2))
+      by_test (suc (suc (suc (suc (suc zero))))) is =
+          (let w = first_line_says version a (sym (early_first version a early) ∙ is) in single (is_acknowledged_first w.0 w.1))
+      by_test (suc (suc (suc (suc (suc (suc zero)))))) is =
+          (let w = linked_says a b (sym (early_linked a b) ∙ is) in single (creates_what_is_linked w.0 w.1 w.2 w.3 w.4))
       by_test (suc (suc (suc (suc (suc (suc (suc zero))))))) is = making_chained ops syncs version profile home number E h i j order high is
-      by_test (suc (suc (suc (suc (suc (suc (suc (suc zero)))))))) is = single (is_waited_for (synced_says ops syncs i j (sym (synced_same ops home number E h i low j syncs named_syncs) ∙ is)))
+      by_test (suc (suc (suc (suc (suc (suc (suc (suc zero)))))))) is =
+          single (is_waited_for (synced_says ops syncs i j (sym (synced_same ops home number E h i low j syncs named_syncs) ∙ is)))
       by_test (suc (suc (suc (suc (suc (suc (suc (suc (suc k))))))))) is = absurd (false≢true is)
 
       from_any : any ≡ true → Chained
@@ -230,5 +237,6 @@ module _ (ops : List MicroOp) (syncs : List SyncPoint) (version : Version) (home
   unfolding by_chain
   same_chains i k high =
       alike (by_chain now i k) (by_chain then_needed i k)
-      (λ is. (let w = found_chain now (k + 1) i k is in let v = was_chain w.0 i k high w.1 in chain_found then_needed then_back v.0 i k v.1))
+      (λ is. (let w = found_chain now (k + 1) i k is in let v =
+      was_chain w.0 i k high w.1 in chain_found then_needed then_back v.0 i k v.1))
       (λ is. (let w = found_chain then_needed (k + 1) i k is in let v = is_chain w.0 i k high w.1 in chain_found now now_back v.0 i k v.1))

@@ -114,7 +114,8 @@ early_order Blocks a b early = refl
 early_order Ordered a b early = λ i. early_kind a i && early_kind b i
 early_order Journal a b early = absurd (false≢true early)
 
-pub early_profile : (version : Version) → is_fourth version ≡ false → versions_before.profile_of (version_before version) ≡ profile_of version
+pub early_profile : (version : Version) → is_fourth version ≡ false
+    → versions_before.profile_of (version_before version) ≡ profile_of version
 early_profile First early = refl
 early_profile (Second profile) early = refl
 early_profile (Third profile block) early = refl

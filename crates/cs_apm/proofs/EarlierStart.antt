@@ -117,19 +117,22 @@ module _ (t : Trace) (homes : List Entry) (are : AreHomes (start_table t) homes)
       (subst (λ n. k < n) (sym (names_length t.records)) low) (each ∙ sym (names_length t.records))
 
   -- a directory is at one place
-  one_place : (i j d : ℕ) → i < length t.records → j < i → get_or t.nodes i (Directory 0) ≡ Directory d → get_or t.nodes j (Directory 0) ≡ Directory d → ⊥
+  one_place : (i j d : ℕ) → i < length t.records → j < i → get_or t.nodes i (Directory 0) ≡ Directory d
+      → get_or t.nodes j (Directory 0) ≡ Directory d → ⊥
   unfolding path_of
   one_place i j d low less at_i at_j =
       let j_low : j < length t.records = omega (arith, low, less) in
       let p = leads_to i low ∙ ap Some at_i in
       let q = leads_to j j_low ∙ ap Some at_j in
-      let same : path_of j ≡ path_of i = one_path (held_in (start_table t)) tree (length (path_of j)) (path_of j) (path_of i) d (omega arith) q p in
+      let same : path_of j ≡ path_of i = one_path (held_in (start_table t)) tree (length (path_of j)) (path_of j) (path_of i) d
+          (omega arith) q p in
       let i_named = named_at t.records i low in
       let j_named = named_at t.records j j_low in
       let before_i : path_cmp (get_or (map (λ e. e.0) t.records) j []) (get_or (map (λ e. e.0) t.records) i []) ≡ Less =
       ascends path_total path_exact (map (λ e. e.0) t.records) [] up j i less (subst (λ n. i < n) (sym (names_length t.records)) low) in
       let turn : path_cmp (path_of i) (path_of i) ≡ Less =
-      sym (ap (λ r. path_cmp r (path_of i)) (j_named ∙ same)) ∙ sym (ap (path_cmp (get_or (map (λ e. e.0) t.records) j [])) i_named) ∙ before_i in
+      sym (ap (λ r. path_cmp r (path_of i)) (j_named ∙ same)) ∙ sym (ap (path_cmp (get_or (map (λ e. e.0) t.records) j [])) i_named)
+      ∙ before_i in
       false≢true (sym (ap is_eq turn) ∙ itself (path_of i))
 
   low_at_start : (d : ℕ) (p : Path) → at_path (held_in (start_table t)) p ≡ Some (Directory d) → d < directory_count t.nodes
@@ -144,7 +147,8 @@ module _ (t : Trace) (homes : List Entry) (are : AreHomes (start_table t) homes)
   rights_at k d low high is =
       let w = place_found t.nodes d 0 k high is in
       let le = w.low in
-      let place : directory_place t.nodes d ≡ w.place = (let e : 0 + w.place ≡ w.place = omega arith in ap (λ o. unwrap_or o 0) w.first ∙ e) in
+      let place : directory_place t.nodes d ≡ w.place =
+          (let e : 0 + w.place ≡ w.place = omega arith in ap (λ o. unwrap_or o 0) w.first ∙ e) in
       let own : w.place ≡ k = ⊎_elim
       (λ (less : w.place < k). absurd (one_place k w.place d low less is w.is))
       (λ (more : k ≤ w.place). omega (arith, le, more))

@@ -75,7 +75,8 @@ not_reached m d c some none r is = way r.0 (subst (λ x. Way m Any r.0 x) (sym i
     way (suc k) z = none z.0 z.1
 
 -- the directory at a path is the root, or held
-pub held_or_root : (m : Entries) (q : Path) (x : ℕ) → at_path m q ≡ Some (Directory x) → (x ≡ 0) ⊎ ((e : Entry) × (m e ≡ Some (Directory x)))
+pub held_or_root : (m : Entries) (q : Path) (x : ℕ) → at_path m q ≡ Some (Directory x)
+    → (x ≡ 0) ⊎ ((e : Entry) × (m e ≡ Some (Directory x)))
 held_or_root m q x at = ⊎_elim
     (λ (nil : q ≡ []). inl (same_number x 0 (sym at ∙ ap (at_path m) nil)))
     (λ (w : IsMore q).
@@ -172,7 +173,8 @@ module _ (home : ℕ → Entry) (number : Entry → ℕ) (m : Entries) (pm : IsP
           elsewhere_or (Some (Directory x)) at =
               ap (λ r. Some (before.Directory r))
               (sym (get_or-set_other all d x rights no_rights
-              (λ is. none x (ap (at_path m) (sym (one_path home number m k pm pk q path x at (there ∙ ap (λ y. Some (Directory y)) (sym is)))) ∙ at))))
+              (λ is. none x (ap (at_path m) (sym (one_path home number m k pm pk q path x at (there
+              ∙ ap (λ y. Some (Directory y)) (sym is)))) ∙ at))))
 
       stays : (o : Option Node) → at_path m path ≡ o → ((x : ℕ) → o ≢ Some (Directory x))
           → before.with_rights_at paths path rights (option_map (entry_before all) o) ≡ paths
@@ -202,7 +204,8 @@ module _ (home : ℕ → Entry) (number : Entry → ℕ) (m : Entries) (pm : IsP
           (path_cases q path)
 
   -- a file moves to another entry
-  move_file : (a b : DirEntry) (node : Node) (old : Option Node) → IsNamed m a → IsNamed m b → IsLegalEntryOp m (Move (entry_of a) (entry_of b) node old)
+  move_file : (a b : DirEntry) (node : Node) (old : Option Node) → IsNamed m a → IsNamed m b
+      → IsLegalEntryOp m (Move (entry_of a) (entry_of b) node old)
       → ((d : ℕ) → Some node ≢ Some (Directory d)) → ((d : ℕ) → old ≢ Some (Directory d))
       → AreAlike all (after m (Move (entry_of a) (entry_of b) node old)) (before.with_entry_moved a.path b.path paths)
   move_file a b node old na nb l none over q =
@@ -244,7 +247,8 @@ module _ (home : ℕ → Entry) (number : Entry → ℕ) (m : Entries) (pm : IsP
 
   pub alike_after : (o : MicroOp) (k : Entries) → IsPlaced home number k → IsPlain o → IsLegalEntryOp m (entry_op o)
       → ((f : DirEntry) → InOp o f → IsNamed m f)
-      → ((d : ℕ) (path : Path) (rights : Rights) → o ≡ SetAttr (targets.Directory d path) rights → (at_path k path ≡ Some (Directory d)) × (d < length all))
+      → ((d : ℕ) (path : Path) (rights : Rights) → o ≡ SetAttr (targets.Directory d path) rights → (at_path k path ≡ Some (Directory d))
+      × (d < length all))
       → ((e : DirEntry) (d : ℕ) (rights : Rights) (bytes : List ℕ) → o ≡ CreateDirEntry e (Directory d) rights bytes → d < length all)
       → AreAlike (directories_after all o) (after m (entry_op o)) (before.entries_after paths (op_before o))
   alike_after (CreateDirEntry e (Directory d) rights bytes) k pk plain l named there low =

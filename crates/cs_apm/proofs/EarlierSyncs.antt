@@ -72,7 +72,8 @@ module _ (ops : List MicroOp) (home : ℕ → Entry) (number : Entry → ℕ) (E
           ap (list_any (λ p. path_eq path (parent_path p))) (paths_are a)
           ∙ any_map (λ p. path_eq path (parent_path p)) (λ (e : DirEntry). e.path) (dir_entries a)
           ∙ any_alike (λ (e : DirEntry). path_eq path (parent_path e.path)) (λ (e : DirEntry). e.directory == d) (dir_entries a)
-          (λ e w. sym (directory_test home number (E k) (E i) (h.placed k high) (h.placed i (omega (arith, low))) path (parent_path e.path) d e.directory
+          (λ e w. sym (directory_test home number (E k) (E i) (h.placed k high) (h.placed i (omega (arith, low))) path (parent_path e.path)
+          d e.directory
           leads (named_at ops home number E h i low e w).1) ∙ turned d e.directory)
           ∙ sym (any_map (λ (e : Entry). e.directory == d) entry_of (dir_entries a))
           ∙ ap (list_any (λ (e : Entry). e.directory == d)) (sym (entries_are a))
@@ -93,7 +94,8 @@ module _ (ops : List MicroOp) (home : ℕ → Entry) (number : Entry → ℕ) (E
           by (WriteBlock file block start at bytes) is = refl
           by Say is = refl
 
-    covered_file : (o : MicroOp) (file : ℕ) → before.is_covered (covers_before (covers.File file)) (op_before o) ≡ rules.is_covered (covers.File file) o
+    covered_file : (o : MicroOp) (file : ℕ) → before.is_covered (covers_before (covers.File file)) (op_before o) ≡ rules.is_covered
+        (covers.File file) o
     covered_file (CreateDirEntry e node rights bytes) file = refl
     covered_file (DeleteDirEntry e node) file = refl
     covered_file (MoveDirEntry b c node old) file = refl
@@ -105,7 +107,8 @@ module _ (ops : List MicroOp) (home : ℕ → Entry) (number : Entry → ℕ) (E
     covered_file Say file = refl
 
     covered_range : (o : MicroOp) (file offset count : ℕ)
-        → before.is_covered (covers_before (covers.Range file offset count)) (op_before o) ≡ rules.is_covered (covers.Range file offset count) o
+        → before.is_covered (covers_before (covers.Range file offset count)) (op_before o) ≡ rules.is_covered
+        (covers.Range file offset count) o
     covered_range (CreateDirEntry e node rights bytes) file offset count = refl
     covered_range (DeleteDirEntry e node) file offset count = refl
     covered_range (MoveDirEntry b c node old) file offset count = refl
@@ -143,10 +146,12 @@ module _ (ops : List MicroOp) (home : ℕ → Entry) (number : Entry → ℕ) (E
           let nf = named_at ops home number E h i low f.0 f.1 in
           let directory : f.0.directory ≡ c = ap (λ (x : Entry). x.directory) f.2 ∙ inside.inside ∙ sym r in
           let same : e.path ≡ parent_path f.0.path =
-          one_path home number (E j) (E i) (h.placed j (omega (arith, high))) (h.placed i (omega (arith, low))) e.path (parent_path f.0.path) c
+          one_path home number (E j) (E i) (h.placed j (omega (arith, high))) (h.placed i (omega (arith, low))) e.path
+          (parent_path f.0.path) c
           (named_holds (E j) e ne ∙ l.0) (nf.1 ∙ ap (λ x. Some (Directory x)) directory) in
           any_from (λ p. path_eq e.path (parent_path p)) (before.paths_touched (op_before (op_at ops i))) f.0.path
-          (subst (λ ps. Contains ps f.0.path) (sym (paths_are (op_at ops i))) (contains_map (λ (x : DirEntry). x.path) (dir_entries (op_at ops i)) f.0 f.1))
+          (subst (λ ps. Contains ps f.0.path) (sym (paths_are (op_at ops i)))
+          (contains_map (λ (x : DirEntry). x.path) (dir_entries (op_at ops i)) f.0 f.1))
           (path_same e.path (parent_path f.0.path) same))
       by (DeleteDirEntry e (File kind file)) is r = absurd r
       by (MoveDirEntry a b (Directory x) (Some (Directory c))) is r = absurd (subst IsPlain is (h.plain j high))
@@ -174,11 +179,13 @@ module _ (ops : List MicroOp) (home : ℕ → Entry) (number : Entry → ℕ) (E
           (let l = subst (λ o. IsLegalEntryOp (E j) (entry_op o)) is (h.legal j high) in
           let ne = named_at ops home number E h j high e (subst (λ o. Contains (dir_entries o) e) (sym is) (0, omega arith, refl)) in
           let w = any_found (λ p. path_eq e.path (parent_path p)) (before.paths_touched (op_before (op_at ops i))) t in
-          let f = map_contains (λ (x : DirEntry). x.path) (dir_entries (op_at ops i)) w.0 (subst (λ ps. Contains ps w.0) (paths_are (op_at ops i)) w.1) in
+          let f = map_contains (λ (x : DirEntry). x.path) (dir_entries (op_at ops i)) w.0
+              (subst (λ ps. Contains ps w.0) (paths_are (op_at ops i)) w.1) in
           let nf = named_at ops home number E h i low f.0 f.1 in
           let path : e.path ≡ parent_path f.0.path = path_from e.path (parent_path w.0) w.2 ∙ ap parent_path (sym f.2) in
           let same : f.0.directory ≡ c =
-          one_directory home number (E i) (E j) (h.placed i (omega (arith, low))) (h.placed j (omega (arith, high))) (parent_path f.0.path) f.0.directory c
+          one_directory home number (E i) (E j) (h.placed i (omega (arith, low))) (h.placed j (omega (arith, high))) (parent_path f.0.path)
+          f.0.directory c
           nf.1 (ap (at_path (E j)) (sym path) ∙ named_holds (E j) e ne ∙ l.0) in
           record {
             directory = c;

@@ -68,7 +68,8 @@ gone m (DeleteDirEntry f node) e d l plain was now = ⊎_elim
 gone m (MoveDirEntry a b (Directory c) old) e d l plain was now = absurd plain
 gone m (MoveDirEntry a b (File kind file) (Some (Directory c))) e d l plain was now = absurd plain
 gone m (MoveDirEntry a b (File kind file) None) e d l plain was now =
-    absurd (now (moved_past m (entry_of a) (entry_of b) (File kind file) None e d l.1 l.2 (no_directory kind file d) (no_node (Directory d)) was))
+    absurd (now (moved_past m (entry_of a) (entry_of b) (File kind file) None e d l.1 l.2 (no_directory kind file d)
+    (no_node (Directory d)) was))
 gone m (MoveDirEntry a b (File kind file) (Some (File other number))) e d l plain was now =
     absurd (now (moved_past m (entry_of a) (entry_of b) (File kind file) (Some (File other number)) e d l.1 l.2 (no_directory kind file d)
     (no_directory other number d) was))
@@ -213,7 +214,8 @@ module _ (ops : List MicroOp) (home : ℕ → Entry) (number : Entry → ℕ) (E
   entry_at_path k i high low f d named at =
       let whole = whole_path f.path named.0 in
       let w = in_directory (E k) (parent_path f.path) (last_name f.path) (Directory d) (ap (at_path (E k)) whole ∙ at) in
-      let same = one_directory home number (E k) (E i) (h.placed k high) (h.placed i low) (parent_path f.path) w.directory f.directory w.above named.1 in
+      let same = one_directory home number (E k) (E i) (h.placed k high) (h.placed i low) (parent_path f.path) w.directory f.directory
+          w.above named.1 in
       ap (λ c. E k (entry_in c (last_name f.path))) (sym same) ∙ w.held
 
   -- two named entries of one path, or of one entry
@@ -228,7 +230,8 @@ module _ (ops : List MicroOp) (home : ℕ → Entry) (number : Entry → ℕ) (E
   -- after it is made
   pub made_after : (k : ℕ) → k < n → (d : ℕ) → (w : Creates (op_at ops k) (Directory d)) → E (suc k) (entry_of w.0) ≡ Some (Directory d)
   made_after k low d w =
-      h.step k low (entry_of w.0) ∙ ap (λ o. after (E k) (entry_op o) (entry_of w.0)) w.3 ∙ put_here (E k) (entry_of w.0) (Some (Directory d))
+      h.step k low (entry_of w.0) ∙ ap (λ o. after (E k) (entry_op o) (entry_of w.0)) w.3
+      ∙ put_here (E k) (entry_of w.0) (Some (Directory d))
 
   pub made_named : (k : ℕ) → k < n → (node : Node) (w : Creates (op_at ops k) node) → IsNamed (E k) w.0
   made_named k low node w =
@@ -244,7 +247,8 @@ touched o e w = map_contains entry_of (dir_entries o) e (subst (λ es. Contains 
 pub creates_by : (o : MicroOp) (e : Entry) (d : ℕ) → entry_op o ≡ Create e (Directory d) → Creates o (Directory d)
 creates_by o e d is = makes_says o d (ap (λ x. makes x d) is ∙ eq-eqb d d refl)
 
-pub created_there : (o : MicroOp) (e : Entry) (d : ℕ) → entry_op o ≡ Create e (Directory d) → (w : Creates o (Directory d)) → entry_of w.0 ≡ e
+pub created_there : (o : MicroOp) (e : Entry) (d : ℕ) → entry_op o ≡ Create e (Directory d) → (w : Creates o (Directory d))
+    → entry_of w.0 ≡ e
 created_there o e d is w = (let same = sym (ap entry_op w.3) ∙ is in cc)
 
 pub removes_by : (o : MicroOp) (e : Entry) (d : ℕ) → entry_op o ≡ Delete e (Directory d) → Removes (entry_op o) d

@@ -39,7 +39,8 @@ use Rattle.cs_apm.proofs.EarlierSyncs.{AreNamedSyncs, IsNamedSync}
 
 -- ---- no rename comes in halves
 
-none_mapped : {X : Type 0} (f : X → MicroOp) → ((x : X) → is_first_half (f x) ≡ false) → (xs : List X) → list_any is_first_half (map f xs) ≡ false
+none_mapped : {X : Type 0} (f : X → MicroOp) → ((x : X) → is_first_half (f x) ≡ false) → (xs : List X)
+    → list_any is_first_half (map f xs) ≡ false
 none_mapped f none [] = refl
 none_mapped f none (x ∷ xs) = λ i. none x i || none_mapped f none xs i
 
@@ -51,15 +52,18 @@ no_half_blocks : (size file offset : ℕ) (bytes : List ℕ) → list_any is_fir
 unfolding block_writes
 no_half_blocks size file offset bytes = none_mapped (block_write size file offset bytes) (λ k. refl) (touched_blocks size offset bytes)
 
-no_half_write : (version : Version) (file size offset : ℕ) (bytes : List ℕ) → list_any is_first_half (write_micros version file size offset bytes) ≡ false
+no_half_write : (version : Version) (file size offset : ℕ) (bytes : List ℕ)
+    → list_any is_first_half (write_micros version file size offset bytes) ≡ false
 no_half_write version file size offset bytes = by (length bytes == 0)
   where
     by : (b : Bool) → list_any is_first_half
-        (cond b [] (growth_micros version file size (offset + length bytes) ++ block_writes (block_of_version version) file offset bytes)) ≡ false
+        (cond b [] (growth_micros version file size (offset + length bytes) ++ block_writes (block_of_version version) file offset bytes))
+        ≡ false
     by true = refl
     by false =
         both_none (growth_micros version file size (offset + length bytes)) (block_writes (block_of_version version) file offset bytes)
-        (none_mapped (micro.ChangeFileSize file) (λ k. refl) (growth_sizes version size (offset + length bytes))) (no_half_blocks (block_of_version version) file offset bytes)
+        (none_mapped (micro.ChangeFileSize file) (λ k. refl) (growth_sizes version size (offset + length bytes)))
+        (no_half_blocks (block_of_version version) file offset bytes)
 
 no_half_zeros : (version : Version) (file size to : ℕ) → list_any is_first_half (zero_micros version file size to) ≡ false
 no_half_zeros version file size to = by (is_fourth version) (length (zeros_behind size to) == 0)
@@ -83,7 +87,8 @@ no_half_move version early a b (Directory d) old = refl
 no_half_move version early a b (File kind file) old = by (is_fourth version) early
   where
     by : (fourth : Bool) → fourth ≡ false → list_any is_first_half
-        (cond (fourth && is_blocks (profile_of version) && not (a.directory == b.directory)) (halves a b kind file old) (micro.MoveDirEntry a b (File kind file) old ∷ [])) ≡ false
+        (cond (fourth && is_blocks (profile_of version) && not (a.directory == b.directory)) (halves a b kind file old)
+        (micro.MoveDirEntry a b (File kind file) old ∷ [])) ≡ false
     by true is = absurd (false≢true (sym is))
     by false is = refl
 
@@ -109,7 +114,8 @@ no_half version early (SetAttr target was is) = by (same_rights was is)
 no_half version early (Sync c) = refl
 no_half version early Say = refl
 
-pub no_halves : (version : Version) → is_fourth version ≡ false → (ops : List Operation) → list_any is_first_half (micro_operations_of version ops) ≡ false
+pub no_halves : (version : Version) → is_fourth version ≡ false → (ops : List Operation)
+    → list_any is_first_half (micro_operations_of version ops) ≡ false
 unfolding micro_operations_of
 no_halves version early [] = refl
 no_halves version early (o ∷ ops) =
@@ -136,7 +142,8 @@ micros_split : (version : Version) (xs ys : List Operation)
 unfolding micro_operations_of
 micros_split version xs ys = flat_map_both xs
   where
-    flat_map_both : (xs : List Operation) → flat_map (micros_of version) (xs ++ ys) ≡ flat_map (micros_of version) xs ++ flat_map (micros_of version) ys
+    flat_map_both : (xs : List Operation) → flat_map (micros_of version) (xs ++ ys) ≡ flat_map (micros_of version) xs ++ flat_map
+        (micros_of version) ys
     flat_map_both [] = refl
     flat_map_both (x ∷ xs) =
         ap (λ v. micros_of version x ++ v) (flat_map_both xs)
@@ -161,7 +168,8 @@ module _ (version : Version) (fs : FileSystem) (small : AreSmall version fs) (op
 
   -- after the micro-operations of the first operations, entries are as these leave them
   front_left : (xs ys : List Operation) → xs ++ ys ≡ operations
-      → (length (micro_operations_of version xs) ≤ length ops) × (E (length (micro_operations_of version xs)) ≡ held_in (system_after_all fs xs).entries)
+      → (length (micro_operations_of version xs) ≤ length ops)
+      × (E (length (micro_operations_of version xs)) ≡ held_in (system_after_all fs xs).entries)
   front_left xs ys is =
       let split : micro_operations_of version xs ++ micro_operations_of version ys ≡ ops =
       sym (micros_split version xs ys) ∙ ap (micro_operations_of version) is in
@@ -170,7 +178,8 @@ module _ (version : Version) (fs : FileSystem) (small : AreSmall version fs) (op
             omega (arith, long, length-append (micro_operations_of version xs) (micro_operations_of version ys))),
         ap (λ v. held_in (made_at (made_of fs) v (length (micro_operations_of version xs))).entries) (sym split)
             ∙ ap (λ (m : Made). held_in m.entries)
-            (made_front (made_of fs) (micro_operations_of version xs) (micro_operations_of version ys) ∙ all_leave version fs xs small parts.0),
+            (made_front (made_of fs) (micro_operations_of version xs) (micro_operations_of version ys)
+            ∙ all_leave version fs xs small parts.0),
       )
 
   named_point : (xs : List Operation) (o : Operation) (ys : List Operation) → xs ++ o ∷ ys ≡ operations

@@ -42,21 +42,25 @@ content_before c = record { size = c.size; bytes = c.bytes }
 abbrev pub files_before : List Content → List before.Content
 files_before = map content_before
 
-read_before : (files : List Content) (n : ℕ) → slice_index_or (files_before files) n before.no_content ≡ content_before (slice_index_or files n no_content)
+read_before : (files : List Content) (n : ℕ) → slice_index_or (files_before files) n before.no_content ≡ content_before
+    (slice_index_or files n no_content)
 read_before [] n = refl
 read_before (f ∷ files) zero = refl
 read_before (f ∷ files) (suc n) = read_before files n
 
-set_before : (files : List Content) (n : ℕ) (c : Content) → files_before (slice_set files n c) ≡ slice_set (files_before files) n (content_before c)
+set_before : (files : List Content) (n : ℕ) (c : Content)
+    → files_before (slice_set files n c) ≡ slice_set (files_before files) n (content_before c)
 set_before [] n c = refl
 set_before (f ∷ files) zero c = refl
 set_before (f ∷ files) (suc n) c = ap (λ v. content_before f ∷ v) (set_before files n c)
 
-files_one : (files : List Content) (o : MicroOp) → files_before (files_after files o) ≡ before.files_after (files_before files) (op_before o)
+files_one : (files : List Content) (o : MicroOp) → files_before (files_after files o) ≡ before.files_after (files_before files)
+    (op_before o)
 files_one files (ChangeFileSize file size) =
     set_before files file _ ∙ ap (λ c. slice_set (files_before files) file (before.content_with_size size c)) (sym (read_before files file))
 files_one files (WriteBlock file block start at bytes) =
-    set_before files file _ ∙ ap (λ c. slice_set (files_before files) file (before.overwritten (start + at) bytes c)) (sym (read_before files file))
+    set_before files file _ ∙ ap (λ c. slice_set (files_before files) file (before.overwritten (start + at) bytes c))
+    (sym (read_before files file))
 files_one files (CreateDirEntry e node rights bytes) = refl
 files_one files (DeleteDirEntry e node) = refl
 files_one files (MoveDirEntry a b node old) = refl
@@ -116,20 +120,24 @@ pub files_made_before : (version : Version) → is_fourth version ≡ false → 
     → files_before (files_made ops) ≡ before.empty_files (map op_before ops)
 files_made_before version early m [] legal = refl
 files_made_before version early m (CreateDirEntry e (File Regular file) rights bytes ∷ ops) legal =
-    (λ i. content_before (content_of_bytes (legal.0.fitting.0.1 i)) ∷ files_made_before version early (made_after m (CreateDirEntry e (File Regular file) rights bytes)) ops legal.1 i)
+    (λ i. content_before (content_of_bytes (legal.0.fitting.0.1 i)) ∷ files_made_before version early
+    (made_after m (CreateDirEntry e (File Regular file) rights bytes)) ops legal.1 i)
 files_made_before version early m (CreateDirEntry e (File Symlink file) rights bytes ∷ ops) legal =
     absurd (false≢true (sym early ∙ legal.0.fitting.0.0))
 files_made_before version early m (CreateDirEntry e (Directory d) rights bytes ∷ ops) legal =
     files_made_before version early (made_after m (CreateDirEntry e (Directory d) rights bytes)) ops legal.1
-files_made_before version early m (DeleteDirEntry e node ∷ ops) legal = files_made_before version early (made_after m (DeleteDirEntry e node)) ops legal.1
+files_made_before version early m (DeleteDirEntry e node ∷ ops) legal =
+    files_made_before version early (made_after m (DeleteDirEntry e node)) ops legal.1
 files_made_before version early m (MoveDirEntry a b node old ∷ ops) legal =
     files_made_before version early (made_after m (MoveDirEntry a b node old)) ops legal.1
 files_made_before version early m (LinkDirEntry e kind file old half ∷ ops) legal =
     files_made_before version early (made_after m (LinkDirEntry e kind file old half)) ops legal.1
-files_made_before version early m (ChangeFileSize file to ∷ ops) legal = files_made_before version early (made_after m (ChangeFileSize file to)) ops legal.1
+files_made_before version early m (ChangeFileSize file to ∷ ops) legal =
+    files_made_before version early (made_after m (ChangeFileSize file to)) ops legal.1
 files_made_before version early m (WriteBlock file block start at bytes ∷ ops) legal =
     files_made_before version early (made_after m (WriteBlock file block start at bytes)) ops legal.1
-files_made_before version early m (SetAttr target rights ∷ ops) legal = files_made_before version early (made_after m (SetAttr target rights)) ops legal.1
+files_made_before version early m (SetAttr target rights ∷ ops) legal =
+    files_made_before version early (made_after m (SetAttr target rights)) ops legal.1
 files_made_before version early m (Say ∷ ops) legal = files_made_before version early (made_after m Say) ops legal.1
 
 -- ---- records
@@ -142,21 +150,24 @@ record_before s old files owners (Directory d) plain = refl
 record_before s old files owners (File Symlink file) plain = absurd (plain file refl)
 record_before s old files owners (File Regular file) plain =
     ap (λ c. before.record_with (slice_index_or s.owners file no_rights) 0 (Some (before.visible c))) (sym (read_before s.files file))
-    ∙ (λ i. before.record_with (slice_index_or (owners i) file no_rights) 0 (Some (before.visible (slice_index_or (files i) file before.no_content))))
+    ∙ (λ i. before.record_with (slice_index_or (owners i) file no_rights) 0
+    (Some (before.visible (slice_index_or (files i) file before.no_content))))
 
 -- what is at a path of entries without symbolic links is none
 plain_at : (m : Entries) → IsWithoutLinks m → (q : Path) (file : ℕ) → at_path m q ≢ Some (File Symlink file)
 plain_at m without q file at = ⊎_elim
     (λ (nil : q ≡ []). (let h = sym (ap (at_path m) nil) ∙ at in no_file h))
     (λ (w : IsMore q).
-    (let i = in_directory m w.front w.last (File Symlink file) (ap (at_path m) (sym w.is) ∙ at) in without (entry_in i.directory w.last) file i.held))
+    (let i = in_directory m w.front w.last (File Symlink file) (ap (at_path m) (sym w.is) ∙ at) in without (entry_in i.directory w.last)
+    file i.held))
     (last_cases q)
   where
     no_file : Some (Directory 0) ≡ Some (File Symlink file) → ⊥
     no_file h = cc
 
 pub trees_alike : (s : State) (old : before.State) (nodes : FinMap path_cmp Node) (m : Entries) → IsWithoutLinks m
-    → ((q : Path) → get nodes q ≡ at_path m q) → AreAlike s.directories m old.paths → files_before s.files ≡ old.files → s.owners ≡ old.owners
+    → ((q : Path) → get nodes q ≡ at_path m q) → AreAlike s.directories m old.paths → files_before s.files ≡ old.files
+    → s.owners ≡ old.owners
     → fresh (map_values (record_of s) nodes) ≡ before.tree_of_state old
 trees_alike s old nodes m without leads alike files owners =
     ap fresh (same_map path_total path_exact (map_values (record_of s) nodes) (before.records_of old) each)

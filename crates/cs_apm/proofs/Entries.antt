@@ -29,7 +29,8 @@ entry need n i j later low =
 
 pub entry_of_rules : (ops : List MicroOp) (syncs : List SyncPoint) (version : Version) (profile : Profile) (n i j : ℕ) → j < n
     → needs_in (table (needs ops syncs version profile) n) i j ≡ needs ops syncs version profile i j
-entry_of_rules ops syncs version profile n i j low = entry (needs ops syncs version profile) n i j (λ a b h. needs_later ops syncs version profile a b h) low
+entry_of_rules ops syncs version profile n i j low =
+    entry (needs ops syncs version profile) n i j (λ a b h. needs_later ops syncs version profile a b h) low
 
 map_same : {X : Type 0} (f g : ℕ → X) (a n : ℕ) → ((k : ℕ) → k < a + n → f k ≡ g k)
     → map f (range_with_len a n) ≡ map g (range_with_len a n)

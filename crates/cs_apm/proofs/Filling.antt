@@ -48,7 +48,8 @@ filled_skip need j row w is filled i = filled i ∙ ⊎_elim
     (λ (e : i ≡ w → ⊥). let t = ne_eqb i w e in ap (λ b. b && need i j) (sym (tests_more i w ∙ ap (λ b. b || nat_lt i w) t)))
     (cases_eq i w)
 
-pub needs_later : (ops : List MicroOp) (syncs : List SyncPoint) (version : Version) (profile : Profile) (i j : ℕ) → j ≤ i → needs ops syncs version profile i j ≡ false
+pub needs_later : (ops : List MicroOp) (syncs : List SyncPoint) (version : Version) (profile : Profile) (i j : ℕ) → j ≤ i
+    → needs ops syncs version profile i j ≡ false
 unfolding needs
 needs_later ops syncs version profile i j h = let e : nat_lt i j ≡ false = le-ltb i j h in rw e refl
 

@@ -48,7 +48,8 @@ insert_few h e s = by (is_some (get h e)) (len-insert entry_total h e s)
     by true is = omega (arith, is)
     by false is = omega (arith, is)
 
-map_cond : (b : Bool) (node : Node) (o : Option Node) → cond b (Some (Some node)) (option_map Some o) ≡ option_map Some (cond b (Some node) o)
+map_cond : (b : Bool) (node : Node) (o : Option Node)
+    → cond b (Some (Some node)) (option_map Some o) ≡ option_map Some (cond b (Some node) o)
 map_cond true node o = refl
 map_cond false node o = refl
 

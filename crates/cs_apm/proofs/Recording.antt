@@ -141,7 +141,8 @@ module _ (d f : ℕ) where
       (λ i low.
       let x = get_or (entries m) i ([], Directory 0) in
       known_path deep es ss up known some x.0 x.1
-      (get-entries m x.0 ∙ in_find path_total path_exact x.0 (entries m) x.1 (entries_sorted m) (in_at (entries m) i ([], Directory 0) low)))
+      (get-entries m x.0 ∙ in_find path_total path_exact x.0 (entries m) x.1 (entries_sorted m)
+      (in_at (entries m) i ([], Directory 0) low)))
 
 -- ---- all of them
 

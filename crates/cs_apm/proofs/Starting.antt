@@ -159,7 +159,8 @@ zeros (suc count) zero = refl
 zeros (suc count) (suc d) = zeros count d
 
 -- behind the last node there is none
-pub none_noted : (ns : List Node) (count k : ℕ) (places : List ℕ) → places ≡ replicate count 0 → k ≡ length ns → AreNotedFrom ns count k places
+pub none_noted : (ns : List Node) (count k : ℕ) (places : List ℕ) → places ≡ replicate count 0 → k ≡ length ns
+    → AreNotedFrom ns count k places
 none_noted ns count k places are is d low =
     ap (λ v. get_or v d 0) are ∙ zeros count d
     ∙ sym (ap (λ v. unwrap_or (position_from (is_directory_numbered d) k v) 0) (drop_all k ns (omega (arith, is))))
@@ -169,10 +170,12 @@ length-noted places (File kind file) k = refl
 length-noted places (Directory d) k = length-set places d k
 
 -- one node more, from the end
-pub directory_noted : (ns : List Node) (count k : ℕ) (x : Node) (places : List ℕ) → k < length ns → x ≡ get_or ns k x → length places ≡ count
+pub directory_noted : (ns : List Node) (count k : ℕ) (x : Node) (places : List ℕ) → k < length ns → x ≡ get_or ns k x
+    → length places ≡ count
     → AreNotedFrom ns count (k + 1) places → AreNotedFrom ns count k (with_directory_noted places x k)
 directory_noted ns count k x places low is long noted d inside =
-    one x ∙ sym (ap (λ v. unwrap_or (position_from (is_directory_numbered d) k v) 0) (drop-cons ns k x low ∙ ap (λ y. y ∷ drop (suc k) ns) (sym is)))
+    one x ∙ sym (ap (λ v. unwrap_or (position_from (is_directory_numbered d) k v) 0) (drop-cons ns k x low
+    ∙ ap (λ y. y ∷ drop (suc k) ns) (sym is)))
   where
     rest : get_or places d 0 ≡ unwrap_or (position_from (is_directory_numbered d) (k + 1) (drop (suc k) ns)) 0
     rest = (let more : k + 1 ≡ suc k = omega arith in
@@ -190,7 +193,8 @@ directory_noted ns count k x places low is long noted d inside =
         (cases_eq c d)
 
 -- with each place the record of a directory is one of the start's
-place_low : (ns : List Node) (k d n : ℕ) (xs : List Node) → k + length xs ≡ n → 0 < n → unwrap_or (position_from (is_directory_numbered d) k xs) 0 < n
+place_low : (ns : List Node) (k d n : ℕ) (xs : List Node) → k + length xs ≡ n → 0 < n
+    → unwrap_or (position_from (is_directory_numbered d) k xs) 0 < n
 place_low ns k d n [] is some = some
 place_low ns k d n (x ∷ xs) is some = by (is_directory_numbered d x) (place_low ns (k + 1) d n xs (omega (arith, is)) some)
   where

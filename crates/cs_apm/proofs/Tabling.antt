@@ -68,16 +68,19 @@ module _ (t : Trace) (m : Micros) (broken : m ≡ micros_in t) (legal : AreLegal
     (places : List ℕ) (places_long : length places ≡ directory_count t.nodes)
     (places_are : (d : ℕ) → d < directory_count t.nodes → slice_index_or places d 0 ≡ directory_place t.nodes d) where
   pub owners_are : (owners : List Rights)
-      → owners ≡ map (λ place. rights_of (slice_index_or t.records place no_record).1) starts ++ owners_made m.ops → owners ≡ owners_of t m.ops
+      → owners ≡ map (λ place. rights_of (slice_index_or t.records place no_record).1) starts ++ owners_made m.ops
+      → owners ≡ owners_of t m.ops
   owners_are owners is =
       is ∙ ap (λ os. os ++ owners_made m.ops)
       (start_owners t each (ascending_of (map (λ e. e.0) t.records) sorted) numbered found starts long finds)
 
   pub directories_are : (all : List Rights)
-      → all ≡ map (λ place. rights_of (slice_index_or t.records place no_record).1) places ++ directories_made m.ops → all ≡ directories_of t m.ops
+      → all ≡ map (λ place. rights_of (slice_index_or t.records place no_record).1) places ++ directories_made m.ops
+      → all ≡ directories_of t m.ops
   directories_are all is =
       is ∙ ap (λ ds. ds ++ directories_made m.ops)
-      (rights_from t.records t.nodes places (directory_count t.nodes) 0 places_long (λ n low. (let same : n ≡ 0 + n = omega arith in places_are n low ∙ ap (directory_place t.nodes) same)))
+      (rights_from t.records t.nodes places (directory_count t.nodes) 0 places_long
+      (λ n low. (let same : n ≡ 0 + n = omega arith in places_are n low ∙ ap (directory_place t.nodes) same)))
 
   pub is_atlas : (h : Held) → HoldsAll h (start_table t) → len h ≤ length t.records + 2 * length m.ops
       → (es : List Entry) → es ≡ map (λ x. x.0) (entries h) → (slots : List Slot) → slots ≡ map (λ x. x.1) (entries h)

@@ -101,7 +101,8 @@ module _ (es : List Entry) (ss : List Slot) (n : ℕ) (path : Path) (d : ℕ) wh
             (ne_eqb (entry_at es i).directory d ne)
 
     -- no entry from one place to the other is of the directory
-    pub skipped : (count i : ℕ) → i + count ≤ length es → AllWithin (λ (e : Entry). e.directory ≢ d) es i (i + count) → rest i ≡ rest (i + count)
+    pub skipped : (count i : ℕ) → i + count ≤ length es → AllWithin (λ (e : Entry). e.directory ≢ d) es i (i + count)
+        → rest i ≡ rest (i + count)
     skipped zero i low none = (let same : i ≡ i + 0 = omega arith in ap rest same)
     skipped (suc count) i low none =
         other i (omega (arith, low)) (none i root_home (omega arith) (omega arith))

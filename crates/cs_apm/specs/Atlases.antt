@@ -21,9 +21,9 @@ use Rattle.cs_apm.specs.declared.tables.Tables.{Tables}
 use Rattle.cs_apm.specs.declared.slot.Step.{Step}
 
 -- every entry that the start has or a micro-operation touches, in order; what each holds at the
--- start; what each micro-operation does there; owner, group and permissions of the files, and of the
--- directories, as they are made; the place of the record of each of the start's files; the place of
--- the making of each further file; which files' size or bytes an operation changes
+-- start; what each micro-operation does there; owner, group and permissions of the files, and of
+-- the directories, as they are made; the place of the record of each of the start's files; the
+-- place of the making of each further file; which files' size or bytes an operation changes
 pub record Atlas : Type 0 where
   pub entries : List Entry
   pub slots : List Slot

@@ -25,7 +25,8 @@ module _ (m : Micros) (n : ℕ) (places : List ℕ) (allowed : IsAllowed (needs_
       contains_has places z
       (allowed.closed at.0 z at.1
       (ap (needs_of m z) at.2
-      ∙ says_needs m.ops m.syncs m.version (profile_of m.version) z j (record { before = low; reason = resizes_one_file f (to, first) (more, second) })))
+      ∙ says_needs m.ops m.syncs m.version (profile_of m.version) z j
+      (record { before = low; reason = resizes_one_file f (to, first) (more, second) })))
 
   module _ (f offset z size : ℕ) (grower : IsGrower size m.ops f offset z) (lacks : is_member places z ≡ false) where
     small_size : (j to : ℕ) → op_at m.ops j ≡ ChangeFileSize f to → is_member places j ≡ true → to ≤ offset

@@ -124,7 +124,8 @@ unfolding table_by
 table_empty Y = refl
 
 module _ {Y : Type 0} where
-  find_past : (d k : ℕ) (name : NameBytes) (ds : List (BTreeMap (String Y) Node)) → k < d → find entry_cmp (entry_in k name) (entries_from d ds) ≡ None
+  find_past : (d k : ℕ) (name : NameBytes) (ds : List (BTreeMap (String Y) Node)) → k < d
+      → find entry_cmp (entry_in k name) (entries_from d ds) ≡ None
   find_past d k name [] low = refl
   find_past d k name (m ∷ ms) low =
       find_append (entry_in k name) (with_directory d (by_bytes m.entries)) (entries_from (d + 1) ms)
@@ -162,7 +163,8 @@ module _ {Y : Type 0} where
   pub held_table : (ds : List (BTreeMap (String Y) Node)) → held_in (table_by ds) ≡ entries_in ds
   held_table ds = λ i e. get_table ds e i
 
-  pub same_tables : (ds es : List (BTreeMap (String Y) Node)) → ((e : Entry) → entries_in ds e ≡ entries_in es e) → table_by ds ≡ table_by es
+  pub same_tables : (ds es : List (BTreeMap (String Y) Node)) → ((e : Entry) → entries_in ds e ≡ entries_in es e)
+      → table_by ds ≡ table_by es
   same_tables ds es same =
       same_map entry_total entry_exact _ _ (λ e. get_table ds e ∙ same e ∙ sym (get_table es e))
 

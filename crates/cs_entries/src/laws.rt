@@ -14,8 +14,8 @@ pub fn legal_operations_leave_trees()
 {}
 
 /// The state of every allowed set of legal operations is a tree: each entry that is left is reached
-/// from the root, and each directory has one entry. By paths it is one, too: each path's parent is a
-/// directory, and at each path is what its names lead to.
+/// from the root, and each directory has one entry. By paths it is one, too: each path's parent is
+/// a directory, and at each path is what its names lead to.
 pub fn states_are_trees()
     ensures { (t : Table) (ops : ℕ → EntryOp) (n few : ℕ) (has : ℕ → Bool) → IsTree (held_in t)
         → ((k : ℕ) → k < n → IsLegal (state all (held_in t) ops k) (ops k))

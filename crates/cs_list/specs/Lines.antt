@@ -16,8 +16,8 @@ number_unless_blank e = cond (is_blank e.1) [] ((e.0 + 1) ∷ [])
 abbrev pub numbers_not_blank : List (List ℕ) → List ℕ
 numbers_not_blank lines = flat_map number_unless_blank (enumerate_from 0 lines)
 
--- an operation's line for each of its micro-operations, in a trace of the version; so many lines come
--- before those of operations
+-- an operation's line for each of its micro-operations, in a trace of the version; so many lines
+-- come before those of operations
 abbrev pub line_of : Version → List ℕ → ℕ → ℕ × Operation → List ℕ
 line_of version lines first e =
     replicate (length (micros_of version e.1)) (slice_index lines (first + e.0))

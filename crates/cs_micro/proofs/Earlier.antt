@@ -94,7 +94,8 @@ named_once m tree a b na nb = ⊎_elim
 
 -- ---- one operation
 
-early_block : (version : Version) → is_fourth version ≡ false → block_of_version version ≡ before_micros.block_of_version (version_before version)
+early_block : (version : Version) → is_fourth version ≡ false
+    → block_of_version version ≡ before_micros.block_of_version (version_before version)
 early_block First early = refl
 early_block (Second profile) early = refl
 early_block (Third profile block) early = refl
@@ -105,7 +106,8 @@ early_blocks : (size file offset : ℕ) (bytes : List ℕ)
 unfolding block_writes before_blocks.block_writes
 early_blocks size file offset bytes = both (touched_blocks size offset bytes)
   where
-    both : (ks : List ℕ) → map op_before (map (block_write size file offset bytes) ks) ≡ map (before_blocks.block_write size file offset bytes) ks
+    both : (ks : List ℕ) → map op_before (map (block_write size file offset bytes) ks) ≡ map
+        (before_blocks.block_write size file offset bytes) ks
     both [] = refl
     both (k ∷ ks) = ap (λ v. before_blocks.block_write size file offset bytes k ∷ v) (both ks)
 
@@ -123,11 +125,14 @@ early_write version early file size offset bytes = by (length bytes == 0)
     end : ℕ
     end = offset + length bytes
 
-    by : (none : Bool) → map op_before (cond none [] (growth_micros version file size (offset + length bytes) ++ block_writes (block_of_version version) file offset bytes))
-        ≡ cond none [] (before.growth_micros file size (offset + length bytes) ++ before_blocks.block_writes (block_of_version version) file offset bytes)
+    by : (none : Bool) → map op_before (cond none []
+        (growth_micros version file size (offset + length bytes) ++ block_writes (block_of_version version) file offset bytes))
+        ≡ cond none [] (before.growth_micros file size (offset + length bytes) ++ before_blocks.block_writes (block_of_version version)
+        file offset bytes)
     by true = refl
     by false =
-        map-append op_before (growth_micros version file size (offset + length bytes)) (block_writes (block_of_version version) file offset bytes)
+        map-append op_before (growth_micros version file size (offset + length bytes))
+        (block_writes (block_of_version version) file offset bytes)
         ∙ (λ i. early_growth (is_fourth version) (nat_lt size (offset + length bytes)) file size (offset + length bytes) early i
         ++ early_blocks (block_of_version version) file offset bytes i)
 
@@ -150,14 +155,16 @@ early_moves version early a b (File kind file) old =
     early_move (is_fourth version) (is_blocks (profile_of version)) (not (a.directory == b.directory)) a b (File kind file) old
     (halves a b kind file old) early
 
-early_rename : (version : Version) → is_fourth version ≡ false → (m : Entries) → IsTree m → (a b : DirEntry) (node : Node) (old : Option Node)
+early_rename : (version : Version) → is_fourth version ≡ false → (m : Entries) → IsTree m
+    → (a b : DirEntry) (node : Node) (old : Option Node)
     → IsNamed m a → IsNamed m b
     → map op_before (rename_micros version a b node old) ≡ before.rename_micros a.path b.path
 early_rename version early m tree a b node old na nb =
     by (entry_eq (entry_of a) (entry_of b))
     ∙ ap (λ same. cond same [] (earlier.MoveDirEntry a.path b.path ∷ [])) (named_once m tree a b na nb)
   where
-    by : (same : Bool) → map op_before (cond same [] (move_micros version a b node old)) ≡ cond same [] (earlier.MoveDirEntry a.path b.path ∷ [])
+    by : (same : Bool) → map op_before (cond same [] (move_micros version a b node old)) ≡ cond same []
+        (earlier.MoveDirEntry a.path b.path ∷ [])
     by true = refl
     by false = early_moves version early a b node old
 
@@ -188,7 +195,8 @@ early_one version early fs Say tree legal = refl
 tree_left : (version : Version) (fs : FileSystem) (o : Operation) → IsTree (held_in fs.entries) → IsLegal version fs o
     → IsTree (held_in (system_after fs o).entries)
 tree_left version fs o tree legal =
-    subst IsTree (λ i e. sym (table_step fs.entries (entry_op o) legal.entry e) i) (tree_after (held_in fs.entries) (entry_op o) tree legal.entry)
+    subst IsTree (λ i e. sym (table_step fs.entries (entry_op o) legal.entry e) i)
+    (tree_after (held_in fs.entries) (entry_op o) tree legal.entry)
 
 pub early_ops : (version : Version) → is_fourth version ≡ false → (fs : FileSystem) (ops : List Operation) → IsTree (held_in fs.entries)
     → AreLegal version fs ops
@@ -203,7 +211,8 @@ early_ops version early fs (o ∷ ops) tree legal =
 -- ---- their sync points
 
 -- the first so many are legal
-legal_take : (version : Version) (fs : FileSystem) (ops : List Operation) (k : ℕ) → AreLegal version fs ops → AreLegal version fs (take k ops)
+legal_take : (version : Version) (fs : FileSystem) (ops : List Operation) (k : ℕ) → AreLegal version fs ops
+    → AreLegal version fs (take k ops)
 legal_take version fs ops zero legal = tt
 legal_take version fs [] (suc k) legal = tt
 legal_take version fs (o ∷ ops) (suc k) legal = (legal.0, legal_take version (system_after fs o) ops k legal.1)

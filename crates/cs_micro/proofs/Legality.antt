@@ -66,7 +66,8 @@ both_legal : (version : Version) (m : Made) (xs ys : List MicroOp) → AreLegal 
 both_legal version m [] ys before after = after
 both_legal version m (x ∷ xs) ys before after = (before.0, both_legal version (made_after m x) xs ys before.1 after)
 
-both_leave : (version : Version) (m : Made) (xs ys : List MicroOp) (after last : Made) → Leaves version m xs after → Leaves version after ys last
+both_leave : (version : Version) (m : Made) (xs ys : List MicroOp) (after last : Made) → Leaves version m xs after
+    → Leaves version after ys last
     → Leaves version m (xs ++ ys) last
 both_leave version m xs ys after last one two = record {
   legal = both_legal version m xs ys one.legal (subst (λ x. AreLegal version x ys) (sym one.made) two.legal);
@@ -260,7 +261,8 @@ same_key q e h = ⊎_elim
 abbrev pub made_of : FileSystem → Made
 made_of fs = record { entries = fs.entries; files = length fs.sizes; homes = fs.homes }
 
-module _ (version : Version) (fs : FileSystem) (a b : DirEntry) (named : IsNamed (held_in fs.entries) a × IsNamed (held_in fs.entries) b) where
+module _ (version : Version) (fs : FileSystem) (a b : DirEntry) (named : IsNamed (held_in fs.entries) a × IsNamed (held_in fs.entries) b)
+    where
   abbrev m : Made
   m = made_of fs
 
@@ -300,7 +302,8 @@ module _ (version : Version) (fs : FileSystem) (a b : DirEntry) (named : IsNamed
       none_there,
       (
         legal.4.0,
-        way_kept (held_in fs.entries) (held_in fs.entries) (λ f. f ≢ from) Any (λ f c held passes. (held, tt)) legal.4.0 to.directory legal.4.1,
+        way_kept (held_in fs.entries) (held_in fs.entries) (λ f. f ≢ from) Any (λ f c held passes. (held, tt)) legal.4.0 to.directory
+        legal.4.1,
       ),
     )
 
@@ -317,7 +320,8 @@ module _ (version : Version) (fs : FileSystem) (a b : DirEntry) (named : IsNamed
           ∙ keeps_path (held_in fs.entries) to (File kind file) none_there (parent_path a.path) (Some (Directory 0)) a.directory named.0.1,
     )
 
-    same_end : table_after linked.entries (entries.Delete from (File kind file)) ≡ table_after fs.entries (entries.Move from to (File kind file) old)
+    same_end : table_after linked.entries (entries.Delete from (File kind file)) ≡ table_after fs.entries
+        (entries.Move from to (File kind file) old)
     same_end =
         same_map entry_total entry_exact _ _ (λ q. both q)
         ∙ ap (λ o. option_map_or (λ held. insert (remove fs.entries from) to held) o fs.entries) (sym legal.1)
@@ -502,7 +506,8 @@ written_low version size offset bytes small limit = by (length bytes == 0) refl
 target_low : (version : Version) (target : List ℕ) → is_target target ≡ true → length target ≤ most_bytes version
 target_low version target h =
     let parts = and_parts (nat_lt 0 (length target) && nat_le (length target) TARGET_BYTES) (is_without_nul target) h in
-    let long = leb-true (length target) TARGET_BYTES (and_parts (nat_lt 0 (length target)) (nat_le (length target) TARGET_BYTES) parts.0).1 in
+    let long = leb-true (length target) TARGET_BYTES (and_parts (nat_lt 0 (length target)) (nat_le (length target) TARGET_BYTES) parts.0).1
+        in
     by (is_fourth version) long
   where
     by : (fourth : Bool) → length target ≤ TARGET_BYTES → length target ≤ (if fourth then LARGE_FILE_BYTES else FILE_BYTES)
@@ -557,7 +562,8 @@ micros_legal t l small = record {
   homes = l.homes;
   are = l.are;
   many = l.many;
-  legal = subst (λ n. AreLegal t.version (record { entries = start_table t; files = n; homes = l.homes }) (micro_operations_of t.version t.operations))
+  legal = subst (λ n. AreLegal t.version (record { entries = start_table t; files = n; homes = l.homes })
+      (micro_operations_of t.version t.operations))
       (length-map t.files (size_at t.records))
       (all_legal t.version (record { entries = start_table t; sizes = start_sizes t; homes = l.homes }) t.operations
       (λ file size is. subst (λ s. s ≤ most_bytes t.version) (get_or_from_slice_get (start_sizes t) file size 0 is)

@@ -28,7 +28,8 @@ points_more version ops i x low is =
     ∙ ap (λ o. points_below version ops i ++ points_after (length (micro_operations_of version (take i ops))) o)
     (sym (is ∙ get_or_default ops i x Say low))
 
-pub points_all : (version : Version) (ops : List Operation) (i : ℕ) → i ≡ length ops → points_below version ops i ≡ sync_points_of version ops
+pub points_all : (version : Version) (ops : List Operation) (i : ℕ) → i ≡ length ops
+    → points_below version ops i ≡ sync_points_of version ops
 unfolding points_below sync_points_of
 points_all version ops i is = ap (λ n. flat_map (points_at version ops) (range_with_len 0 n)) is
 

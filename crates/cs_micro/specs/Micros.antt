@@ -1,5 +1,6 @@
 -- A trace that is broken up.
-use Rattle.std.specs.Prelude.{◌≡◌, ℕ, ◌+◌, ◌<◌, ◌==◌, List, [], ◌∷◌, filter, length, map, slice_index_or}
+use Rattle.std.specs.Prelude.{◌≡◌, ℕ, ◌+◌, ◌<◌, ◌==◌, List, [], ◌∷◌, filter, length, map}
+use Rattle.std.specs.Prelude.{slice_index_or}
 use Rattle.std.specs.List.{range_with_len}
 use Rattle.cs_tree_model.specs.Tree.{Path}
 use Rattle.cs_entries.specs.declared.entry.Entry.{Entry}
@@ -12,8 +13,8 @@ use Rattle.cs_micro.specs.MicroOperations.{micro_operations_of}
 use Rattle.cs_micro.specs.SyncPoints.{sync_points_of}
 
 -- the micro-operations, the sync points, the paths of each of the start's files and symbolic links
--- in the order of their numbers, and the version: with it the size of blocks, and what the file system keeps in
--- order
+-- in the order of their numbers, and the version: with it the size of blocks, and what the file
+-- system keeps in order
 pub record Micros : Type 0 where
   pub ops : List MicroOp
   pub syncs : List SyncPoint

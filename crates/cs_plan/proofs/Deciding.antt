@@ -108,11 +108,13 @@ replaced_files a b a' b' n n' kinds.Symlink kinds.Regular f f' e = search rules
 replaced_files a b a' b' n n' kinds.Symlink kinds.Symlink f f' e = search rules
 
 replaced_by_file : (a b a' b' : DirEntry) (n n' : Node) (d f : ℕ) (k : FileKind)
-    → operation.TheImpl.eq-value.it (Rename a b n (Some (nodes.Directory d))) (Rename a' b' n' (Some (nodes.File k f))) ≡ true → Some (nodes.Directory d) ≡ Some (nodes.File k f)
+    → operation.TheImpl.eq-value.it (Rename a b n (Some (nodes.Directory d))) (Rename a' b' n' (Some (nodes.File k f))) ≡ true
+    → Some (nodes.Directory d) ≡ Some (nodes.File k f)
 replaced_by_file a b a' b' n n' d f k e = search rules
 
 replaced_by_directory : (a b a' b' : DirEntry) (n n' : Node) (d f : ℕ) (k : FileKind)
-    → operation.TheImpl.eq-value.it (Rename a b n (Some (nodes.File k f))) (Rename a' b' n' (Some (nodes.Directory d))) ≡ true → Some (nodes.File k f) ≡ Some (nodes.Directory d)
+    → operation.TheImpl.eq-value.it (Rename a b n (Some (nodes.File k f))) (Rename a' b' n' (Some (nodes.Directory d))) ≡ true
+    → Some (nodes.File k f) ≡ Some (nodes.Directory d)
 replaced_by_directory a b a' b' n n' d f k e = search rules
 
 replaced_true : (a b a' b' : DirEntry) (n n' : Node) (o o' : Option Node)

@@ -176,7 +176,8 @@ grown_make : (version : Version) (file size end : ℕ) → made_in (growth_micro
 grown_make version file size end = none_made (ChangeFileSize file) (growth_sizes version size end) (λ _. refl)
 
 written_make : (none : Bool) (version : Version) (file size offset : ℕ) (bytes : List ℕ)
-    → made_in (cond none [] (growth_micros version file size (offset + length bytes) ++ block_writes (block_of_version version) file offset bytes))
+    → made_in (cond none [] (growth_micros version file size (offset + length bytes) ++ block_writes (block_of_version version) file offset
+    bytes))
     ≡ 0
 written_make true version file size offset bytes = refl
 written_make false version file size offset bytes =

@@ -67,7 +67,8 @@ paths-other m p e (suc n) other none =
     ∙ put-other n p e (entries m) (other n (omega arith)) (absent m p none)) i) ∷ [])
 
 -- the entry of the next file
-pub paths-own : (m : StartEntries) (p : Path) (e : StartEntry) (count : ℕ) → is_own count e ≡ true → ((n : ℕ) → n < count → is_own n e ≡ false)
+pub paths-own : (m : StartEntries) (p : Path) (e : StartEntry) (count : ℕ) → is_own count e ≡ true
+    → ((n : ℕ) → n < count → is_own n e ≡ false)
     → own_in count (entries m) ≡ None → get m p ≡ None → own_paths (insert m p e) (suc count) ≡ own_paths m count ++ p ∷ []
 paths-own m p e count own other nothing none =
     (λ i. paths-other m p e count other none i
@@ -110,7 +111,8 @@ pub other-paths : (m : StartEntries) (p : Path) (e : StartEntry) (count : ℕ) �
     → own_paths (insert m p e) count ≡ own_paths m count
 other-paths m p e count further none = paths-other m p e count (λ n low. ap (λ own. own && (number_of e.node == n)) further) none
 
-pub next-paths : (m : StartEntries) (p : Path) (e : StartEntry) (count : ℕ) → AreBelow (entries m) count → e.own ≡ true → number_of e.node ≡ count
+pub next-paths : (m : StartEntries) (p : Path) (e : StartEntry) (count : ℕ) → AreBelow (entries m) count → e.own ≡ true
+    → number_of e.node ≡ count
     → get m p ≡ None → own_paths (insert m p e) (count + 1) ≡ own_paths m count ++ p ∷ []
 next-paths m p e count low own number none =
     ap (own_paths (insert m p e)) (add-one count)

@@ -15,8 +15,8 @@ use std::alloc::AllocError;
 pub struct StartEntry {
     /// What it is, with its number.
     pub node: Node,
-    /// Whether a file or a symbolic link was made at this path. Further paths of a file have entries
-    /// that are copies.
+    /// Whether a file or a symbolic link was made at this path. Further paths of a file have
+    /// entries that are copies.
     pub own: bool,
     pub rights: Shared<Rights>,
     /// The bytes of a file, or the target of a symbolic link.

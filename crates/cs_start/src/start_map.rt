@@ -1,6 +1,6 @@
-//! The files, symbolic links and directories at the start, by their paths. After an error, the trace
-//! is given up; entries may be missing then, or only some of them appended to the lists of the
-//! start.
+//! The files, symbolic links and directories at the start, by their paths. After an error, the
+//! trace is given up; entries may be missing then, or only some of them appended to the lists of
+//! the start.
 ghost use Rattle.std.specs.Prelude.{◌≡◌, IfOk, OnOk, length, replicate};
 ghost use Rattle.std.specs.FinMap as map;
 ghost use Rattle.std.specs.Option.{is_some, option_map};

@@ -61,7 +61,8 @@ module _ (s : State) (is_made : IsMade s) where
       (places_in s) (h s is_made).allowed (kept_at (order s is_made) k))
 
   -- the directory of an entry that holds something is there
-  directory_known : (e : Entry) (node : Node) → m s is_made e ≡ Some node → e.directory < length (arc_value s.parts).tables.directories.items
+  directory_known : (e : Entry) (node : Node) → m s is_made e ≡ Some node
+      → e.directory < length (arc_value s.parts).tables.directories.items
   directory_known e node is = (let w = (entry_tree s is_made).reached e node is in by w.0 w.1)
     where
       by : (k : ℕ) → Way (m s is_made) Any k e.directory → e.directory < length (arc_value s.parts).tables.directories.items
@@ -96,7 +97,8 @@ module _ (s : State) (is_made : IsMade s) where
       (entry_has k low node is))
       ∙ sym (ap (λ o. option_map_or (λ (e : Entry). number_of_directory s e.directory) o (Some 0)) (its_entry k low))
 
-  name_at : (id : ℕ) → id < length (ps s is_made) → last_name (path_at (ps s is_made) id) ≡ option_map (λ (e : Entry). e.name) (entry_of_id s id)
+  name_at : (id : ℕ) → id < length (ps s is_made)
+      → last_name (path_at (ps s is_made) id) ≡ option_map (λ (e : Entry). e.name) (entry_of_id s id)
   name_at zero low = refl
   name_at (suc k) low =
       let e = entry_id k in

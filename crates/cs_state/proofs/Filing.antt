@@ -114,7 +114,8 @@ module _ (ops : List MicroOp) (makings : List ℕ) (are : AreMakings ops makings
       (let l = length-map makings (λ k. content_made (op_at ops k)) in let same = ap length are.made in omega (arith, high, l, same)))
 
 -- what a set leaves of a directory's owner, group and permissions, from those that it was made with
-module _ (parts : Parts) (h : AreParts parts) (directory : ℕ) (places : List ℕ) (known : directory < length parts.tables.directories.items) where
+module _ (parts : Parts) (h : AreParts parts) (directory : ℕ) (places : List ℕ) (known : directory < length parts.tables.directories.items)
+    where
   pub directory_of_left : (made : Rights) → made ≡ get_or parts.tables.directories.items directory made
       → directory_left directory made parts.micros.ops places ≡ directory_in parts places directory
   directory_of_left made read =

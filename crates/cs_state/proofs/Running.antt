@@ -116,7 +116,8 @@ module _ (es : List Entry) (up : AreAscending es) (d first end : ℕ) (order : f
 
     -- the names before the place come before x, and those from it on don't
     module _ (k : ℕ) (bound : k ≤ length run)
-        (point : IsPartitionPoint (λ (e : Entry). is_lt (name_cmp e.name x) ≡ true) (λ (e : Entry). is_lt (name_cmp e.name x) ≡ false) run k) where
+        (point : IsPartitionPoint (λ (e : Entry). is_lt (name_cmp e.name x) ≡ true) (λ (e : Entry). is_lt (name_cmp e.name x) ≡ false) run
+        k) where
       pub found_name : first + k < end → (entry_at es (first + k)).name ≡ x → place_of_entry es (entry_in d x) ≡ Some (first + k)
       found_name low is =
           ap (λ n. place_of_entry es (entry_in d n)) (sym is)
@@ -157,7 +158,8 @@ module _ (es : List Entry) (up : AreAscending es) (d first end : ℕ) (order : f
 
     -- those before the place come at or before x, and those from it on after it
     module _ (k : ℕ) (bound : k ≤ length run)
-        (point : IsPartitionPoint (λ (e : Entry). is_le (name_cmp e.name x) ≡ true) (λ (e : Entry). is_le (name_cmp e.name x) ≡ false) run k) where
+        (point : IsPartitionPoint (λ (e : Entry). is_le (name_cmp e.name x) ≡ true) (λ (e : Entry). is_le (name_cmp e.name x) ≡ false) run
+        k) where
       behind_name : (i : ℕ) → first + k ≤ i → i < end → name_cmp x (entry_at es i).name ≡ Less
       behind_name i from below =
           let l = run_long in

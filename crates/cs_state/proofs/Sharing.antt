@@ -145,7 +145,8 @@ module _ (parts : Parts) (places : List ℕ) (moved : ℕ) (own : List Own) (h :
         omega (arith, same, l, p)
 
     -- an entry's id
-    pub id_inside : (place : ℕ) → place < length parts.tables.entries.items → kept_at o.ids.items place < length parts.tables.slots.items + 1
+    pub id_inside : (place : ℕ) → place < length parts.tables.entries.items
+        → kept_at o.ids.items place < length parts.tables.slots.items + 1
     id_inside place low =
         let w = place_there (length parts.tables.entries.items) o.places.items is_order.each place low in
         let back = is_order.back.back w.0 w.1 in

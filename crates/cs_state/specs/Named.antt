@@ -23,8 +23,8 @@ abbrev pub IsBeforeBound : Option NameBytes → NameBytes → Type 0
 IsBeforeBound None name = Unit {0}
 IsBeforeBound (Some bound) name = slice_cmp nat_cmp name bound ≡ Less
 
--- the entries from the one place on and before the other are those of the directory whose names come
--- after the last one
+-- the entries from the one place on and before the other are those of the directory whose names
+-- come after the last one
 pub record AreAfterName (entries : List Entry) (directory : ℕ) (last : Option NameBytes)
     (first end : ℕ) : Type 0 where
   pub inside : (place : ℕ) → first ≤ place → place < end

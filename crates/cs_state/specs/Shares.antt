@@ -72,8 +72,8 @@ abbrev pub slots_left : Tables → List ℕ → List Slot
 slots_left tables places =
     fold slots_after tables.slots.items (map (step_at tables.steps.items) places)
 
--- the lists of ids, of the order of paths with these places, are of the tables: no step changes what
--- is kept, one changes what is touched, and what is in neither list never holds anything
+-- the lists of ids, of the order of paths with these places, are of the tables: no step changes
+-- what is kept, one changes what is touched, and what is in neither list never holds anything
 pub record AreIds (tables : Tables) (places : List ℕ) (o : KeptIds) : Type 0 where
   pub few : length tables.slots.items + 1 < 2 ^ 20
   pub kept_up : (i j : ℕ) → i < j → j < length o.kept.items

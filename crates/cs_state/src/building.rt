@@ -32,8 +32,8 @@ fn push_own(own: &mut Vec<Own>, id: u32, before: u32, slot: Option<Node>) -> Res
 }
 
 /// What is at those touched ids at which there is something, with their numbers in the state.
-/// `places` has the entries by their paths, `slots` what each entry holds, and `kept_below` how many
-/// kept ids are before each id.
+/// `places` has the entries by their paths, `slots` what each entry holds, and `kept_below` how
+/// many kept ids are before each id.
 fn touched_entries(
     alloc: Global,
     touched: &[u32],

@@ -1,5 +1,6 @@
 //! Which micro-operations of a trace set the owner, group and permissions of a file or of a
-//! directory. Its `owner` is all three here. An error is that memory ran out; what was collected is then dropped.
+//! directory. Its `owner` is all three here. An error is that memory ran out; what was collected is
+//! then dropped.
 ghost use Rattle.std.specs.Prelude.{◌≡◌, ◌<◌, ◌^◌, ℕ, length, true, IfOk, IsSome, OnOk};
 ghost use Rattle.std.specs.BTreeMap.{get};
 ghost use Rattle.std.specs.Ordering.{nat_cmp};

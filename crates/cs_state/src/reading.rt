@@ -188,7 +188,8 @@ fn owner_of<'a>(parts: &'a Parts, members: &[bool], file: u32) -> &'a Rights
 
 /// The metadata of a record that was never changed: version and times are 0, and the owner is also
 /// the user who changed it last. `bit` is DMDIR for a directory, DMSYMLINK for a symbolic link, 0
-/// for another file; of the permissions, the lowest nine bits count. (`record_with` of cs_apm makes such a record.)
+/// for another file; of the permissions, the lowest nine bits count. (`record_with` of cs_apm makes
+/// such a record.)
 fn unchanged_metadata(number: u64, rights: &Rights, bit: u32, kind: Kind) -> Metadata<'_>
     requires { bit ≤ DMDIR }
     ensures { metadata_of_ref result ≡ unchanged_metadata number rights.now bit kind }
@@ -216,8 +217,8 @@ fn kind_bit(kind: FileKind) -> u32
     }
 }
 
-/// The metadata, with this number, of what an entry holds after the members: that of the record that
-/// `record_at` of cs_apm makes.
+/// The metadata, with this number, of what an entry holds after the members: that of the record
+/// that `record_at` of cs_apm makes.
 pub fn metadata_of<'a>(parts: &'a Parts, members: &[bool], number: u64, node: Node) -> Metadata<'a>
     requires parts { AreParts parts.now }
     requires known { IsKnown (length parts.now.tables.directories.items)

@@ -110,7 +110,8 @@ are_apart above beside = not (directory_number above == directory_number beside)
 abbrev pub is_too_much_to_move : State → Bool → Path → Path → Bool
 is_too_much_to_move s nothing p q =
     is_fourth s.version && not nothing
-    && are_apart (node_at s (parent_path p)) (node_at s (parent_path q)) && nat_le TREE_RECORDS s.made
+    && are_apart (node_at s (parent_path p)) (node_at s (parent_path q))
+    && nat_le TREE_RECORDS s.made
 
 abbrev pub move_limit : State → Bool → Path → Path → List Check
 move_limit s nothing p q =

@@ -143,8 +143,8 @@ fn symlink_at(
     })
 }
 
-/// The symlink at the path that the text spells. If the path, the owner or the group isn't legal, it
-/// is BadName; the other faults are those of `symlink_at`.
+/// The symlink at the path that the text spells. If the path, the owner or the group isn't legal,
+/// it is BadName; the other faults are those of `symlink_at`.
 pub(crate) fn symlink(
     alloc: Global,
     state: &LinesSoFar,

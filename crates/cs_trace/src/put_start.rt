@@ -158,8 +158,8 @@ pub(crate) fn put_root(
 }
 
 /// Adds the entry of a new file, symbolic link or directory at the path, under the name in the
-/// directory of the number. Returns whether it replaced another entry, which the caller reports as a
-/// fault.
+/// directory of the number. Returns whether it replaced another entry, which the caller reports as
+/// a fault.
 pub(crate) fn put_entry(
     alloc: Global,
     state: &mut LinesSoFar,

@@ -100,8 +100,8 @@ fn rename_file(
 }
 
 /// The rename of a directory. What is above `to` is checked by `parent_of`; a `to` below the
-/// directory is BadName; and `to` may be the directory itself, nothing, or an empty directory, which
-/// is replaced (`under_directory`).
+/// directory is BadName; and `to` may be the directory itself, nothing, or an empty directory,
+/// which is replaced (`under_directory`).
 #[tactic(auto, using(crate::proofs::Renamed::directory_refused, crate::proofs::Renamed::directory_below, crate::proofs::Renamed::directory_unmoved, crate::proofs::Renamed::directory_over, crate::proofs::Renamed::directory_moved))]
 fn rename_directory(
     alloc: Global,

@@ -39,8 +39,8 @@ fn set_path<'a>(text: &'a str, change: &Change) -> Result<PathText<'a>, TraceFau
     Ok(path)
 }
 
-/// The unlink of the path of a file or a symbolic link. Nothing there is Missing, and a directory is
-/// NotFile.
+/// The unlink of the path of a file or a symbolic link. Nothing there is Missing, and a directory
+/// is NotFile.
 fn unlink(
     alloc: Global,
     state: &LinesSoFar,
@@ -191,8 +191,8 @@ fn fsync(
     Ok(Operation::Sync(covers))
 }
 
-/// The number of the regular file at the path, for an fdatasync and an fsync_range. Nothing there is
-/// Missing, and what is no regular file is NotFile.
+/// The number of the regular file at the path, for an fdatasync and an fsync_range. Nothing there
+/// is Missing, and what is no regular file is NotFile.
 fn synced_file(
     alloc: Global,
     state: &LinesSoFar,
@@ -221,8 +221,8 @@ fn fdatasync(
     Ok(Operation::Sync(Covers::Data(file)))
 }
 
-/// The sync of `length` bytes of the file at the path (`synced_file`), from the offset on. The range
-/// may end after the end of the file.
+/// The sync of `length` bytes of the file at the path (`synced_file`), from the offset on. The
+/// range may end after the end of the file.
 #[tactic(auto, using(crate::proofs::Renamed::fsync_range_fails, crate::proofs::Renamed::fsync_range_made))]
 fn fsync_range(
     alloc: Global,

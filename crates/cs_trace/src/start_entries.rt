@@ -1,6 +1,7 @@
-//! Adds a file, a symbolic link or a directory to the start. After a fault, the trace is given up, so
-//! that no clause says what is left of the state.
-ghost use Rattle.std.specs.Prelude.{◌≡◌, ◌≢◌, ◌∷◌, ◌++◌, ◌<◌, ◌^◌, [], IfErr, IfOk, OnOk, Some, Err};
+//! Adds a file, a symbolic link or a directory to the start. After a fault, the trace is given up,
+//! so that no clause says what is left of the state.
+ghost use Rattle.std.specs.Prelude.{◌≡◌, ◌≢◌, ◌∷◌, ◌++◌, ◌<◌, ◌^◌, [], IfErr, IfOk, OnOk, Some};
+ghost use Rattle.std.specs.Prelude.{Err};
 ghost use Rattle.std.specs.Prelude.{length};
 ghost use Rattle.cs_entries.specs.Paths.{at_path, entry_in};
 ghost use Rattle.cs_entries.specs.Tables.{held_in};
@@ -98,9 +99,9 @@ pub(crate) fn new_entry(
     })
 }
 
-/// The directory of a new entry at the path, which `text` spells (`parent_by`). The directory of the
-/// last start line isn't looked up again; of another one that has a long text, the entries are kept
-/// apart from now on, if it has none yet (`StartMap::keep_apart`).
+/// The directory of a new entry at the path, which `text` spells (`parent_by`). The directory of
+/// the last start line isn't looked up again; of another one that has a long text, the entries are
+/// kept apart from now on, if it has none yet (`StartMap::keep_apart`).
 fn find_above(
     alloc: Global,
     state: &mut LinesSoFar,

@@ -119,8 +119,8 @@ fn change_attributes(
     }
 }
 
-/// How many records the operation makes: 1 for a creat, a mkdir, a symlink and a link; in the fourth
-/// version also for a rename into another directory; and 0 for the others.
+/// How many records the operation makes: 1 for a creat, a mkdir, a symlink and a link; in the
+/// fourth version also for a rename into another directory; and 0 for the others.
 fn made_by(version: Version, operation: &Operation) -> usize
     ensures value { result ≡ made_by version operation.now }
     ensures one { result ≤ 1 }

@@ -1,5 +1,6 @@
 //! A trace: the tree at its start, and its operations.
-ghost use Rattle.std.specs.Prelude.{◌≡◌, ◌≢◌, ◌≤◌, ◌<◌, ℕ, List, Some, IfErr, IfOk, IfSome, Ok, Err};
+ghost use Rattle.std.specs.Prelude.{◌≡◌, ◌≢◌, ◌≤◌, ◌<◌, ℕ, List, Some, IfErr, IfOk, IfSome, Ok};
+ghost use Rattle.std.specs.Prelude.{Err};
 ghost use Rattle.std.specs.Prelude.{length, map, option_map, slice_get};
 ghost use Rattle.std.specs.FinMap.{get};
 ghost use Rattle.std.specs.List.{All};
@@ -207,9 +208,9 @@ fn trace_of_state(alloc: Global, state: LinesSoFar) -> Result<Trace, AllocError>
 /// file. An unlink removes one of its paths, and a rename from one path of a file to another does
 /// nothing.
 ///
-/// Version 4 has the lines of version 3, with directories that may be renamed, files of up to 1 GiB,
-/// and `journal` as a third F. A start line of a file may have `"length":N` and a list of parts in
-/// place of `bytes`; a byte that no part has is zero:
+/// Version 4 has the lines of version 3, with directories that may be renamed, files of up to 1
+/// GiB, and `journal` as a third F. A start line of a file may have `"length":N` and a list of
+/// parts in place of `bytes`; a byte that no part has is zero:
 ///
 /// ```text
 /// {"trace":4,"profile":F,"block":B,"owner":O,"group":G,"mode":M}

@@ -38,12 +38,14 @@ pub and_then_by : {A B : Type 0} (o : Option A) (f : A → Option B) (P : B → 
 and_then_by None f P each y is = absurd (cc)
 and_then_by (Some x) f P each y is = each x y is
 
-pub map_by : {A B : Type 0} (o : Option A) (f : A → B) (P : B → Type 0) → ((x : A) → o ≡ Some x → P (f x)) → (y : B) → option_map f o ≡ Some y
+pub map_by : {A B : Type 0} (o : Option A) (f : A → B) (P : B → Type 0) → ((x : A) → o ≡ Some x → P (f x)) → (y : B)
+    → option_map f o ≡ Some y
     → P y
 map_by None f P each y is = absurd (cc)
 map_by (Some x) f P each y is = let same : f x ≡ y = cc in subst P same (each x refl)
 
-pub if_by : {B : Type 0} (t : Bool) (o : Option B) (P : B → Type 0) → ((y : B) → o ≡ Some y → P y) → (y : B) → (if t then o else None) ≡ Some y
+pub if_by : {B : Type 0} (t : Bool) (o : Option B) (P : B → Type 0) → ((y : B) → o ≡ Some y → P y) → (y : B)
+    → (if t then o else None) ≡ Some y
     → P y
 if_by true o P each y is = each y is
 if_by false o P each y is = absurd (cc)

@@ -63,9 +63,9 @@ fn block_size_in(block: &Option<Field>) -> Result<BlockSize, LineFault>
     BlockSize::of_bytes(whole_number_in(block)?).ok_or(LineFault::Syntax)
 }
 
-/// The version that a header declares: 1, 2 with a profile, or 3 or 4 with a profile and a block size.
-/// Another number, or a field that is missing or has another value, is Syntax. `header_key_count`
-/// counts the fields that are read here.
+/// The version that a header declares: 1, 2 with a profile, or 3 or 4 with a profile and a block
+/// size. Another number, or a field that is missing or has another value, is Syntax.
+/// `header_key_count` counts the fields that are read here.
 fn version_in(fields: &Fields) -> Result<Version, LineFault>
     ensures { IsRead (λ version. version) (version_in (field_values fields.now)) result }
 {

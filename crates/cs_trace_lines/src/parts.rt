@@ -68,9 +68,9 @@ fn take_parts(
     }
 }
 
-/// The bytes of a file whose length and whose parts are in these fields. A part that isn't behind the one before
-/// it, has no byte or ends behind the end of the file is Syntax, as is a field that is missing or
-/// has another value. The length is no limit of memory.
+/// The bytes of a file whose length and whose parts are in these fields. A part that isn't behind
+/// the one before it, has no byte or ends behind the end of the file is Syntax, as is a field that
+/// is missing or has another value. The length is no limit of memory.
 pub(crate) fn bytes_by_parts(
     alloc: Global,
     version: Version,

@@ -42,8 +42,8 @@ impl Model for SparseBytes {
     ghost invariant = { λ s. IsKept s.kept };
 }
 
-/// Whether the part has a byte, begins at `from` or behind it, and ends at the file's end, `length`,
-/// at the latest.
+/// Whether the part has a byte, begins at `from` or behind it, and ends at the file's end,
+/// `length`, at the latest.
 fn lies_between(from: u64, length: u64, part: &Part) -> bool
     ensures { result ≡ lies_between from length (part_value part.now) }
 {

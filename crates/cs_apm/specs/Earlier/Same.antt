@@ -1,4 +1,4 @@
--- The order and the crash states of a trace of one of the first three versions, as before version 4.
+-- The order and the crash states of a trace of versions 1 to 3, as before version 4.
 use Rattle.std.specs.Prelude.{◌≡◌, ◌≢◌, ℕ, ◌<◌, Bool, false, true, List, Some, length}
 use Rattle.std.specs.FinMap.{get}
 use Rattle.std.specs.List.{list_any}

@@ -42,10 +42,15 @@ module _ (ops : List MicroOp) (syncs : List SyncPoint) (version : Version) (prof
   Because = Reason ops syncs version profile i j
 
   pair_says : pair_needs version profile a b ≡ true → Because
-  pair_says h = (⊎_elim (λ (h : (same_block_or_size a b || shares_name a b || touches_removed_directory a b || both_say a b || sets_same_file a b || keeps_order profile a b || says_before version a || creates_linked a b) ≡ true).
-      (⊎_elim (λ (h : (same_block_or_size a b || shares_name a b || touches_removed_directory a b || both_say a b || sets_same_file a b || keeps_order profile a b || says_before version a) ≡ true).
-      (⊎_elim (λ (h : (same_block_or_size a b || shares_name a b || touches_removed_directory a b || both_say a b || sets_same_file a b || keeps_order profile a b) ≡ true).
-      (⊎_elim (λ (h : (same_block_or_size a b || shares_name a b || touches_removed_directory a b || both_say a b || sets_same_file a b) ≡ true).
+  pair_says h = (⊎_elim
+      (λ (h : (same_block_or_size a b || shares_name a b || touches_removed_directory a b || both_say a b || sets_same_file a b ||
+      keeps_order profile a b || says_before version a || creates_linked a b) ≡ true).
+      (⊎_elim (λ (h : (same_block_or_size a b || shares_name a b || touches_removed_directory a b || both_say a b || sets_same_file a b ||
+      keeps_order profile a b || says_before version a) ≡ true).
+      (⊎_elim (λ (h : (same_block_or_size a b || shares_name a b || touches_removed_directory a b || both_say a b || sets_same_file a b ||
+      keeps_order profile a b) ≡ true).
+      (⊎_elim (λ (h : (same_block_or_size a b || shares_name a b || touches_removed_directory a b || both_say a b || sets_same_file a b) ≡
+      true).
       (⊎_elim (λ (h : (same_block_or_size a b || shares_name a b || touches_removed_directory a b || both_say a b) ≡ true).
       (⊎_elim (λ (h : (same_block_or_size a b || shares_name a b || touches_removed_directory a b) ≡ true).
       (⊎_elim (λ (h : (same_block_or_size a b || shares_name a b) ≡ true).
@@ -69,17 +74,21 @@ module _ (ops : List MicroOp) (syncs : List SyncPoint) (version : Version) (prof
       (or_cases (same_block_or_size a b || shares_name a b || touches_removed_directory a b || both_say a b) (sets_same_file a b) h)))
       (λ (h : keeps_order profile a b ≡ true).
       (let w = order_says profile a b h in is_kept_in_order w.0 w.1 w.2))
-      (or_cases (same_block_or_size a b || shares_name a b || touches_removed_directory a b || both_say a b || sets_same_file a b) (keeps_order profile a b) h)))
+      (or_cases (same_block_or_size a b || shares_name a b || touches_removed_directory a b || both_say a b || sets_same_file a b)
+      (keeps_order profile a b) h)))
       (λ (h : says_before version a ≡ true).
       (let w = first_line_says version a h in is_acknowledged_first w.0 w.1))
-      (or_cases (same_block_or_size a b || shares_name a b || touches_removed_directory a b || both_say a b || sets_same_file a b || keeps_order profile a b) (says_before version a) h)))
+      (or_cases (same_block_or_size a b || shares_name a b || touches_removed_directory a b || both_say a b || sets_same_file a b ||
+      keeps_order profile a b) (says_before version a) h)))
       (λ (h : creates_linked a b ≡ true).
       (let w = linked_says a b h in creates_what_is_linked w.0 w.1 w.2 w.3 w.4))
-      (or_cases (same_block_or_size a b || shares_name a b || touches_removed_directory a b || both_say a b || sets_same_file a b || keeps_order profile a b || says_before version a) (creates_linked a b) h)))
+      (or_cases (same_block_or_size a b || shares_name a b || touches_removed_directory a b || both_say a b || sets_same_file a b ||
+      keeps_order profile a b || says_before version a) (creates_linked a b) h)))
       (λ (h : both_move_directories a b ≡ true).
       (let w = and_parts (moves_directory (entry_op a)) (moves_directory (entry_op b)) h in
       moves_directories (moves_says (entry_op a) w.0) (moves_says (entry_op b) w.1)))
-      (or_cases (same_block_or_size a b || shares_name a b || touches_removed_directory a b || both_say a b || sets_same_file a b || keeps_order profile a b || says_before version a || creates_linked a b) (both_move_directories a b) h))
+      (or_cases (same_block_or_size a b || shares_name a b || touches_removed_directory a b || both_say a b || sets_same_file a b ||
+      keeps_order profile a b || says_before version a || creates_linked a b) (both_move_directories a b) h))
 
   abbrev any : Bool
   any =
@@ -90,7 +99,8 @@ module _ (ops : List MicroOp) (syncs : List SyncPoint) (version : Version) (prof
       || are_halves ops i j
 
   any_says : any ≡ true → Because
-  any_says h = (⊎_elim (λ (h : (pair_needs version profile a b || makes_parent ops i j || is_synced syncs i j a || is_journaled profile ops syncs i j) ≡ true).
+  any_says h = (⊎_elim (λ (h : (pair_needs version profile a b || makes_parent ops i j || is_synced syncs i j a || is_journaled profile ops
+      syncs i j) ≡ true).
       (⊎_elim (λ (h : (pair_needs version profile a b || makes_parent ops i j || is_synced syncs i j a) ≡ true).
       (⊎_elim (λ (h : (pair_needs version profile a b || makes_parent ops i j) ≡ true).
       (⊎_elim pair_says
@@ -108,10 +118,12 @@ module _ (ops : List MicroOp) (syncs : List SyncPoint) (version : Version) (prof
       (let parts = and_parts (is_first_half a) (j == i + 1) h in
       let w = half_says a parts.0 in
       is_other_half w.0 w.1 w.2 w.3 w.4 (eqb-true j (i + 1) parts.1)))
-      (or_cases (pair_needs version profile a b || makes_parent ops i j || is_synced syncs i j a || is_journaled profile ops syncs i j) (are_halves ops i j) h))
+      (or_cases (pair_needs version profile a b || makes_parent ops i j || is_synced syncs i j a || is_journaled profile ops syncs i j)
+      (are_halves ops i j) h))
 
   by_pair : pair_needs version profile a b ≡ true → any ≡ true
-  by_pair h = (or_left (pair_needs version profile a b || makes_parent ops i j || is_synced syncs i j a || is_journaled profile ops syncs i j) (are_halves ops i j)
+  by_pair h = (or_left (pair_needs version profile a b || makes_parent ops i j || is_synced syncs i j a || is_journaled profile ops syncs i
+      j) (are_halves ops i j)
       (or_left (pair_needs version profile a b || makes_parent ops i j || is_synced syncs i j a) (is_journaled profile ops syncs i j)
       (or_left (pair_needs version profile a b || makes_parent ops i j) (is_synced syncs i j a)
       (or_left (pair_needs version profile a b) (makes_parent ops i j)
@@ -119,92 +131,142 @@ module _ (ops : List MicroOp) (syncs : List SyncPoint) (version : Version) (prof
 
   says_reason : Because → any ≡ true
   says_reason (writes_one_block file block x y) =
-      by_pair (or_left (same_block_or_size a b || shares_name a b || touches_removed_directory a b || both_say a b || sets_same_file a b || keeps_order profile a b || says_before version a || creates_linked a b) (both_move_directories a b)
-      (or_left (same_block_or_size a b || shares_name a b || touches_removed_directory a b || both_say a b || sets_same_file a b || keeps_order profile a b || says_before version a) (creates_linked a b)
-      (or_left (same_block_or_size a b || shares_name a b || touches_removed_directory a b || both_say a b || sets_same_file a b || keeps_order profile a b) (says_before version a)
-      (or_left (same_block_or_size a b || shares_name a b || touches_removed_directory a b || both_say a b || sets_same_file a b) (keeps_order profile a b)
+      by_pair (or_left (same_block_or_size a b || shares_name a b || touches_removed_directory a b || both_say a b || sets_same_file a b ||
+      keeps_order profile a b || says_before version a || creates_linked a b) (both_move_directories a b)
+      (or_left (same_block_or_size a b || shares_name a b || touches_removed_directory a b || both_say a b || sets_same_file a b ||
+      keeps_order profile a b || says_before version a) (creates_linked a b)
+      (or_left (same_block_or_size a b || shares_name a b || touches_removed_directory a b || both_say a b || sets_same_file a b ||
+      keeps_order profile a b) (says_before version a)
+      (or_left (same_block_or_size a b || shares_name a b || touches_removed_directory a b || both_say a b || sets_same_file a b)
+      (keeps_order profile a b)
       (or_left (same_block_or_size a b || shares_name a b || touches_removed_directory a b || both_say a b) (sets_same_file a b)
       (or_left (same_block_or_size a b || shares_name a b || touches_removed_directory a b) (both_say a b)
       (or_left (same_block_or_size a b || shares_name a b) (touches_removed_directory a b)
       (or_left (same_block_or_size a b) (shares_name a b)
       (block_place a b file block x y)))))))))
   says_reason (resizes_one_file file x y) =
-      by_pair (or_left (same_block_or_size a b || shares_name a b || touches_removed_directory a b || both_say a b || sets_same_file a b || keeps_order profile a b || says_before version a || creates_linked a b) (both_move_directories a b)
-      (or_left (same_block_or_size a b || shares_name a b || touches_removed_directory a b || both_say a b || sets_same_file a b || keeps_order profile a b || says_before version a) (creates_linked a b)
-      (or_left (same_block_or_size a b || shares_name a b || touches_removed_directory a b || both_say a b || sets_same_file a b || keeps_order profile a b) (says_before version a)
-      (or_left (same_block_or_size a b || shares_name a b || touches_removed_directory a b || both_say a b || sets_same_file a b) (keeps_order profile a b)
+      by_pair (or_left (same_block_or_size a b || shares_name a b || touches_removed_directory a b || both_say a b || sets_same_file a b ||
+      keeps_order profile a b || says_before version a || creates_linked a b) (both_move_directories a b)
+      (or_left (same_block_or_size a b || shares_name a b || touches_removed_directory a b || both_say a b || sets_same_file a b ||
+      keeps_order profile a b || says_before version a) (creates_linked a b)
+      (or_left (same_block_or_size a b || shares_name a b || touches_removed_directory a b || both_say a b || sets_same_file a b ||
+      keeps_order profile a b) (says_before version a)
+      (or_left (same_block_or_size a b || shares_name a b || touches_removed_directory a b || both_say a b || sets_same_file a b)
+      (keeps_order profile a b)
       (or_left (same_block_or_size a b || shares_name a b || touches_removed_directory a b || both_say a b) (sets_same_file a b)
       (or_left (same_block_or_size a b || shares_name a b || touches_removed_directory a b) (both_say a b)
       (or_left (same_block_or_size a b || shares_name a b) (touches_removed_directory a b)
       (or_left (same_block_or_size a b) (shares_name a b)
       (size_place a b file x y)))))))))
   says_reason (touches_one_entry e x y) =
-      by_pair (or_left (same_block_or_size a b || shares_name a b || touches_removed_directory a b || both_say a b || sets_same_file a b || keeps_order profile a b || says_before version a || creates_linked a b) (both_move_directories a b)
-      (or_left (same_block_or_size a b || shares_name a b || touches_removed_directory a b || both_say a b || sets_same_file a b || keeps_order profile a b || says_before version a) (creates_linked a b)
-      (or_left (same_block_or_size a b || shares_name a b || touches_removed_directory a b || both_say a b || sets_same_file a b || keeps_order profile a b) (says_before version a)
-      (or_left (same_block_or_size a b || shares_name a b || touches_removed_directory a b || both_say a b || sets_same_file a b) (keeps_order profile a b)
+      by_pair (or_left (same_block_or_size a b || shares_name a b || touches_removed_directory a b || both_say a b || sets_same_file a b ||
+      keeps_order profile a b || says_before version a || creates_linked a b) (both_move_directories a b)
+      (or_left (same_block_or_size a b || shares_name a b || touches_removed_directory a b || both_say a b || sets_same_file a b ||
+      keeps_order profile a b || says_before version a) (creates_linked a b)
+      (or_left (same_block_or_size a b || shares_name a b || touches_removed_directory a b || both_say a b || sets_same_file a b ||
+      keeps_order profile a b) (says_before version a)
+      (or_left (same_block_or_size a b || shares_name a b || touches_removed_directory a b || both_say a b || sets_same_file a b)
+      (keeps_order profile a b)
       (or_left (same_block_or_size a b || shares_name a b || touches_removed_directory a b || both_say a b) (sets_same_file a b)
       (or_left (same_block_or_size a b || shares_name a b || touches_removed_directory a b) (both_say a b)
       (or_left (same_block_or_size a b || shares_name a b) (touches_removed_directory a b)
-      (or_right (same_block_or_size a b) (shares_name a b) (or_left (shares_entry (entry_op a) (entry_op b)) (list_any (settles a) (directories_settled b)) (says_shares a b e x y))))))))))
+      (or_right (same_block_or_size a b) (shares_name a b)
+      (or_left (shares_entry (entry_op a) (entry_op b)) (list_any (settles a) (directories_settled b)) (says_shares a b e x y))))))))))
   says_reason (settles_one_directory d x y) =
-      by_pair (or_left (same_block_or_size a b || shares_name a b || touches_removed_directory a b || both_say a b || sets_same_file a b || keeps_order profile a b || says_before version a || creates_linked a b) (both_move_directories a b)
-      (or_left (same_block_or_size a b || shares_name a b || touches_removed_directory a b || both_say a b || sets_same_file a b || keeps_order profile a b || says_before version a) (creates_linked a b)
-      (or_left (same_block_or_size a b || shares_name a b || touches_removed_directory a b || both_say a b || sets_same_file a b || keeps_order profile a b) (says_before version a)
-      (or_left (same_block_or_size a b || shares_name a b || touches_removed_directory a b || both_say a b || sets_same_file a b) (keeps_order profile a b)
+      by_pair (or_left (same_block_or_size a b || shares_name a b || touches_removed_directory a b || both_say a b || sets_same_file a b ||
+      keeps_order profile a b || says_before version a || creates_linked a b) (both_move_directories a b)
+      (or_left (same_block_or_size a b || shares_name a b || touches_removed_directory a b || both_say a b || sets_same_file a b ||
+      keeps_order profile a b || says_before version a) (creates_linked a b)
+      (or_left (same_block_or_size a b || shares_name a b || touches_removed_directory a b || both_say a b || sets_same_file a b ||
+      keeps_order profile a b) (says_before version a)
+      (or_left (same_block_or_size a b || shares_name a b || touches_removed_directory a b || both_say a b || sets_same_file a b)
+      (keeps_order profile a b)
       (or_left (same_block_or_size a b || shares_name a b || touches_removed_directory a b || both_say a b) (sets_same_file a b)
       (or_left (same_block_or_size a b || shares_name a b || touches_removed_directory a b) (both_say a b)
       (or_left (same_block_or_size a b || shares_name a b) (touches_removed_directory a b)
-      (or_right (same_block_or_size a b) (shares_name a b) (or_right (shares_entry (entry_op a) (entry_op b)) (list_any (settles a) (directories_settled b)) (says_settled a b d x y))))))))))
+      (or_right (same_block_or_size a b) (shares_name a b)
+      (or_right (shares_entry (entry_op a) (entry_op b)) (list_any (settles a) (directories_settled b)) (says_settled a b d x y))))))))))
   says_reason (makes_directory e touching latest) =
-      (or_left (pair_needs version profile a b || makes_parent ops i j || is_synced syncs i j a || is_journaled profile ops syncs i j) (are_halves ops i j)
+      (or_left (pair_needs version profile a b || makes_parent ops i j || is_synced syncs i j a || is_journaled profile ops syncs i j)
+      (are_halves ops i j)
       (or_left (pair_needs version profile a b || makes_parent ops i j || is_synced syncs i j a) (is_journaled profile ops syncs i j)
       (or_left (pair_needs version profile a b || makes_parent ops i j) (is_synced syncs i j a)
-      (or_right (pair_needs version profile a b) (makes_parent ops i j) (any_from (λ (f : Entry). is_latest (entry_op_at ops) i j f.directory) (entries_touched (entry_op b)) e touching (says_latest ops syncs i j e.directory latest))))))
+      (or_right (pair_needs version profile a b) (makes_parent ops i j)
+      (any_from (λ (f : Entry). is_latest (entry_op_at ops) i j f.directory) (entries_touched (entry_op b)) e touching
+      (says_latest ops syncs i j e.directory latest))))))
   says_reason (empties_directory d gone w) =
-      by_pair (or_left (same_block_or_size a b || shares_name a b || touches_removed_directory a b || both_say a b || sets_same_file a b || keeps_order profile a b || says_before version a || creates_linked a b) (both_move_directories a b)
-      (or_left (same_block_or_size a b || shares_name a b || touches_removed_directory a b || both_say a b || sets_same_file a b || keeps_order profile a b || says_before version a) (creates_linked a b)
-      (or_left (same_block_or_size a b || shares_name a b || touches_removed_directory a b || both_say a b || sets_same_file a b || keeps_order profile a b) (says_before version a)
-      (or_left (same_block_or_size a b || shares_name a b || touches_removed_directory a b || both_say a b || sets_same_file a b) (keeps_order profile a b)
+      by_pair (or_left (same_block_or_size a b || shares_name a b || touches_removed_directory a b || both_say a b || sets_same_file a b ||
+      keeps_order profile a b || says_before version a || creates_linked a b) (both_move_directories a b)
+      (or_left (same_block_or_size a b || shares_name a b || touches_removed_directory a b || both_say a b || sets_same_file a b ||
+      keeps_order profile a b || says_before version a) (creates_linked a b)
+      (or_left (same_block_or_size a b || shares_name a b || touches_removed_directory a b || both_say a b || sets_same_file a b ||
+      keeps_order profile a b) (says_before version a)
+      (or_left (same_block_or_size a b || shares_name a b || touches_removed_directory a b || both_say a b || sets_same_file a b)
+      (keeps_order profile a b)
       (or_left (same_block_or_size a b || shares_name a b || touches_removed_directory a b || both_say a b) (sets_same_file a b)
       (or_left (same_block_or_size a b || shares_name a b || touches_removed_directory a b) (both_say a b)
       (or_right (same_block_or_size a b || shares_name a b) (touches_removed_directory a b) (says_empties a b d gone w))))))))
   says_reason (is_waited_for w) =
-      (or_left (pair_needs version profile a b || makes_parent ops i j || is_synced syncs i j a || is_journaled profile ops syncs i j) (are_halves ops i j)
+      (or_left (pair_needs version profile a b || makes_parent ops i j || is_synced syncs i j a || is_journaled profile ops syncs i j)
+      (are_halves ops i j)
       (or_left (pair_needs version profile a b || makes_parent ops i j || is_synced syncs i j a) (is_journaled profile ops syncs i j)
       (or_right (pair_needs version profile a b || makes_parent ops i j) (is_synced syncs i j a) (says_synced ops syncs i j w))))
   says_reason (tells_after x y) =
-      by_pair (or_left (same_block_or_size a b || shares_name a b || touches_removed_directory a b || both_say a b || sets_same_file a b || keeps_order profile a b || says_before version a || creates_linked a b) (both_move_directories a b)
-      (or_left (same_block_or_size a b || shares_name a b || touches_removed_directory a b || both_say a b || sets_same_file a b || keeps_order profile a b || says_before version a) (creates_linked a b)
-      (or_left (same_block_or_size a b || shares_name a b || touches_removed_directory a b || both_say a b || sets_same_file a b || keeps_order profile a b) (says_before version a)
-      (or_left (same_block_or_size a b || shares_name a b || touches_removed_directory a b || both_say a b || sets_same_file a b) (keeps_order profile a b)
+      by_pair (or_left (same_block_or_size a b || shares_name a b || touches_removed_directory a b || both_say a b || sets_same_file a b ||
+      keeps_order profile a b || says_before version a || creates_linked a b) (both_move_directories a b)
+      (or_left (same_block_or_size a b || shares_name a b || touches_removed_directory a b || both_say a b || sets_same_file a b ||
+      keeps_order profile a b || says_before version a) (creates_linked a b)
+      (or_left (same_block_or_size a b || shares_name a b || touches_removed_directory a b || both_say a b || sets_same_file a b ||
+      keeps_order profile a b) (says_before version a)
+      (or_left (same_block_or_size a b || shares_name a b || touches_removed_directory a b || both_say a b || sets_same_file a b)
+      (keeps_order profile a b)
       (or_left (same_block_or_size a b || shares_name a b || touches_removed_directory a b || both_say a b) (sets_same_file a b)
-      (or_right (same_block_or_size a b || shares_name a b || touches_removed_directory a b) (both_say a b) (λ w. both_say (x w) (y w))))))))
+      (or_right (same_block_or_size a b || shares_name a b || touches_removed_directory a b) (both_say a b)
+      (λ w. both_say (x w) (y w))))))))
   says_reason (sets_one_file file x y) =
-      by_pair (or_left (same_block_or_size a b || shares_name a b || touches_removed_directory a b || both_say a b || sets_same_file a b || keeps_order profile a b || says_before version a || creates_linked a b) (both_move_directories a b)
-      (or_left (same_block_or_size a b || shares_name a b || touches_removed_directory a b || both_say a b || sets_same_file a b || keeps_order profile a b || says_before version a) (creates_linked a b)
-      (or_left (same_block_or_size a b || shares_name a b || touches_removed_directory a b || both_say a b || sets_same_file a b || keeps_order profile a b) (says_before version a)
-      (or_left (same_block_or_size a b || shares_name a b || touches_removed_directory a b || both_say a b || sets_same_file a b) (keeps_order profile a b)
-      (or_right (same_block_or_size a b || shares_name a b || touches_removed_directory a b || both_say a b) (sets_same_file a b) (says_file a b file x y))))))
+      by_pair (or_left (same_block_or_size a b || shares_name a b || touches_removed_directory a b || both_say a b || sets_same_file a b ||
+      keeps_order profile a b || says_before version a || creates_linked a b) (both_move_directories a b)
+      (or_left (same_block_or_size a b || shares_name a b || touches_removed_directory a b || both_say a b || sets_same_file a b ||
+      keeps_order profile a b || says_before version a) (creates_linked a b)
+      (or_left (same_block_or_size a b || shares_name a b || touches_removed_directory a b || both_say a b || sets_same_file a b ||
+      keeps_order profile a b) (says_before version a)
+      (or_left (same_block_or_size a b || shares_name a b || touches_removed_directory a b || both_say a b || sets_same_file a b)
+      (keeps_order profile a b)
+      (or_right (same_block_or_size a b || shares_name a b || touches_removed_directory a b || both_say a b) (sets_same_file a b)
+      (says_file a b file x y))))))
   says_reason (is_kept_in_order keeps x y) =
-      by_pair (or_left (same_block_or_size a b || shares_name a b || touches_removed_directory a b || both_say a b || sets_same_file a b || keeps_order profile a b || says_before version a || creates_linked a b) (both_move_directories a b)
-      (or_left (same_block_or_size a b || shares_name a b || touches_removed_directory a b || both_say a b || sets_same_file a b || keeps_order profile a b || says_before version a) (creates_linked a b)
-      (or_left (same_block_or_size a b || shares_name a b || touches_removed_directory a b || both_say a b || sets_same_file a b || keeps_order profile a b) (says_before version a)
-      (or_right (same_block_or_size a b || shares_name a b || touches_removed_directory a b || both_say a b || sets_same_file a b) (keeps_order profile a b) (says_order profile a b keeps x y)))))
+      by_pair (or_left (same_block_or_size a b || shares_name a b || touches_removed_directory a b || both_say a b || sets_same_file a b ||
+      keeps_order profile a b || says_before version a || creates_linked a b) (both_move_directories a b)
+      (or_left (same_block_or_size a b || shares_name a b || touches_removed_directory a b || both_say a b || sets_same_file a b ||
+      keeps_order profile a b || says_before version a) (creates_linked a b)
+      (or_left (same_block_or_size a b || shares_name a b || touches_removed_directory a b || both_say a b || sets_same_file a b ||
+      keeps_order profile a b) (says_before version a)
+      (or_right (same_block_or_size a b || shares_name a b || touches_removed_directory a b || both_say a b || sets_same_file a b)
+      (keeps_order profile a b) (says_order profile a b keeps x y)))))
   says_reason (is_acknowledged_first before x) =
-      by_pair (or_left (same_block_or_size a b || shares_name a b || touches_removed_directory a b || both_say a b || sets_same_file a b || keeps_order profile a b || says_before version a || creates_linked a b) (both_move_directories a b)
-      (or_left (same_block_or_size a b || shares_name a b || touches_removed_directory a b || both_say a b || sets_same_file a b || keeps_order profile a b || says_before version a) (creates_linked a b)
-      (or_right (same_block_or_size a b || shares_name a b || touches_removed_directory a b || both_say a b || sets_same_file a b || keeps_order profile a b) (says_before version a) (says_first_line version a before x))))
+      by_pair (or_left (same_block_or_size a b || shares_name a b || touches_removed_directory a b || both_say a b || sets_same_file a b ||
+      keeps_order profile a b || says_before version a || creates_linked a b) (both_move_directories a b)
+      (or_left (same_block_or_size a b || shares_name a b || touches_removed_directory a b || both_say a b || sets_same_file a b ||
+      keeps_order profile a b || says_before version a) (creates_linked a b)
+      (or_right (same_block_or_size a b || shares_name a b || touches_removed_directory a b || both_say a b || sets_same_file a b ||
+      keeps_order profile a b) (says_before version a) (says_first_line version a before x))))
   says_reason (creates_what_is_linked file kind other x y) =
-      by_pair (or_left (same_block_or_size a b || shares_name a b || touches_removed_directory a b || both_say a b || sets_same_file a b || keeps_order profile a b || says_before version a || creates_linked a b) (both_move_directories a b)
-      (or_right (same_block_or_size a b || shares_name a b || touches_removed_directory a b || both_say a b || sets_same_file a b || keeps_order profile a b || says_before version a) (creates_linked a b) (says_linked a b file kind other x y)))
+      by_pair (or_left (same_block_or_size a b || shares_name a b || touches_removed_directory a b || both_say a b || sets_same_file a b ||
+      keeps_order profile a b || says_before version a || creates_linked a b) (both_move_directories a b)
+      (or_right (same_block_or_size a b || shares_name a b || touches_removed_directory a b || both_say a b || sets_same_file a b ||
+      keeps_order profile a b || says_before version a) (creates_linked a b) (says_linked a b file kind other x y)))
   says_reason (is_journaled_by is x w) =
-      (or_left (pair_needs version profile a b || makes_parent ops i j || is_synced syncs i j a || is_journaled profile ops syncs i j) (are_halves ops i j)
-      (or_right (pair_needs version profile a b || makes_parent ops i j || is_synced syncs i j a) (is_journaled profile ops syncs i j) (says_journaled ops syncs i j profile is x w)))
+      (or_left (pair_needs version profile a b || makes_parent ops i j || is_synced syncs i j a || is_journaled profile ops syncs i j)
+      (are_halves ops i j)
+      (or_right (pair_needs version profile a b || makes_parent ops i j || is_synced syncs i j a) (is_journaled profile ops syncs i j)
+      (says_journaled ops syncs i j profile is x w)))
   says_reason (moves_directories x y) =
-      by_pair (or_right (same_block_or_size a b || shares_name a b || touches_removed_directory a b || both_say a b || sets_same_file a b || keeps_order profile a b || says_before version a || creates_linked a b) (both_move_directories a b) (and_from (moves_directory (entry_op a)) (moves_directory (entry_op b)) (says_moves (entry_op a) x) (says_moves (entry_op b) y)))
+      by_pair (or_right (same_block_or_size a b || shares_name a b || touches_removed_directory a b || both_say a b || sets_same_file a
+      b || keeps_order profile a b || says_before version a || creates_linked a b) (both_move_directories a b)
+      (and_from (moves_directory (entry_op a)) (moves_directory (entry_op b)) (says_moves (entry_op a) x) (says_moves (entry_op b) y)))
   says_reason (is_other_half e kind file old is next) =
-      (or_right (pair_needs version profile a b || makes_parent ops i j || is_synced syncs i j a || is_journaled profile ops syncs i j) (are_halves ops i j) (and_from (is_first_half a) (j == i + 1) (ap is_first_half is) (eq-eqb j (i + 1) next)))
+      (or_right (pair_needs version profile a b || makes_parent ops i j || is_synced syncs i j a || is_journaled profile ops syncs i j)
+      (are_halves ops i j) (and_from (is_first_half a) (j == i + 1) (ap is_first_half is) (eq-eqb j (i + 1) next)))
 
   pub needs_says : needs ops syncs version profile i j ≡ true
       → Needs ops syncs version profile i j

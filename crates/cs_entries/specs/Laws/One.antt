@@ -148,7 +148,8 @@ moved_between m (Move a b node old) e f d l te tf apart was is = ⊎_elim
     (λ (at_b : entry_eq b f ≡ true). ⊎_elim
     (λ (left : entry_eq a e ≡ true). absurd
     (no_node (Directory d)
-    (sym (ap (λ t. cond t (m a) (cond (entry_eq a a) None (m a))) (other_entry b a (λ w. l.0 (sym w))) ∙ ap (λ t. cond t None (m a)) (same_entry a))
+    (sym (ap (λ t. cond t (m a) (cond (entry_eq a a) None (m a))) (other_entry b a (λ w. l.0 (sym w)))
+    ∙ ap (λ t. cond t None (m a)) (same_entry a))
     ∙ ap (after m (Move a b node old)) (entry_from a e left) ∙ is)))
     (λ (right : entry_eq b e ≡ true). absurd (apart (sym (entry_from b e right) ∙ entry_from b f at_b)))
     (or_cases (entry_eq a e) (entry_eq b e) te))

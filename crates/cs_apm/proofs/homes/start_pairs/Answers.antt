@@ -21,7 +21,8 @@ loop-place-preserved c =
     let low : k < length paths = omega arith in
     let pushed : c.push_pair.new.pairs.items ≡ c.loop-place.pairs.items ++ one =
     c.in_ok-push_pair.ensures
-    ∙ ap (λ ps. c.loop-place.pairs.items ++ held_by_path (nodes_by_path ps nodes) (get_or ps k [], node_at nodes k)) c.deref.ensures.value in
+    ∙ ap (λ ps. c.loop-place.pairs.items ++ held_by_path (nodes_by_path ps nodes) (get_or ps k [], node_at nodes k)) c.deref.ensures.value
+    in
     let few = c.loop-place.invariant.few in
     let more = ap length pushed in
     record {

@@ -6,5 +6,6 @@ earlier_versions_break_up_as_before-requires c = c.requires.version
 
 pub returns : goal.returns
 returns c =
-    as_before c.args.trace.now c.requires c.operations.ensures.tree c.operations.ensures.legal c.file_count.ensures.small c.nodes.ensures.each
+    as_before c.args.trace.now c.requires c.operations.ensures.tree c.operations.ensures.legal c.file_count.ensures.small
+    c.nodes.ensures.each
     c.records.ensures.ascending c.earlier_versions_break_up_as_before.ensures

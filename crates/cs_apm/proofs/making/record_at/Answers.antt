@@ -21,7 +21,8 @@ returns-in-Directory c =
     let low : d < length all =
     subst (λ (node : Node). IsKnown (length all) (length c.args.tables.now.owners.items) (Some node)) c.in-Directory.is c.requires.known in
     let has = c.directory_left-rights.ensures ∙ ap (λ ds. directory_left d (get_or ds d no_rights) ops places) c.deref.ensures.value in
-    subst (λ (node : Node). IfOk c.record_with.result (λ made. made ≡ fresh_record c.args.number (record_of (state_of (start_state t) ops places) node)))
+    subst (λ (node : Node). IfOk c.record_with.result
+    (λ made. made ≡ fresh_record c.args.number (record_of (state_of (start_state t) ops places) node)))
     (sym c.in-Directory.is)
     (if_ok {P = λ (made : Record). made ≡ fresh_record c.args.number (record_with rights DMDIR c.directory.result)} c.record_with.result
     (λ made is. directory_record t ops places c.args.number d all rights made c.requires.files.directories low has
@@ -38,12 +39,15 @@ returns-in_ok-bytes-in-File c =
     let rights = c.owner_left-owner.result.now in
     let low : file < length all =
     subst (λ (node : Node). IsKnown (length c.args.tables.now.directories.items) (length all) (Some node)) c.in-File.is c.requires.known in
-    let has = c.owner_left-owner.ensures ∙ ap (λ os. owner_left file (get_or os file no_rights) ops places) c.deref-in-File-4.ensures.value in
+    let has = c.owner_left-owner.ensures ∙ ap (λ os. owner_left file (get_or os file no_rights) ops places) c.deref-in-File-4.ensures.value
+        in
     subst (λ (node : Node). IfOk c.record_with-in-File.result
     (λ made. made ≡ fresh_record c.args.number (record_of (state_of (start_state t) ops places) node)))
     (sym c.in-File.is)
-    (if_ok {P = λ (made : Record). made ≡ fresh_record c.args.number (record_with rights c.kind_bit.result c.file.result)} c.record_with-in-File.result
-    (λ made is. file_record t ops places c.args.number c.in-File.kind file all rights c.in_ok-bytes-in-File.bytes.items made c.requires.files.owners low
+    (if_ok {P = λ (made : Record). made ≡ fresh_record c.args.number (record_with rights c.kind_bit.result c.file.result)}
+    c.record_with-in-File.result
+    (λ made is. file_record t ops places c.args.number c.in-File.kind file all rights c.in_ok-bytes-in-File.bytes.items made
+    c.requires.files.owners low
     has c.in_ok-bytes-in-File.ensures
     (is ∙ (λ i. fresh_record c.args.number (record_with rights (c.kind_bit.ensures i) (c.file.ensures i)))))
     c.record_with-in-File.ensures)

@@ -16,7 +16,8 @@ loop-path-init c =
     let gives = c.into_iter-path-iterator.ensures.into_iter_gives in
     let F = record_of (state_of (start_state c.args.trace.now) c.args.ops.now c.args.places.now) in
     record {
-      known = subst (All (λ (x : Path × Node). IsKnown (length c.args.tables.now.directories.items) (length c.args.tables.now.owners.items) (Some x.1)))
+      known = subst (All (λ (x : Path × Node). IsKnown (length c.args.tables.now.directories.items) (length c.args.tables.now.owners.items)
+          (Some x.1)))
           (sym gives.0) c.requires.known;
       records =
           (λ i. c.new-records.ensures.items i ++ with_numbers_from (length (c.new-records.ensures.items i)) (map_entries F (gives.0 i)));
@@ -46,5 +47,6 @@ pub returns : goal.returns
 returns c =
     let F = record_of (state_of (start_state c.args.trace.now) c.args.ops.now c.args.places.now) in
     sym (append-nil _)
-    ∙ ap (λ v. c.loop-path.records.items ++ with_numbers_from (length c.loop-path.records.items) (map_entries F v)) (sym c.in-None.ensures.steps.0)
+    ∙ ap (λ v. c.loop-path.records.items ++ with_numbers_from (length c.loop-path.records.items) (map_entries F v))
+    (sym c.in-None.ensures.steps.0)
     ∙ c.loop-path.invariant.records

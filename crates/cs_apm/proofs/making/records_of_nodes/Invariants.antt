@@ -10,6 +10,7 @@ abbrev pub invariant-loop-path : goal.invariant-loop-path
 invariant-loop-path l = record {
   known : All (λ x. IsKnown (length l.tables.directories.items) (length l.tables.owners.items) (Some x.1)) l.path-iterator;
   records : l.records.items
-      ++ with_numbers_from (length l.records.items) (map_entries (record_of (state_of (start_state l.trace) l.ops l.places)) l.path-iterator)
+      ++ with_numbers_from (length l.records.items)
+      (map_entries (record_of (state_of (start_state l.trace) l.ops l.places)) l.path-iterator)
       ≡ with_numbers_from 0 (map_entries (record_of (state_of (start_state l.trace) l.ops l.places)) l.fn.nodes.entries);
 }

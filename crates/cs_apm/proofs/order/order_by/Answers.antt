@@ -22,5 +22,6 @@ returns c =
     let same =
     ap (table (bit_in rows)) c.in_ok-rows.ensures.long
     ∙ table_same (bit_in rows) need (length c.ops.result.now) says
-    ∙ (λ w. table (needs (c.ops.ensures.value w) (c.syncs.ensures w) (c.version.ensures w) c.args.profile) (length (c.ops.ensures.value w))) in
+    ∙ (λ w. table (needs (c.ops.ensures.value w) (c.syncs.ensures w) (c.version.ensures w) c.args.profile)
+    (length (c.ops.ensures.value w))) in
     subst (λ (v : List (List Bool)). IfOk c.of.result (λ order. order ≡ v)) same c.of.ensures.value

@@ -21,5 +21,6 @@ loop-place-preserved c =
 pub loop-place-init : goal.loop-place-init
 loop-place-init c =
     let made = slice_index_or c.args.directories.now c.args.directory no_rights in
-    get_or_read c.args.directories.now c.args.directory c.index-directories-directory.result c.requires.known c.index-directories-directory.is no_rights
+    get_or_read c.args.directories.now c.args.directory c.index-directories-directory.result c.requires.known
+    c.index-directories-directory.is no_rights
     ∙ directory_none c.args.directory made c.args.ops.now c.args.places.now

@@ -5,4 +5,5 @@ use Rattle.cs_apm.specs.States.{no_rights}
 use Rattle.cs_apm.proofs.owners.directory_left.Given as goal
 
 abbrev pub invariant-loop-place : goal.invariant-loop-place
-invariant-loop-place l = l.owner ≡ directory_left l.directory (slice_index_or l.directories l.directory no_rights) l.ops (take l.place-index l.places)
+invariant-loop-place l = l.owner ≡ directory_left l.directory (slice_index_or l.directories l.directory no_rights) l.ops
+    (take l.place-index l.places)

@@ -7,6 +7,8 @@ use Rattle.cs_apm.proofs.places.lists_of.Given as goal
 
 abbrev pub invariant-loop-entry : goal.invariant-loop-entry
 invariant-loop-entry l = record {
-  first : l.entries.items ++ map (λ (x : Entry × Slot). x.0) l.entry-iterator ≡ map (λ (x : Entry × Slot). x.0) (entries (held_of l.fn.held));
-  second : l.slots.items ++ map (λ (x : Entry × Slot). x.1) l.entry-iterator ≡ map (λ (x : Entry × Slot). x.1) (entries (held_of l.fn.held));
+  first : l.entries.items ++ map (λ (x : Entry × Slot). x.0) l.entry-iterator ≡ map (λ (x : Entry × Slot). x.0)
+      (entries (held_of l.fn.held));
+  second : l.slots.items ++ map (λ (x : Entry × Slot). x.1) l.entry-iterator ≡ map (λ (x : Entry × Slot). x.1)
+      (entries (held_of l.fn.held));
 }

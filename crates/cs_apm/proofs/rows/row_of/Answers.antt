@@ -5,7 +5,8 @@ use Rattle.cs_apm.proofs.rows.row_of.Goals.{then-needs_earlier, else-needs_earli
 use Rattle.cs_apm.proofs.rows.row_of.Goals as goal
 
 pub loop-i-init : goal.loop-i-init
-loop-i-init c = filled_none (rules.needs c.args.ops.now c.args.syncs.now c.args.version c.args.profile) c.args.j c.empty-row.result c.empty-row.ensures
+loop-i-init c = filled_none (rules.needs c.args.ops.now c.args.syncs.now c.args.version c.args.profile) c.args.j c.empty-row.result
+    c.empty-row.ensures
 
 pub loop-i-preserved : goal.loop-i-preserved
 loop-i-preserved c =

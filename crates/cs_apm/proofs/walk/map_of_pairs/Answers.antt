@@ -14,4 +14,5 @@ pub loop-path-preserved : goal.loop-path-preserved
 loop-path-preserved c =
     mapped_more c.args.pairs.items c.pop.new.self.items c.loop-path.pairs.items _ _ c.in-Some.path c.in-Some.node c.loop-path.invariant
     (c.pop.ensures.items ∙ ap (λ o. c.pop.new.self.items ++ option_to_list o) c.in-Some.is)
-    (ap from_entries c.in_ok-insert.ensures.entries ∙ insert-keyed path_total path_exact c.loop-path.nodes.entries c.in-Some.path c.in-Some.node)
+    (ap from_entries c.in_ok-insert.ensures.entries
+    ∙ insert-keyed path_total path_exact c.loop-path.nodes.entries c.in-Some.path c.in-Some.node)

@@ -15,5 +15,6 @@ returns c =
     ∙ (λ i. c.new-pairs.ensures.items i ++ ((c.in_ok-try_clone.ensures ∙ c.root-root.ensures) i, Directory 0) ∷ []) in
     let pairs : c.push_below.new.found.items ≡ ([], Directory 0) ∷ below (held_in_slots es ss) c.args.deep [] 0 =
     c.in_ok-push_below.ensures ∙ (λ i. first i ++ below (held_in_slots es ss) c.args.deep (c.root-root.ensures i) 0) in
-    subst (λ v. IfOk c.map_of_pairs.result (λ nodes. nodes_of nodes ≡ v)) (ap pairs_in pairs ∙ paths_of_slots es ss c.requires.ascending c.args.deep)
+    subst (λ v. IfOk c.map_of_pairs.result (λ nodes. nodes_of nodes ≡ v)) (ap pairs_in pairs
+    ∙ paths_of_slots es ss c.requires.ascending c.args.deep)
     c.map_of_pairs.ensures

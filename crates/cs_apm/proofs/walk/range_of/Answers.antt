@@ -11,10 +11,12 @@ returns-clause-order c =
     let es = c.args.entries.now in
     let d = c.args.directory in
     let first =
-    IsPartitionPoint-from_clause (λ (e : Entry). nat_lt e.directory d) es c.partition_point-first.result c.partition_point-first.ensures.partitioned
+    IsPartitionPoint-from_clause (λ (e : Entry). nat_lt e.directory d) es c.partition_point-first.result
+    c.partition_point-first.ensures.partitioned
     (IsPartitionedBy-ltb (λ (e : Entry). e.directory) es d (directories_rise es c.requires)) (λ a r f called. search rules) in
     let end =
-    IsPartitionPoint-from_clause (λ (e : Entry). nat_le e.directory d) es c.partition_point-end.result c.partition_point-end.ensures.partitioned
+    IsPartitionPoint-from_clause (λ (e : Entry). nat_le e.directory d) es c.partition_point-end.result
+    c.partition_point-end.ensures.partitioned
     (IsPartitionedBy-leb (λ (e : Entry). e.directory) es d (directories_rise es c.requires)) (λ a r f called. search rules) in
     ⊎_elim
     (λ (back : c.partition_point-end.result < c.partition_point-first.result).
@@ -30,7 +32,8 @@ returns-clause-before c =
     let es = c.args.entries.now in
     let d = c.args.directory in
     let first =
-    IsPartitionPoint-from_clause (λ (e : Entry). nat_lt e.directory d) es c.partition_point-first.result c.partition_point-first.ensures.partitioned
+    IsPartitionPoint-from_clause (λ (e : Entry). nat_lt e.directory d) es c.partition_point-first.result
+    c.partition_point-first.ensures.partitioned
     (IsPartitionedBy-ltb (λ (e : Entry). e.directory) es d (directories_rise es c.requires)) (λ a r f called. search rules) in
     λ k e low less same. (let below = ltb-true _ _ (first.0 k e low less) in omega (arith, below, same))
 
@@ -39,10 +42,12 @@ returns-clause-of c =
     let es = c.args.entries.now in
     let d = c.args.directory in
     let first =
-    IsPartitionPoint-from_clause (λ (e : Entry). nat_lt e.directory d) es c.partition_point-first.result c.partition_point-first.ensures.partitioned
+    IsPartitionPoint-from_clause (λ (e : Entry). nat_lt e.directory d) es c.partition_point-first.result
+    c.partition_point-first.ensures.partitioned
     (IsPartitionedBy-ltb (λ (e : Entry). e.directory) es d (directories_rise es c.requires)) (λ a r f called. search rules) in
     let end =
-    IsPartitionPoint-from_clause (λ (e : Entry). nat_le e.directory d) es c.partition_point-end.result c.partition_point-end.ensures.partitioned
+    IsPartitionPoint-from_clause (λ (e : Entry). nat_le e.directory d) es c.partition_point-end.result
+    c.partition_point-end.ensures.partitioned
     (IsPartitionedBy-leb (λ (e : Entry). e.directory) es d (directories_rise es c.requires)) (λ a r f called. search rules) in
     λ k e low less.
     (let bound = c.partition_point-end.ensures.bound in
@@ -55,6 +60,7 @@ returns-clause-behind c =
     let es = c.args.entries.now in
     let d = c.args.directory in
     let end =
-    IsPartitionPoint-from_clause (λ (e : Entry). nat_le e.directory d) es c.partition_point-end.result c.partition_point-end.ensures.partitioned
+    IsPartitionPoint-from_clause (λ (e : Entry). nat_le e.directory d) es c.partition_point-end.result
+    c.partition_point-end.ensures.partitioned
     (IsPartitionedBy-leb (λ (e : Entry). e.directory) es d (directories_rise es c.requires)) (λ a r f called. search rules) in
     λ k e low less same. (let above = leb-false _ _ (end.1 k e low less) in omega (arith, above, same))

@@ -76,7 +76,8 @@ firsts_of-requires-clause-sets c =
     ap length (sym c.order.ensures.value) ∙ c.order.ensures.long in
     let told : (p : List ℕ) → sets.IsAllowed needs n p ↔ IsLeavable s p =
     subst (λ (m : Micros). (p : List ℕ) → sets.IsAllowed (needs_in (order_of m)) (length (order_of m)) p
-    ↔ sets.IsAllowed (needs_of m) (length m.ops) p) c.micros.ensures (c.rules_are_sentences.ensures.sets (profile_of c.micros.result.now.version)) in
+    ↔ sets.IsAllowed (needs_of m) (length m.ops) p) c.micros.ensures
+    (c.rules_are_sentences.ensures.sets (profile_of c.micros.result.now.version)) in
     let law : (places : List ℕ) → IsAllowed needs n places
     → LeaveSame s places (chosen (state_of (see wants) none_seen places) n) = law_of s wants are back long told in
     let all = leavable s wants rows cols back law c.in_ok-classes.classes.items c.in_ok-classes.ensures.allowed in
@@ -99,7 +100,8 @@ returns-in_err-sets-clause-refused c =
     ap length (sym c.order.ensures.value) ∙ c.order.ensures.long in
     let told : (p : List ℕ) → sets.IsAllowed needs n p ↔ IsLeavable s p =
     subst (λ (m : Micros). (p : List ℕ) → sets.IsAllowed (needs_in (order_of m)) (length (order_of m)) p
-    ↔ sets.IsAllowed (needs_of m) (length m.ops) p) c.micros.ensures (c.rules_are_sentences.ensures.sets (profile_of c.micros.result.now.version)) in
+    ↔ sets.IsAllowed (needs_of m) (length m.ops) p) c.micros.ensures
+    (c.rules_are_sentences.ensures.sets (profile_of c.micros.result.now.version)) in
     let law : (places : List ℕ) → IsAllowed needs n places
     → LeaveSame s places (chosen (state_of (see wants) none_seen places) n) = law_of s wants are back long told in
     let same : firsts (leave_same s) (map places_of c.as_slice-3.result.now) ≡ firsts (leave_same s) (every needs n) =
@@ -141,7 +143,8 @@ returns-clause-different c =
     ap length (sym c.order.ensures.value) ∙ c.order.ensures.long in
     let told : (p : List ℕ) → sets.IsAllowed needs n p ↔ IsLeavable s p =
     subst (λ (m : Micros). (p : List ℕ) → sets.IsAllowed (needs_in (order_of m)) (length (order_of m)) p
-    ↔ sets.IsAllowed (needs_of m) (length m.ops) p) c.micros.ensures (c.rules_are_sentences.ensures.sets (profile_of c.micros.result.now.version)) in
+    ↔ sets.IsAllowed (needs_of m) (length m.ops) p) c.micros.ensures
+    (c.rules_are_sentences.ensures.sets (profile_of c.micros.result.now.version)) in
     let law : (places : List ℕ) → IsAllowed needs n places
     → LeaveSame s places (chosen (state_of (see wants) none_seen places) n) = law_of s wants are back long told in
     let same : firsts (leave_same s) (map places_of c.as_slice-3.result.now) ≡ firsts (leave_same s) (every needs n) =

@@ -33,7 +33,8 @@ touched_entries-requires-clause-there c =
     let oat = slice_get-get_or parts.shares.paths.orders.items c.args.moved c.index.result.now
     (order_low parts c.requires.parts c.args.places.now c.requires.allowed c.args.moved c.requires.moved) ∙ ap Some (sym c.index.ensures) in
     let kat = slice_get-get_or parts.shares.ids.items c.args.moved c.index-ids.result.now
-    (ids_low parts c.requires.parts c.args.places.now c.requires.allowed c.args.moved c.requires.moved) ∙ ap Some (sym c.index-ids.ensures) in
+    (ids_low parts c.requires.parts c.args.places.now c.requires.allowed c.args.moved c.requires.moved)
+    ∙ ap Some (sym c.index-ids.ensures) in
     subst (λ (ts : List ℕ). (k : ℕ) → k < length ts → kept_at ts k < length c.deref-3.result.now + 1) (sym c.deref.ensures.value)
     (subst (λ (ps : List ℕ). (k : ℕ) → k < length c.index-ids.result.now.touched.items
     → kept_at c.index-ids.result.now.touched.items k < length ps + 1) (sym c.deref-3.ensures.value)
@@ -46,9 +47,11 @@ touched_entries-requires-clause-counted c =
     let oat = slice_get-get_or parts.shares.paths.orders.items c.args.moved c.index.result.now
     (order_low parts c.requires.parts c.args.places.now c.requires.allowed c.args.moved c.requires.moved) ∙ ap Some (sym c.index.ensures) in
     let kat = slice_get-get_or parts.shares.ids.items c.args.moved c.index-ids.result.now
-    (ids_low parts c.requires.parts c.args.places.now c.requires.allowed c.args.moved c.requires.moved) ∙ ap Some (sym c.index-ids.ensures) in
+    (ids_low parts c.requires.parts c.args.places.now c.requires.allowed c.args.moved c.requires.moved)
+    ∙ ap Some (sym c.index-ids.ensures) in
     ap length c.deref-2.ensures.value
-    ∙ counted_long parts c.requires.parts c.args.places.now c.requires.allowed c.args.moved c.index.result.now oat c.index-ids.result.now kat
+    ∙ counted_long parts c.requires.parts c.args.places.now c.requires.allowed c.args.moved c.index.result.now oat c.index-ids.result.now
+    kat
     ∙ ap (λ (ps : List ℕ). length ps + 1) (sym c.deref-3.ensures.value)
 
 pub touched_entries-requires-clause-inside : goal.touched_entries-requires-clause-inside
@@ -57,7 +60,8 @@ touched_entries-requires-clause-inside c =
     let oat = slice_get-get_or parts.shares.paths.orders.items c.args.moved c.index.result.now
     (order_low parts c.requires.parts c.args.places.now c.requires.allowed c.args.moved c.requires.moved) ∙ ap Some (sym c.index.ensures) in
     let kat = slice_get-get_or parts.shares.ids.items c.args.moved c.index-ids.result.now
-    (ids_low parts c.requires.parts c.args.places.now c.requires.allowed c.args.moved c.requires.moved) ∙ ap Some (sym c.index-ids.ensures) in
+    (ids_low parts c.requires.parts c.args.places.now c.requires.allowed c.args.moved c.requires.moved)
+    ∙ ap Some (sym c.index-ids.ensures) in
     let after : c.deref-4.result.now ≡ slots_left parts.tables c.args.places.now = c.deref-4.ensures.value ∙ c.in_ok-slots.ensures in
     subst (λ (ss : List Slot). All (λ place. place < length ss) c.deref-3.result.now) (sym after)
     (subst (λ (ps : List ℕ). All (λ place. place < length (slots_left parts.tables c.args.places.now)) ps) (sym c.deref-3.ensures.value)
@@ -69,7 +73,8 @@ touched_entries-requires-clause-small c =
     let oat = slice_get-get_or parts.shares.paths.orders.items c.args.moved c.index.result.now
     (order_low parts c.requires.parts c.args.places.now c.requires.allowed c.args.moved c.requires.moved) ∙ ap Some (sym c.index.ensures) in
     let kat = slice_get-get_or parts.shares.ids.items c.args.moved c.index-ids.result.now
-    (ids_low parts c.requires.parts c.args.places.now c.requires.allowed c.args.moved c.requires.moved) ∙ ap Some (sym c.index-ids.ensures) in
+    (ids_low parts c.requires.parts c.args.places.now c.requires.allowed c.args.moved c.requires.moved)
+    ∙ ap Some (sym c.index-ids.ensures) in
     subst (λ (bs : List ℕ). (k : ℕ) → k < length c.deref.result.now
     → kept_at bs (kept_at c.deref.result.now k) + length c.deref.result.now < 4294967296) (sym c.deref-2.ensures.value)
     (subst (λ (ts : List ℕ). (k : ℕ) → k < length ts
@@ -83,7 +88,8 @@ returns c =
     let oat = slice_get-get_or parts.shares.paths.orders.items c.args.moved c.index.result.now
     (order_low parts c.requires.parts c.args.places.now c.requires.allowed c.args.moved c.requires.moved) ∙ ap Some (sym c.index.ensures) in
     let kat = slice_get-get_or parts.shares.ids.items c.args.moved c.index-ids.result.now
-    (ids_low parts c.requires.parts c.args.places.now c.requires.allowed c.args.moved c.requires.moved) ∙ ap Some (sym c.index-ids.ensures) in
+    (ids_low parts c.requires.parts c.args.places.now c.requires.allowed c.args.moved c.requires.moved)
+    ∙ ap Some (sym c.index-ids.ensures) in
     let after : c.deref-4.result.now ≡ slots_left parts.tables c.args.places.now = c.deref-4.ensures.value ∙ c.in_ok-slots.ensures in
     made_state parts c.requires.parts c.args.places.now c.requires.allowed c.args.moved c.index.result.now oat c.index-ids.result.now kat
     c.requires.moved c.in_ok-own-2.own.items

@@ -9,7 +9,8 @@ use Rattle.cs_state.proofs.reading.directory_owner_of.Goals as goal
 
 pub directory_after_members-requires-clause-places : goal.directory_after_members-requires-clause-places
 directory_after_members-requires-clause-places c =
-    c.directory_row-steps.ensures ∙ c.requires.parts.owner_steps.directories c.args.directory ∙ ap (λ os. directory_places os c.args.directory) (sym c.ops.ensures.value)
+    c.directory_row-steps.ensures ∙ c.requires.parts.owner_steps.directories c.args.directory
+    ∙ ap (λ os. directory_places os c.args.directory) (sym c.ops.ensures.value)
 
 pub directory_after_members-requires-clause-first : goal.directory_after_members-requires-clause-first
 directory_after_members-requires-clause-first c =
@@ -21,5 +22,6 @@ pub returns : goal.returns
 returns c =
     c.directory_after_members.ensures
     ∙ ap (λ os. directory_left c.args.directory c.index-made.result.now os (members_in c.args.members.now)) c.ops.ensures.value
-    ∙ directory_of_left c.args.parts.now c.requires.parts c.args.directory (members_in c.args.members.now) c.requires.known c.index-made.result.now
+    ∙ directory_of_left c.args.parts.now c.requires.parts c.args.directory (members_in c.args.members.now) c.requires.known
+    c.index-made.result.now
     c.index-made.ensures

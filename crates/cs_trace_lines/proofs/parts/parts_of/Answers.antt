@@ -10,7 +10,8 @@ use Rattle.cs_trace_lines.proofs.parts.parts_of.Goals as goal
 
 pub loop-value-init : goal.loop-value-init
 loop-value-init c =
-    ap (λ ps. after (map part_value ps) (parts_of c.args.version (items_view c.into_iter-value-iterator.result.rest.items))) c.new-parts.ensures.items
+    ap (λ ps. after (map part_value ps) (parts_of c.args.version (items_view c.into_iter-value-iterator.result.rest.items)))
+    c.new-parts.ensures.items
     ∙ after_none _ ∙ ap (λ vs. parts_of c.args.version (items_view vs)) c.into_iter-value-iterator.ensures.into_iter_gives.0
 
 pub returns-in_err-part : goal.returns-in_err-part

@@ -37,4 +37,5 @@ pub returns : goal.returns
 unfolding laid_out
 returns c =
     c.loop-part.invariant.laid
-    ∙ ap (λ ps. fold with_part (replicate c.args.length 0) (map part_value ps)) (take_all c.loop-part.part-index c.args.parts.now c.loop-part-test.false)
+    ∙ ap (λ ps. fold with_part (replicate c.args.length 0) (map part_value ps))
+    (take_all c.loop-part.part-index c.args.parts.now c.loop-part-test.false)

@@ -21,7 +21,8 @@ steps_of-requires-clause-short c =
     let ops_few = c.ops-ops.ensures.few in
     let same = ap length c.records-records.ensures.value in
     let long =
-    ap length (c.deref.ensures.value ∙ c.in_ok-entries.ensures.entries) ∙ length-map (entries h) (λ (x : Entry × Slot). x.0) ∙ sym (len-entries h) in
+    ap length (c.deref.ensures.value ∙ c.in_ok-entries.ensures.entries) ∙ length-map (entries h) (λ (x : Entry × Slot). x.0)
+    ∙ sym (len-entries h) in
     omega (arith, few, records_few, ops_few, same, long)
 
 pub steps_of-requires-clause-ascending : goal.steps_of-requires-clause-ascending
@@ -30,7 +31,8 @@ steps_of-requires-clause-ascending c =
 
 pub steps_of-requires-clause-there : goal.steps_of-requires-clause-there
 steps_of-requires-clause-there c =
-    touched_there (held_of c.in_ok-held.held) c.deref.result.now (c.deref.ensures.value ∙ c.in_ok-entries.ensures.entries) c.ops-ops.result.now
+    touched_there (held_of c.in_ok-held.held) c.deref.result.now (c.deref.ensures.value ∙ c.in_ok-entries.ensures.entries)
+    c.ops-ops.result.now
     (length c.ops-ops.result.now) c.in_ok-held.ensures.touched
 
 pub owners_of-requires : goal.owners_of-requires
@@ -40,7 +42,8 @@ owners_of-requires c =
     let finds = subst (λ ns. FindsFiles ns (length ns) starts) c.nodes-nodes.ensures.value c.in_ok-starts.ensures.found in
     subst (λ (n : ℕ). All (λ place. place < n) c.deref-2.result.now) (sym (ap length c.records-records.ensures.value))
     (subst (All (λ place. place < length t.records)) (sym c.deref-2.ensures.value)
-    (starts_there t c.nodes-nodes.ensures.each c.records-records.ensures.ascending c.file_count.ensures.numbered c.file_count.ensures.found starts
+    (starts_there t c.nodes-nodes.ensures.each c.records-records.ensures.ascending c.file_count.ensures.numbered c.file_count.ensures.found
+    starts
     (c.in_ok-starts.ensures.long ∙ c.file_count.ensures.value) finds))
 
 pub directories_of-requires : goal.directories_of-requires
@@ -51,7 +54,8 @@ directories_of-requires c =
     subst (λ (n : ℕ). All (λ place. place < n) c.deref-3.result.now) (sym (ap length c.records-records.ensures.value))
     (subst (All (λ place. place < length t.records)) (sym c.deref-3.ensures.value)
     (places_there t c.nodes-nodes.ensures.each places (c.in_ok-places.ensures.long ∙ count)
-    (λ d low. c.in_ok-places.ensures.each d (subst (λ n. d < n) (sym count) low) ∙ ap (λ ns. directory_place ns d) c.nodes-nodes.ensures.value)))
+    (λ d low. c.in_ok-places.ensures.each d (subst (λ n. d < n) (sym count) low)
+    ∙ ap (λ ns. directory_place ns d) c.nodes-nodes.ensures.value)))
 
 pub returns : goal.returns
 returns c =
@@ -85,7 +89,8 @@ returns c =
     ∙ (λ i. map (λ place. rights_of (slice_index_or (records i) place no_record).1) (c.deref-2.ensures.value i) ++ owners_made (ops i)))
     c.in_ok-directories.directories.items
     (c.in_ok-directories.ensures
-    ∙ (λ i. map (λ place. rights_of (slice_index_or (records i) place no_record).1) (c.deref-3.ensures.value i) ++ directories_made (ops i)))
+    ∙ (λ i. map (λ place. rights_of (slice_index_or (records i) place no_record).1) (c.deref-3.ensures.value i) ++ directories_made
+    (ops i)))
     c.in_ok-makings.makings.items (subst (λ os. AreMakings os c.in_ok-makings.makings.items) ops c.in_ok-makings.ensures)
     c.in_ok-changed.changed.items
     (subst (λ (n : ℕ). AreChanged m.ops n c.in_ok-changed.changed.items) (c.len.ensures ∙ c.in_ok-owners.owners.ok.0)

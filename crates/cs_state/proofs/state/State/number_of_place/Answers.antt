@@ -33,7 +33,8 @@ number_of-requires-clause-there c =
     let low = id_inside (arc_value s.parts) (places_in s) s.moved s.own.items h o c.order.ensures c.args.place there in
     let same = ap length c.deref-2.ensures.value in
     let counted =
-    (are_ids (arc_value s.parts) (places_in s) s.moved s.own.items h o c.order.ensures c.kept_ids-ids.result.now c.kept_ids-ids.ensures).counted
+    (are_ids (arc_value s.parts) (places_in s) s.moved s.own.items h o c.order.ensures c.kept_ids-ids.result.now
+    c.kept_ids-ids.ensures).counted
     in
     omega (arith, read, low, same, counted)
 
@@ -75,7 +76,8 @@ number_of-requires-clause-own_inside c =
     let o = c.order.result.now in
     let h = c.requires.made.state in
     let ks = c.kept_ids-ids.result.now in
-    subst (λ (own : List Own). (k : ℕ) → k < length own → (own_in_place own k).id < length c.deref-2.result.now) (sym c.deref-3.ensures.value)
+    subst (λ (own : List Own). (k : ℕ) → k < length own → (own_in_place own k).id < length c.deref-2.result.now)
+    (sym c.deref-3.ensures.value)
     (λ k low.
     let same = ap length c.deref-2.ensures.value in
     let counted = (are_ids (arc_value s.parts) (places_in s) s.moved s.own.items h o c.order.ensures ks c.kept_ids-ids.ensures).counted in
