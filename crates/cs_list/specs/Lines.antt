@@ -1,7 +1,7 @@
 -- Which line of a trace's text each micro-operation came from.
 use Rattle.std.specs.Prelude.{ℕ, ◌+◌, List, [], ◌∷◌, cond, length, replicate, slice_index}
 use Rattle.std.specs.List.{enumerate_from, flat_map}
-use Rattle.cs_trace_lines.specs.Lines.{is_blank}
+use Rattle.cs_trace_lines.specs.Values.{is_blank}
 use Rattle.cs_trace.specs.States.{lines_in}
 use Rattle.cs_trace.specs.Traces.{Trace}
 use Rattle.cs_trace.specs.declared.operation.Operation.{Operation}

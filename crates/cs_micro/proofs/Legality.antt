@@ -30,7 +30,7 @@ use Rattle.cs_entries.specs.Laws.Records.{entry_exact, entry_total, table_step}
 use Rattle.cs_tree_model.specs.Maps.Changes.{key_cases}
 use Rattle.cs_tree_model.specs.Tree.{Path, parent_path}
 use Rattle.cs_names.specs.declared.limits.TheConstants.{FILE_BYTES}
-use Rattle.cs_trace_lines.specs.Lines.{is_target, is_without_nul}
+use Rattle.cs_trace_lines.specs.Values.{is_target, is_without_nul}
 use Rattle.cs_trace_lines.specs.declared.values.TheConstants.{TARGET_BYTES}
 use Rattle.cs_trace_lines.specs.Versions.{block_bytes, block_size_of, is_fourth}
 use Rattle.cs_trace_lines.specs.declared.version.BlockSize.{BlockSize}

@@ -12,7 +12,7 @@ use Rattle.cs_entries.specs.Entries.{Entries, EntryOp}
 use Rattle.cs_entries.specs.Entries as entry
 use Rattle.cs_entries.specs.Legal.{IsLegal as IsLegalEntryOp}
 use Rattle.cs_entries.specs.Tables.{Table, held_in, table_after}
-use Rattle.cs_trace_lines.specs.Lines.{is_target}
+use Rattle.cs_trace_lines.specs.Values.{is_target}
 use Rattle.cs_trace_lines.specs.Versions.{is_fourth}
 use Rattle.cs_trace_lines.specs.declared.version.Version.{Version}
 use Rattle.cs_trace.specs.Limits.{most_bytes}

@@ -5,7 +5,7 @@ use Rattle.std.specs.Option.{option_and_then}
 use Rattle.cs_names.specs.Laws.{user_name_in-legal}
 use Rattle.cs_names.specs.Legal.{IsUserName}
 use Rattle.cs_tree_model.specs.Tree.{Path}
-use Rattle.cs_trace_lines.specs.Lines.{Claims}
+use Rattle.cs_trace_lines.specs.Values.{Claims}
 use Rattle.cs_trace.specs.Judging.{or_bad_name, rights_in, with_path}
 use Rattle.cs_trace.specs.Kept.{Freely}
 use Rattle.cs_start.specs.Names.{entry_path_of}

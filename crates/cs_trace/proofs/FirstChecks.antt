@@ -40,7 +40,8 @@ use Rattle.cs_trace.specs.declared.fault.TraceFaultKind.TheVariants.{Syntax, Unk
 use Rattle.cs_trace.specs.declared.operation.Operation.{Operation}
 use Rattle.cs_trace.specs.declared.operation.Operation.TheVariants as operation
 use Rattle.cs_trace_lines.specs.Lines as line
-use Rattle.cs_trace_lines.specs.Lines.{Change, Line, OperationLine, is_blank, line_in}
+use Rattle.cs_trace_lines.specs.Lines.{Change, Line, OperationLine, line_in}
+use Rattle.cs_trace_lines.specs.Values.{is_blank}
 use Rattle.cs_trace_lines.specs.Versions.{is_fourth}
 
 -- ---- one check after another

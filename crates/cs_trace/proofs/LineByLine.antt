@@ -8,7 +8,7 @@ use Rattle.cs_trace.specs.Judging.{and_then}
 use Rattle.cs_trace.specs.Traces.{MayWant, trace_by}
 use Rattle.std.specs.List.{enumerate_from}
 use Rattle.std.specs.Result.{is_ok}
-use Rattle.cs_trace_lines.specs.Lines.{is_blank}
+use Rattle.cs_trace_lines.specs.Values.{is_blank}
 use Rattle.cs_trace.specs.State.{State, empty_state}
 use Rattle.cs_trace.specs.States.{at_line, state_from, state_in, step}
 use Rattle.cs_trace.specs.declared.fault.TraceFault.{TraceFault}

@@ -14,7 +14,7 @@ use Rattle.cs_trace.specs.State.{State}
 use Rattle.cs_trace.specs.declared.fault.TraceFaultKind.{TraceFaultKind}
 use Rattle.cs_trace.specs.declared.fault.TraceFaultKind.TheVariants.{TooLarge}
 use Rattle.cs_trace.specs.declared.operation.Operation.TheVariants as operation
-use Rattle.cs_trace_lines.specs.Lines.{Claims}
+use Rattle.cs_trace_lines.specs.Values.{Claims}
 use Rattle.cs_trace.proofs.Entering.{found_at, last, refused_at}
 
 -- the rest of a call that fails

@@ -21,7 +21,7 @@ use Rattle.cs_names.specs.declared.fault.NameFault.TheVariants.{Forbidden}
 use Rattle.cs_start.specs.Names.{below_root, entry_path_of, path_of}
 use Rattle.cs_tree_model.specs.Laws.Reads.{parent_of_snoc}
 use Rattle.cs_tree_model.specs.Tree.{Path, parent_path}
-use Rattle.cs_trace_lines.specs.Lines.{Claims}
+use Rattle.cs_trace_lines.specs.Values.{Claims}
 use Rattle.cs_trace.specs.Names.{are_user_names, new_path_of}
 use Rattle.cs_trace.proofs.StartTables.{last_of_snoc}
 

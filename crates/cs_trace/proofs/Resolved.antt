@@ -35,7 +35,8 @@ use Rattle.cs_trace.specs.declared.operation.Operation.TheVariants.{Sync, Trunca
 use Rattle.cs_trace.specs.declared.operation.Target.{Target}
 use Rattle.cs_trace.specs.declared.operation.Target.TheVariants as targets
 use Rattle.cs_trace_lines.specs.Lines as line
-use Rattle.cs_trace_lines.specs.Lines.{Change, Claims, Mode, OperationLine, Owner}
+use Rattle.cs_trace_lines.specs.Lines.{Change, Mode, OperationLine, Owner}
+use Rattle.cs_trace_lines.specs.Values.{Claims}
 use Rattle.cs_trace_lines.proofs.Octal.{HasOctalChange, IsOctal}
 use Rattle.cs_trace_lines.proofs.Versioned.{IsOfVersion as IsLineOfVersion}
 use Rattle.cs_trace.proofs.Accepted.{found_is, legal_is, limit_by, then_by, value_by}

@@ -20,8 +20,10 @@ use Rattle.cs_trace.specs.Traces.{IsTrace, trace_of_state}
 use Rattle.cs_trace.specs.declared.fault.TraceFault.{TraceFault}
 use Rattle.cs_trace.specs.declared.fault.TraceFaultKind.{TraceFaultKind}
 use Rattle.cs_trace.specs.declared.fault.TraceFaultKind.TheVariants.{BadName, Syntax, UnknownOp}
-use Rattle.cs_trace_lines.specs.Lines.{Claims, Header, Line, Operation, OperationLine, Start, StartLine, StartLink, UnknownOperation, UnknownStart}
-use Rattle.cs_trace_lines.specs.Lines.{is_blank, line_in}
+use Rattle.cs_trace_lines.specs.Lines.{Header, Line, Operation, OperationLine, Start, StartLine, StartLink, UnknownOperation, UnknownStart}
+use Rattle.cs_trace_lines.specs.Values.{Claims}
+use Rattle.cs_trace_lines.specs.Lines.{line_in}
+use Rattle.cs_trace_lines.specs.Values.{is_blank}
 use Rattle.cs_trace_lines.specs.declared.version.Version.{Version}
 use Rattle.cs_trace_lines.proofs.Octal.{IsOctal, line_octal}
 use Rattle.cs_trace_lines.proofs.Versioned.{IsOfVersion, line_versioned}

@@ -30,7 +30,8 @@ use Rattle.cs_trace.specs.Operations.{number_for}
 use Rattle.cs_trace.specs.State.{State, empty_state}
 use Rattle.cs_trace.specs.States.{after_header, entry_for}
 use Rattle.cs_trace.specs.Traces.{directory_count}
-use Rattle.cs_trace_lines.specs.Lines.{Claims, OfDirectory}
+use Rattle.cs_trace_lines.specs.Lines.{OfDirectory}
+use Rattle.cs_trace_lines.specs.Values.{Claims}
 use Rattle.cs_trace_lines.specs.Versions.{is_fourth}
 use Rattle.cs_trace_lines.specs.declared.version.Version.{Version}
 use Rattle.cs_trace.proofs.Sound.{AllOctal, HasOwn, IsSound}

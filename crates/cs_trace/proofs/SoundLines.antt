@@ -35,7 +35,8 @@ use Rattle.cs_trace.specs.States.{attributes_with, bytes_of, entry_for, files_wi
 use Rattle.cs_trace.specs.States.{start_link_at}
 use Rattle.cs_trace.specs.States.{system_with, with_entry, with_held, with_link, with_start}
 use Rattle.cs_trace.specs.declared.fault.TraceFaultKind.{TraceFaultKind}
-use Rattle.cs_trace_lines.specs.Lines.{Claims, OfDirectory, OfFile, OfSymlink, StartContent}
+use Rattle.cs_trace_lines.specs.Lines.{OfDirectory, OfFile, OfSymlink, StartContent}
+use Rattle.cs_trace_lines.specs.Values.{Claims}
 use Rattle.cs_trace.proofs.Accepted.{legal_is, limit_by, then_by}
 use Rattle.cs_trace.proofs.Named.{has_last, whole_path}
 use Rattle.cs_trace.proofs.Sound.{HasOwn, IsSound}

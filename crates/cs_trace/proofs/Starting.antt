@@ -26,7 +26,8 @@ use Rattle.cs_trace.specs.States.{bytes_of, entry_for, is_leaf, node_for, start_
 use Rattle.cs_trace.specs.States.{with_entry, with_held, with_link, with_start}
 use Rattle.cs_trace.specs.declared.fault.TraceFaultKind.{TraceFaultKind}
 use Rattle.cs_trace.specs.declared.fault.TraceFaultKind.TheVariants.{Exists, TooLarge}
-use Rattle.cs_trace_lines.specs.Lines.{Claims, OfDirectory, OfFile, OfSymlink, StartContent}
+use Rattle.cs_trace_lines.specs.Lines.{OfDirectory, OfFile, OfSymlink, StartContent}
+use Rattle.cs_trace_lines.specs.Values.{Claims}
 use Rattle.cs_trace.proofs.Entering.{refused_at}
 use Rattle.cs_trace.proofs.Named.{at_entry}
 use Rattle.cs_trace.proofs.StartNext.{put_held}

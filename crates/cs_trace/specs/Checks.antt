@@ -17,7 +17,8 @@ use Rattle.cs_trace.specs.Judging.{directory_number, ends_above, has_too_many_na
 use Rattle.cs_trace.specs.Judging.{held_by, is_path_of, is_too_much, may_set, node_at}
 use Rattle.cs_trace.specs.Limits.{most_bytes}
 use Rattle.cs_trace_lines.specs.Lines as line
-use Rattle.cs_trace_lines.specs.Lines.{Change, Line, OperationLine, StartContent, is_blank, line_in}
+use Rattle.cs_trace_lines.specs.Lines.{Change, Line, OperationLine, StartContent, line_in}
+use Rattle.cs_trace_lines.specs.Values.{is_blank}
 use Rattle.cs_trace_lines.specs.Versions.{is_fourth}
 use Rattle.cs_start.specs.Names.{entry_path_of, path_of}
 use Rattle.cs_trace.specs.Names.{are_user_names, new_path_of, set_path_of}

@@ -17,7 +17,8 @@ use Rattle.cs_tree_model.specs.Tree.{Path, parent_path}
 use Rattle.cs_trace.specs.Attributes.{Attributes, rights_at, target_of}
 use Rattle.cs_start.specs.Below.{is_below}
 use Rattle.cs_trace_lines.specs.Lines as line
-use Rattle.cs_trace_lines.specs.Lines.{Change, Claims, Mode, Owner, OperationLine}
+use Rattle.cs_trace_lines.specs.Lines.{Change, Mode, Owner, OperationLine}
+use Rattle.cs_trace_lines.specs.Values.{Claims}
 use Rattle.cs_trace_lines.specs.Versions.{is_fourth}
 use Rattle.cs_trace_lines.specs.declared.version.Version.{Version}
 use Rattle.cs_trace.specs.Limits.{most_bytes}

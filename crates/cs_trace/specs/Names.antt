@@ -5,7 +5,8 @@ use Rattle.cs_names.specs.Legal.{user_name_in}
 use Rattle.cs_start.specs.Names.{entry_path_of, path_of}
 use Rattle.cs_start.specs.declared.rights.Rights.{Rights}
 use Rattle.cs_tree_model.specs.Tree.{Path}
-use Rattle.cs_trace_lines.specs.Lines.{Change, Claims, Mode, Owner}
+use Rattle.cs_trace_lines.specs.Lines.{Change, Mode, Owner}
+use Rattle.cs_trace_lines.specs.Values.{Claims}
 
 abbrev pub is_user_name : List ℕ → Bool
 is_user_name text = is_ok (user_name_in text)

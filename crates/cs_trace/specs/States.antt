@@ -16,9 +16,11 @@ use Rattle.cs_start.specs.Entries.{size_of}
 use Rattle.cs_trace.specs.Judging.{and_then, entry_at, free_at, has_too_many_names, is_too_much}
 use Rattle.cs_trace.specs.Judging.{resolve, unless_too_large, with_path}
 use Rattle.cs_trace.specs.Limits.{most_bytes}
-use Rattle.cs_trace_lines.specs.Lines.{Claims, Header, Line, Operation, Start, StartLine, StartLink}
+use Rattle.cs_trace_lines.specs.Lines.{Header, Line, Operation, Start, StartLine, StartLink}
+use Rattle.cs_trace_lines.specs.Values.{Claims}
 use Rattle.cs_trace_lines.specs.Lines.{StartContent, OfDirectory, OfFile, OfSymlink}
-use Rattle.cs_trace_lines.specs.Lines.{UnknownOperation, UnknownStart, is_blank, line_in}
+use Rattle.cs_trace_lines.specs.Lines.{UnknownOperation, UnknownStart, line_in}
+use Rattle.cs_trace_lines.specs.Values.{is_blank}
 use Rattle.cs_start.specs.Names.{entry_path_of}
 use Rattle.cs_trace.specs.Names.{are_user_names, new_path_of, rights_of}
 use Rattle.cs_trace.specs.Operations.{FileSystem, made_by, number_for, system_after}

@@ -21,7 +21,7 @@ use Rattle.cs_tree_model.specs.declared.record.Record.{Record}
 use Rattle.cs_start.specs.Entries.{file_mode, nodes_in, records_in, size_of}
 use Rattle.cs_trace.specs.Judging.{and_then, directory_number, entry_below}
 use Rattle.cs_trace.specs.Limits.{most_bytes}
-use Rattle.cs_trace_lines.specs.Lines.{is_blank}
+use Rattle.cs_trace_lines.specs.Values.{is_blank}
 use Rattle.cs_trace.specs.Operations.{AreLegal, FileSystem, made_by}
 use Rattle.cs_trace.specs.State.{State}
 use Rattle.cs_trace.specs.States.{lines_in, state_in}

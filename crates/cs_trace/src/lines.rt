@@ -2,7 +2,8 @@
 //! the trace, so no clause says what it leaves of the state.
 ghost use Rattle.std.specs.Prelude.{◌≡◌, ◌≢◌, false, IfErr, IfOk, None, Some, Ok, Err, length};
 ghost use Rattle.cs_trace.specs.Kept.{Freely, IsBounded, state_of};
-ghost use Rattle.cs_trace_lines.specs.Lines.{is_blank, line_in};
+ghost use Rattle.cs_trace_lines.specs.Lines.{line_in};
+ghost use Rattle.cs_trace_lines.specs.Values.{is_blank};
 ghost use Rattle.cs_trace.specs.Outcomes.{Leaves};
 ghost use Rattle.cs_trace_lines.specs.Said.{line_value, operation_value};
 ghost use Rattle.cs_trace.specs.States.{first_step, later_step, lines_in, state_in, step};

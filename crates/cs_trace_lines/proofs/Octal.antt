@@ -5,12 +5,17 @@ use Rattle.std.specs.Option.{option_and_then, option_map, option_map_or}
 use Rattle.std.specs.Prelude.{if◌then◌else◌, ◌&&◌}
 use Rattle.serde_json.specs.Read.{read}
 use Rattle.cs_trace_lines.specs.Fields.{Field, Fields, fields_in}
-use Rattle.cs_trace_lines.specs.Lines.{Change, Claims, Header, Line, Mode, Operation, OperationLine, Owner, Creat, Mkdir, SetAttr, Symlink, Sync}
+use Rattle.cs_trace_lines.specs.Lines.{Change, Header, Line, Mode, Operation, OperationLine, Owner, Creat, Mkdir, SetAttr, Symlink, Sync}
+use Rattle.cs_trace_lines.specs.Values.{Claims}
 use Rattle.cs_trace_lines.specs.Lines.{Start, StartContent, StartLink, OfDirectory, OfFile, OfSymlink, UnknownOperation, UnknownStart}
-use Rattle.cs_trace_lines.specs.Lines.{claims_in, content_in, file_bytes_in, has_only, header_in, symlink_claims_in, target_in}
-use Rattle.cs_trace_lines.specs.Lines.{header_key_count, header_with, is_octal, key_count, kind_in, line_by, line_in, line_of, mode_in}
-use Rattle.cs_trace_lines.specs.Lines.{operation_named, operation_of, operation_with, permissions_in, start_key_count, start_line_named}
-use Rattle.cs_trace_lines.specs.Lines.{start_line_with, start_under, start_with, text_in, verb_in, version_in, whole_number_in}
+use Rattle.cs_trace_lines.specs.Lines.{file_bytes_in, header_in}
+use Rattle.cs_trace_lines.specs.Values.{claims_in, content_in, has_only, symlink_claims_in, target_in}
+use Rattle.cs_trace_lines.specs.Lines.{header_key_count, header_with, key_count, kind_in, line_by, line_in, line_of}
+use Rattle.cs_trace_lines.specs.Values.{is_octal, mode_in}
+use Rattle.cs_trace_lines.specs.Lines.{operation_named, operation_of, operation_with, start_key_count, start_line_named}
+use Rattle.cs_trace_lines.specs.Values.{permissions_in}
+use Rattle.cs_trace_lines.specs.Lines.{start_line_with, start_under, start_with, verb_in, version_in}
+use Rattle.cs_trace_lines.specs.Values.{text_in, whole_number_in}
 use Rattle.cs_trace_lines.specs.declared.start.StartKind.{StartKind}
 use Rattle.cs_trace_lines.specs.declared.start.StartKind.TheVariants as kind
 use Rattle.cs_trace_lines.specs.declared.verb.Verb.{Verb}

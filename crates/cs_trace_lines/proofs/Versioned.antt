@@ -5,11 +5,15 @@ use Rattle.std.specs.Prelude.{if◌then◌else◌}
 use Rattle.serde_json.specs.Read.{read}
 use Rattle.cs_trace_lines.specs.Fields.{Field, Fields, fields_in}
 use Rattle.cs_trace_lines.specs.Lines.{Header, Line, Mode, Operation, OperationLine, Creat, Mkdir, SetAttr, Symlink, Sync}
-use Rattle.cs_trace_lines.specs.Lines.{Start, StartContent, StartLink, OfDirectory, OfFile, OfSymlink, UnknownOperation, UnknownStart, Claims}
-use Rattle.cs_trace_lines.specs.Lines.{belongs_to, claims_in, content_in, file_bytes_in, has_only, header_in, is_target, symlink_claims_in, target_in}
-use Rattle.cs_trace_lines.specs.Lines.{header_key_count, header_with, key_count, kind_in, line_by, line_in, line_of, mode_in, verb_named}
+use Rattle.cs_trace_lines.specs.Lines.{Start, StartContent, StartLink, OfDirectory, OfFile, OfSymlink, UnknownOperation, UnknownStart}
+use Rattle.cs_trace_lines.specs.Values.{Claims}
+use Rattle.cs_trace_lines.specs.Lines.{belongs_to, file_bytes_in, header_in}
+use Rattle.cs_trace_lines.specs.Values.{claims_in, content_in, has_only, is_target, symlink_claims_in, target_in}
+use Rattle.cs_trace_lines.specs.Lines.{header_key_count, header_with, key_count, kind_in, line_by, line_in, line_of, verb_named}
+use Rattle.cs_trace_lines.specs.Values.{mode_in}
 use Rattle.cs_trace_lines.specs.Lines.{operation_named, operation_of, operation_with, start_key_count, start_line_named}
-use Rattle.cs_trace_lines.specs.Lines.{start_line_with, start_under, start_with, text_in, verb_in, version_in, whole_number_in}
+use Rattle.cs_trace_lines.specs.Lines.{start_line_with, start_under, start_with, verb_in, version_in}
+use Rattle.cs_trace_lines.specs.Values.{text_in, whole_number_in}
 use Rattle.cs_trace_lines.specs.Versions.{is_fourth}
 use Rattle.cs_trace_lines.specs.declared.start.StartKind.{StartKind}
 use Rattle.cs_trace_lines.specs.declared.start.StartKind.TheVariants as kind

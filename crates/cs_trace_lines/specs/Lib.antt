@@ -1,6 +1,7 @@
 pub mod Faults
 pub mod Fields
 pub mod Kept
+pub mod Values
 pub mod Lines
 pub mod Reading
 pub mod Said

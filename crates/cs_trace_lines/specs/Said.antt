@@ -1,7 +1,8 @@
 -- What the parts of a line that is read say.
 use Rattle.std.specs.String.{string_bytes}
 use Rattle.cs_trace_lines.specs.Lines as said
-use Rattle.cs_trace_lines.specs.Lines.{Change, Claims, StartContent, StartLine, OperationLine, Line}
+use Rattle.cs_trace_lines.specs.Lines.{Change, StartContent, StartLine, OperationLine, Line}
+use Rattle.cs_trace_lines.specs.Values.{Claims}
 use Rattle.cs_trace_lines.specs.declared.line.Change.{Change as ReadChange}
 use Rattle.cs_trace_lines.specs.declared.line.Change.TheVariants as change
 use Rattle.cs_trace_lines.specs.declared.line.Claims.{Claims as ReadClaims}

@@ -3,7 +3,8 @@
 //! texts moved out.
 ghost use Rattle.std.specs.Prelude.{◌≡◌, is_some, true};
 ghost use Rattle.cs_trace_lines.specs.Faults.{IsRead};
-ghost use Rattle.cs_trace_lines.specs.Lines.{claims_in, kind_in, start_key_count};
+ghost use Rattle.cs_trace_lines.specs.Lines.{kind_in, start_key_count};
+ghost use Rattle.cs_trace_lines.specs.Values.{claims_in};
 ghost use Rattle.cs_trace_lines.specs.Lines.{start_line_in, start_under, start_with};
 ghost use Rattle.cs_trace_lines.specs.Reading.{field_values};
 ghost use Rattle.cs_trace_lines.specs.Said.{content_of, line_value};

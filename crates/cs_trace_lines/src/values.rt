@@ -2,11 +2,11 @@
 ghost use Rattle.std.specs.Prelude.{◌≡◌, None, option_map};
 ghost use Rattle.std.specs.String.{string_bytes};
 ghost use Rattle.cs_trace_lines.specs.Faults.{IsRead};
-ghost use Rattle.cs_trace_lines.specs.Lines.{bytes_in, claims_in, content_by, has_only, is_octal};
-ghost use Rattle.cs_trace_lines.specs.Lines.{is_target, is_without_nul, may_note, mode_in};
-ghost use Rattle.cs_trace_lines.specs.Lines.{permissions_in};
-ghost use Rattle.cs_trace_lines.specs.Lines.{symlink_claims_in, target_in, text_in};
-ghost use Rattle.cs_trace_lines.specs.Lines.{whole_number_in};
+ghost use Rattle.cs_trace_lines.specs.Values.{bytes_in, claims_in, content_by, has_only, is_octal};
+ghost use Rattle.cs_trace_lines.specs.Values.{is_target, is_without_nul, may_note, mode_in};
+ghost use Rattle.cs_trace_lines.specs.Values.{permissions_in};
+ghost use Rattle.cs_trace_lines.specs.Values.{symlink_claims_in, target_in, text_in};
+ghost use Rattle.cs_trace_lines.specs.Values.{whole_number_in};
 ghost use Rattle.cs_trace_lines.specs.Reading.{field_value, field_values};
 ghost use Rattle.cs_trace_lines.specs.Said.{claims_of};
 
