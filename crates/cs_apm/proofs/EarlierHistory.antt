@@ -16,7 +16,9 @@ use Rattle.cs_micro.specs.declared.micro_op.MicroOp.{MicroOp}
 use Rattle.cs_micro.specs.declared.micro_op.MicroOp.TheVariants.{CreateDirEntry, DeleteDirEntry, MoveDirEntry, LinkDirEntry, ChangeFileSize}
 use Rattle.cs_micro.specs.declared.micro_op.MicroOp.TheVariants.{WriteBlock, SetAttr, Say}
 use Rattle.cs_micro.specs.Legal.{AreLegal, IsLegal, Made, entry_op}
-use Rattle.cs_apm.specs.Laws.Homes.{few, fixed, legal_at, made_at, number_at_start, number_made, number_of}
+use Rattle.cs_apm.specs.Laws.Homes.{few, fixed}
+use Rattle.cs_apm.specs.Laws.Numbers.{number_at_start, number_made, number_of}
+use Rattle.cs_apm.specs.Laws.Makings.{legal_at, made_at}
 use Rattle.cs_apm.specs.Rules.{entry_op_at, is_first_half, op_at}
 use Rattle.cs_apm.specs.States.{directories_made}
 use Rattle.cs_apm.proofs.EarlierPaths.{IsPlaced}

@@ -29,7 +29,9 @@ use Rattle.cs_micro.specs.declared.micro_op.MicroOp.TheVariants.{CreateDirEntry,
 use Rattle.cs_micro.specs.declared.micro_op.MicroOp.TheVariants.{WriteBlock, SetAttr, Say}
 use Rattle.cs_micro.specs.Earlier.Same.{op_before}
 use Rattle.cs_micro.specs.Legal.{AreLegal, AreNamed, IsLegal, Made, entry_op}
-use Rattle.cs_apm.specs.Laws.Homes.{fixed, legal_at, legal_entries, made_at, number_at_start, number_made}
+use Rattle.cs_apm.specs.Laws.Homes.{fixed, legal_entries}
+use Rattle.cs_apm.specs.Laws.Numbers.{number_at_start, number_made}
+use Rattle.cs_apm.specs.Laws.Makings.{legal_at, made_at}
 use Rattle.cs_apm.specs.Rules.{entry_op_at, is_first_half, op_at}
 use Rattle.cs_apm.specs.States.{State, directories_after, state_after}
 use Rattle.cs_apm.specs.Earlier.States as before

@@ -33,7 +33,7 @@ use Rattle.cs_micro.specs.Pages.{zeros_behind}
 use Rattle.cs_micro.specs.SyncPoints.{points_after, points_at, sync_points_of}
 use Rattle.cs_micro.proofs.Legality.{AreSmall, all_leave, made_of}
 use Rattle.cs_apm.specs.Earlier.Same.{waits_for_data}
-use Rattle.cs_apm.specs.Laws.Homes.{made_at, made_first}
+use Rattle.cs_apm.specs.Laws.Makings.{made_at, made_first}
 use Rattle.cs_apm.specs.Rules.{is_first_half, op_at}
 use Rattle.cs_apm.proofs.EarlierSyncs.{AreNamedSyncs, IsNamedSync}
 

@@ -1,9 +1,12 @@
 pub mod Members
 pub mod Allowed
+pub mod Makings
 pub mod Homes
+pub mod Numbers
 pub mod Trees
 pub mod Starts
 pub mod Lists
+pub mod Touched
 pub mod Pairs
 pub mod Syncs
 pub mod Journals

@@ -1,6 +1,7 @@
 pub mod Counted
 pub mod Divisions
 pub mod Earlier
+pub mod LegalFiles
 pub mod Legality
 pub mod Limits
 pub mod Linking

@@ -1,29 +1,27 @@
 -- Legal micro-operations by their places, and the numbers of the directories that they make.
-use Rattle.std.proofs.Common.{◌≡◌, ◌≢◌, ℕ, zero, suc, ◌+◌, ◌<◌, ◌≤◌, ◌==◌, Bool, true, false, cond}
-use Rattle.std.proofs.Common.{List, [], ◌∷◌, ◌++◌, ◌⊎◌, inl, inr, Option, None, Some, refl, sym, ap}
+use Rattle.std.proofs.Common.{◌≡◌, ◌≢◌, ℕ, zero, suc, ◌+◌, ◌<◌, ◌≤◌, ◌==◌, Bool, true, false}
+use Rattle.std.proofs.Common.{List, [], ◌∷◌, ◌++◌, ◌⊎◌, inl, inr, Some, refl, sym, ap}
 use Rattle.std.proofs.Common.{◌∙◌, subst, arith, ⊎_elim, length, get_or, length-append}
 use Rattle.std.proofs.Math.ListN.{get_or-append}
-use Rattle.std.proofs.lemmas.Bool.{cases_Bool, cases_eq, eq-eqb, false≢true}
+use Rattle.std.proofs.lemmas.Bool.{eq-eqb, false≢true}
 use Rattle.std.proofs.lemmas.Option.{get_or_from_slice_get, slice_get_within}
 use Rattle.std.specs.FinMap.{get}
-use Rattle.std.specs.Prelude.{if◌then◌else◌, is_none}
-use Rattle.cs_entries.specs.declared.node.Node.{Node}
+use Rattle.std.specs.Prelude.{if◌then◌else◌}
 use Rattle.cs_entries.specs.declared.node.Node.TheVariants.{Directory, File}
 use Rattle.cs_entries.specs.DirEntries.{entry_of, root_home}
 use Rattle.cs_entries.specs.declared.entry.Entry.{Entry}
-use Rattle.cs_entries.specs.Entries.{Entries, EntryOp, Create, Link, Delete, Move, Other}
-use Rattle.cs_entries.specs.Entries.{MovesDirectory, after, all, entry_eq, state}
+use Rattle.cs_entries.specs.Entries.{Create}
+use Rattle.cs_entries.specs.Entries.{after, all, entry_eq, state}
 use Rattle.cs_entries.specs.Legal.{IsLegal as IsLegalEntryOp}
 use Rattle.cs_entries.specs.Sets.{AreFew, AreFixed, AreNumbered}
-use Rattle.cs_entries.specs.Tables.{Table, held_in, table_after, table_of}
-use Rattle.cs_entries.specs.Laws.One.{entry_cases, entry_from, same_entry, same_number}
-use Rattle.cs_entries.specs.Legal.{IsHeld}
+use Rattle.cs_entries.specs.Tables.{held_in, table_after, table_of}
+use Rattle.cs_entries.specs.Laws.One.{entry_cases}
 use Rattle.cs_entries.specs.Laws.Records.{table_step}
 use Rattle.cs_trace_lines.specs.Versions.{is_fourth}
 use Rattle.cs_trace_lines.specs.declared.version.Version.{Version}
-use Rattle.cs_trace.specs.Operations.{number_for, place_of}
+use Rattle.cs_trace.specs.Operations.{place_of}
 use Rattle.cs_trace.specs.Traces.{AreHomes}
-use Rattle.cs_micro.specs.Legal.{AreLegal, IsLegal, Made, entry_op, homes_after, made_after}
+use Rattle.cs_micro.specs.Legal.{AreLegal, Made, homes_after, made_after}
 use Rattle.cs_micro.specs.declared.micro_op.MicroOp.{MicroOp}
 use Rattle.cs_micro.specs.declared.micro_op.MicroOp.TheVariants.{CreateDirEntry, DeleteDirEntry}
 use Rattle.cs_micro.specs.declared.micro_op.MicroOp.TheVariants.{MoveDirEntry, LinkDirEntry}
@@ -31,104 +29,8 @@ use Rattle.cs_micro.specs.declared.micro_op.MicroOp.TheVariants.{ChangeFileSize,
 use Rattle.cs_micro.specs.declared.micro_op.MicroOp.TheVariants.{SetAttr, Say}
 use Rattle.cs_apm.specs.Rules.{entry_op_at, op_at}
 use Rattle.cs_apm.specs.States.{directories_made}
-
--- what is made after the first k
-abbrev pub made_at : Made → List MicroOp → ℕ → Made
-made_at m ops zero = m
-made_at m ops (suc k) = made_after (made_at m ops k) (op_at ops k)
-
-pub made_first : (m : Made) (o : MicroOp) (ops : List MicroOp) (k : ℕ)
-    → made_at m (o ∷ ops) (suc k) ≡ made_at (made_after m o) ops k
-made_first m o ops zero = refl
-made_first m o ops (suc k) = ap (λ w. made_after w (op_at ops k)) (made_first m o ops k)
-
-pub legal_at : (version : Version) (m : Made) (ops : List MicroOp) → AreLegal version m ops
-    → (k : ℕ) → k < length ops → IsLegal version (made_at m ops k) (op_at ops k)
-legal_at version m [] h k lt = absurd (omega (arith, lt))
-legal_at version m (o ∷ ops) h zero lt = h.0
-legal_at version m (o ∷ ops) h (suc k) lt =
-    subst (λ w. IsLegal version w (op_at ops k)) (sym (made_first m o ops k))
-    (legal_at version (made_after m o) ops h.1 k (omega (arith, lt)))
-
-entries_at : (m : Made) (ops : List MicroOp) (k : ℕ)
-    → (made_at m ops k).entries ≡ table_of all m.entries (entry_op_at ops) k
-entries_at m ops zero = refl
-entries_at m ops (suc k) = ap (λ t. table_after t (entry_op_at ops k)) (entries_at m ops k)
-
--- ---- what is made
-
-abbrev created_entry : EntryOp → Entry
-created_entry (Create e node) = e
-created_entry _ = root_home
-
-abbrev created_node : EntryOp → Option Node
-created_node (Create e node) = Some node
-created_node _ = None
-
--- a micro-operation that makes a directory has the number that the version gives it, and the entry
--- is the home of a new number
-pub record IsMaking (version : Version) (homes : List Entry) (o : MicroOp) (e : Entry) (d : ℕ)
-    : Type 0 where
-  pub number : d ≡ number_for version homes e
-  pub next : homes_after homes o ≡ (if d == length homes then homes ++ e ∷ [] else homes)
-
-no_making : (o : EntryOp) (e : Entry) (d : ℕ) → created_node o ≡ None → o ≢ Create e (Directory d)
-no_making o e d none is = false≢true (sym (ap (λ w. is_none (created_node w)) is) ∙ ap is_none none)
-
-making_by : (version : Version) (m : Made) (o : MicroOp) (e : Entry) (d : ℕ) → IsLegal version m o
-    → entry_op o ≡ Create e (Directory d) → IsMaking version m.homes o e d
-making_by version m (CreateDirEntry f node rights bytes) e d legal is = by node legal refl
-  where
-    here : entry_of f ≡ e
-    here = ap created_entry is
-
-    there : Some node ≡ Some (Directory d)
-    there = ap created_node is
-
-    by : (n : Node) → IsLegal version m (CreateDirEntry f n rights bytes) → node ≡ n
-        → IsMaking version m.homes (CreateDirEntry f node rights bytes) e d
-    by (Directory c) l at =
-        (let c_is : c ≡ d = same_number c d (ap Some (sym at) ∙ there) in
-        record {
-          number = sym c_is ∙ l.fitting.0.0 ∙ ap (number_for version m.homes) here;
-          next =
-              ap (λ n. homes_after m.homes (CreateDirEntry f n rights bytes)) at
-              ∙ ap (λ n. if n == length m.homes then m.homes ++ entry_of f ∷ [] else m.homes) c_is
-              ∙ ap (λ g. if d == length m.homes then m.homes ++ g ∷ [] else m.homes) here;
-        })
-    by (File kind file) l at = absurd (no_file (ap Some (sym at) ∙ there))
-      where
-        no_file : Some (File kind file) ≡ Some (Directory d) → ⊥
-        no_file h = absurd (cc)
-making_by version m (LinkDirEntry f kind file old half) e d legal is =
-    absurd (no_making (entry_op (LinkDirEntry f kind file old half)) e d refl is)
-making_by version m (DeleteDirEntry f node) e d legal is =
-    absurd (no_making (entry_op (DeleteDirEntry f node)) e d refl is)
-making_by version m (MoveDirEntry a b node old) e d legal is =
-    absurd (no_making (entry_op (MoveDirEntry a b node old)) e d refl is)
-making_by version m (ChangeFileSize file to) e d legal is =
-    absurd (no_making (entry_op (ChangeFileSize file to)) e d refl is)
-making_by version m (WriteBlock file block start at bytes) e d legal is =
-    absurd (no_making (entry_op (WriteBlock file block start at bytes)) e d refl is)
-making_by version m (SetAttr target rights) e d legal is =
-    absurd (no_making (entry_op (SetAttr target rights)) e d refl is)
-making_by version m Say e d legal is = absurd (no_making (entry_op Say) e d refl is)
-
--- a move of a directory is legal only in the fourth version
-move_by : (version : Version) (m : Made) (o : MicroOp) → IsLegal version m o
-    → MovesDirectory (entry_op o) → is_fourth version ≡ true
-move_by version m (MoveDirEntry a b (Directory d) None) legal moves = legal.fitting
-move_by version m (MoveDirEntry a b (Directory d) (Some (Directory c))) legal moves = legal.fitting
-move_by version m (MoveDirEntry a b (Directory d) (Some (File kind file))) legal moves =
-    absurd legal.fitting
-move_by version m (MoveDirEntry a b (File kind file) old) legal moves = absurd moves
-move_by version m (LinkDirEntry f kind file old half) legal moves = absurd moves
-move_by version m (CreateDirEntry f node rights bytes) legal moves = absurd moves
-move_by version m (DeleteDirEntry f node) legal moves = absurd moves
-move_by version m (ChangeFileSize file to) legal moves = absurd moves
-move_by version m (WriteBlock file block start at bytes) legal moves = absurd moves
-move_by version m (SetAttr target rights) legal moves = absurd moves
-move_by version m Say legal moves = absurd moves
+use Rattle.cs_apm.specs.Laws.Makings.{made_at, made_first, legal_at, entries_at, IsMaking}
+use Rattle.cs_apm.specs.Laws.Makings.{making_by, move_by}
 
 -- ---- homes
 
@@ -139,7 +41,7 @@ grown_by : (b : Bool) (homes : List Entry) (e : Entry)
 grown_by true homes e = inr (e, refl)
 grown_by false homes e = inl refl
 
-grown : (homes : List Entry) (o : MicroOp)
+pub grown : (homes : List Entry) (o : MicroOp)
     → (homes_after homes o ≡ homes) ⊎ ((f : Entry) × (homes_after homes o ≡ homes ++ f ∷ []))
 grown homes (CreateDirEntry e (Directory d) rights bytes) =
     grown_by (d == length homes) homes (entry_of e)
@@ -152,7 +54,7 @@ grown homes (WriteBlock file block start at bytes) = inl refl
 grown homes (SetAttr target rights) = inl refl
 grown homes Say = inl refl
 
-abbrev home_in : List Entry → ℕ → Entry
+abbrev pub home_in : List Entry → ℕ → Entry
 home_in homes d = get_or homes d root_home
 
 -- the homes of before are among those of after
@@ -174,10 +76,10 @@ keeps_one homes o = ⊎_elim
     (grown homes o)
 
 module _ (m : Made) (ops : List MicroOp) where
-  abbrev homes_at : ℕ → List Entry
+  abbrev pub homes_at : ℕ → List Entry
   homes_at k = (made_at m ops k).homes
 
-  keeps : (j k : ℕ) → j ≤ k → Keeps (homes_at j) (homes_at k)
+  pub keeps : (j k : ℕ) → j ≤ k → Keeps (homes_at j) (homes_at k)
   keeps j zero le =
       let zero_is : j ≡ 0 = omega (arith, le) in
       subst (λ i. Keeps (homes_at i) (homes_at 0)) (sym zero_is) (record {
@@ -235,7 +137,7 @@ counted m (o ∷ ops) =
 
 -- ---- places in a list of entries
 
-placed : (e : Entry) (homes : List Entry)
+pub placed : (e : Entry) (homes : List Entry)
     → ((place_of e homes < length homes) × (home_in homes (place_of e homes) ≡ e))
     ⊎ (place_of e homes ≡ length homes)
 placed e [] = inr refl
@@ -298,13 +200,13 @@ module _ (version : Version) (m : Made) (ops : List MicroOp) (legal : AreLegal v
 
   -- ---- numbers
 
-  making : (k : ℕ) → k < n → (e : Entry) (d : ℕ) → entry_op_at ops k ≡ Create e (Directory d)
+  pub making : (k : ℕ) → k < n → (e : Entry) (d : ℕ) → entry_op_at ops k ≡ Create e (Directory d)
       → IsMaking version (at k) (op_at ops k) e d
   making k lt e d is =
       making_by version (made_at m ops k) (op_at ops k) e d (legal_at version m ops legal k lt) is
 
   -- the entry is the home of the number of a directory that is made, if the number is the next one
-  new_home : (k : ℕ) → k < n → (e : Entry) (d : ℕ) → entry_op_at ops k ≡ Create e (Directory d)
+  pub new_home : (k : ℕ) → k < n → (e : Entry) (d : ℕ) → entry_op_at ops k ≡ Create e (Directory d)
       → d ≡ length (at k) → at (suc k) ≡ at k ++ e ∷ []
   new_home k lt e d is next =
       (making k lt e d is).next
@@ -417,154 +319,3 @@ module _ (version : Version) (m : Made) (ops : List MicroOp) (legal : AreLegal v
       below : (k : ℕ) (e : Entry) (d : ℕ) → k < n
           → entry_op_at ops k ≡ Create e (Directory d) → d < length (at (suc k))
       below k e d lt is = below_by k e d lt is (is_fourth version) refl
-
--- ---- the numbers of directories before the fourth version
-
--- an entry that is among some stays at its place, whatever comes after
-place_kept : (e f : Entry) (hs : List Entry) → place_of e hs < length hs
-    → place_of e (hs ++ f ∷ []) ≡ place_of e hs
-place_kept e f [] low = absurd (omega (arith, low))
-place_kept e f (x ∷ hs) low = by (entry_eq e x) low (place_kept e f hs)
-  where
-    by : (b : Bool) → (if b then 0 else suc (place_of e hs)) < suc (length hs)
-        → (place_of e hs < length hs → place_of e (hs ++ f ∷ []) ≡ place_of e hs)
-        → (if b then 0 else suc (place_of e (hs ++ f ∷ [])))
-        ≡ (if b then 0 else suc (place_of e hs))
-    by true h rest = refl
-    by false h rest = ap suc (rest (omega (arith, h)))
-
--- and one that isn't comes to stand at the end
-place_last : (e : Entry) (hs : List Entry) → place_of e hs ≡ length hs
-    → place_of e (hs ++ e ∷ []) ≡ length hs
-place_last e [] none = ap (λ b. if b then 0 else 1) (same_entry e)
-place_last e (x ∷ hs) none = by (entry_eq e x) none (place_last e hs)
-  where
-    by : (b : Bool) → (if b then 0 else suc (place_of e hs)) ≡ suc (length hs)
-        → (place_of e hs ≡ length hs → place_of e (hs ++ e ∷ []) ≡ length hs)
-        → (if b then 0 else suc (place_of e (hs ++ e ∷ []))) ≡ suc (length hs)
-    by true h rest = absurd (omega (arith, h))
-    by false h rest = ap suc (rest (omega (arith, h)))
-
--- it isn't behind a place where it is
-place_low : (e : Entry) (hs : List Entry) (c : ℕ) → c < length hs → home_in hs c ≡ e
-    → place_of e hs ≤ c
-place_low e [] c low is = absurd (omega (arith, low))
-place_low e (x ∷ hs) zero low is =
-    subst (λ b. (if b then 0 else suc (place_of e hs)) ≤ 0)
-    (sym (ap (entry_eq e) is ∙ same_entry e)) (omega arith)
-place_low e (x ∷ hs) (suc c) low is =
-    by (entry_eq e x) (place_low e hs c (omega (arith, low)) is)
-  where
-    by : (b : Bool) → place_of e hs ≤ c → (if b then 0 else suc (place_of e hs)) ≤ suc c
-    by true rest = omega arith
-    by false rest = omega (arith, rest)
-
-place_stays : (e : Entry) (hs : List Entry) (o : MicroOp) → place_of e hs < length hs
-    → place_of e (homes_after hs o) ≡ place_of e hs
-place_stays e hs o low = ⊎_elim
-    (λ (same : homes_after hs o ≡ hs). ap (place_of e) same)
-    (λ (more : (f : Entry) × (homes_after hs o ≡ hs ++ f ∷ [])).
-    ap (place_of e) more.1 ∙ place_kept e more.0 hs low)
-    (grown hs o)
-
-module _ (version : Version) (m : Made) (ops : List MicroOp) (legal : AreLegal version m ops)
-    (homes : AreHomes m.entries m.homes) where
-  abbrev count : ℕ
-  count = length ops
-
-  abbrev after_all : List Entry
-  after_all = homes_at m ops count
-
-  stays_placed : (e : Entry) (j k : ℕ) → j ≤ k
-      → place_of e (homes_at m ops j) < length (homes_at m ops j)
-      → place_of e (homes_at m ops k) ≡ place_of e (homes_at m ops j)
-  stays_placed e j zero le low =
-      (let z : 0 ≡ j = omega (arith, le) in ap (λ i. place_of e (homes_at m ops i)) z)
-  stays_placed e j (suc k) le low = ⊎_elim
-      (λ (last : suc k ≡ j). ap (λ i. place_of e (homes_at m ops i)) last)
-      (λ (other : suc k ≢ j).
-      (let before = stays_placed e j k (omega (arith, le, other)) low in
-      let long = (keeps m ops j k (omega (arith, le, other))).long in
-      place_stays e (homes_at m ops k) (op_at ops k)
-      (subst (λ p. p < length (homes_at m ops k)) (sym before) (omega (arith, low, long)))
-      ∙ before))
-      (cases_eq (suc k) j)
-
-  number_by : Option Node → Entry → ℕ
-  number_by (Some (Directory d)) e = d
-  number_by (Some (File kind file)) e = place_of e after_all
-  number_by None e = place_of e after_all
-
-  -- the number of the directory that an entry has, or would have
-  pub number_of : Entry → ℕ
-  number_of e = number_by (held_in m.entries e) e
-
-  pub number_at_start : (e : Entry) (d : ℕ) → held_in m.entries e ≡ Some (Directory d)
-      → number_of e ≡ d
-  unfolding number_of number_by
-  number_at_start e d is = ap (λ o. number_by o e) is
-
-  pub number_made : is_fourth version ≡ false
-      → ((d : ℕ) → 0 < d → d < length m.homes → IsHeld (held_in m.entries) d)
-      → (k : ℕ) (e : Entry) (d : ℕ) → k < count → entry_op_at ops k ≡ Create e (Directory d)
-      → number_of e ≡ d
-  unfolding number_of number_by
-  number_made early used k e d lt is = by (held_in m.entries e) refl
-    where
-      number : d ≡ place_of e (homes_at m ops k)
-      number =
-          (making version m ops legal homes k lt e d is).number
-          ∙ ap (λ b. if b then length (homes_at m ops k) else place_of e (homes_at m ops k)) early
-
-      -- after it is made
-      placed_after : (place_of e (homes_at m ops (suc k)) ≡ d)
-          × (d < length (homes_at m ops (suc k)))
-      placed_after = ⊎_elim
-          (λ (inside : (place_of e (homes_at m ops k) < length (homes_at m ops k))
-          × (home_in (homes_at m ops k) (place_of e (homes_at m ops k)) ≡ e)). (
-            place_stays e (homes_at m ops k) (op_at ops k) inside.0 ∙ sym number,
-            (let long = (keeps m ops k (suc k) (omega arith)).long in let l = inside.0 in
-                omega (arith, number, long, l)),
-          ))
-          (λ (past : place_of e (homes_at m ops k) ≡ length (homes_at m ops k)).
-          (let next = number ∙ past in
-          let new = new_home version m ops legal homes k lt e d is next in
-          let long = ap length new in (
-            ap (place_of e) new ∙ place_last e (homes_at m ops k) past ∙ sym next,
-            omega (arith, next, long, length-append {A = Entry}),
-          )))
-          (placed e (homes_at m ops k))
-
-      at_end : place_of e after_all ≡ d
-      at_end =
-          (let low = placed_after.1 in
-          stays_placed e (suc k) count (omega (arith, lt))
-          (subst (λ p. p < length (homes_at m ops (suc k))) (sym placed_after.0) low)
-          ∙ placed_after.0)
-
-      by : (o : Option Node) → held_in m.entries e ≡ o → number_by o e ≡ d
-      by None held = at_end
-      by (Some (File kind file)) held = at_end
-      by (Some (Directory c)) held =
-          (let there = homes.each e c held in
-          let c_low = slice_get_within m.homes c e there in
-          let c_is : home_in m.homes c ≡ e = get_or_from_slice_get m.homes c e root_home there in
-          let low = place_low e m.homes c c_low c_is in
-          let first = place_of e m.homes in
-          let first_low : first < length m.homes = omega (arith, low, c_low) in
-          let d_is : d ≡ first = number ∙ stays_placed e 0 k (omega arith) first_low in
-          ⊎_elim
-          (λ (inside : (place_of e m.homes < length m.homes)
-          × (home_in m.homes (place_of e m.homes) ≡ e)). ⊎_elim
-          (λ (none : first ≡ 0). absurd
-          (let l = subst (IsLegalEntryOp (held_in (made_at m ops k).entries)) is
-          (legal_at version m ops legal k lt).entry in l.2.0 (d_is ∙ none)))
-          (λ (some : first ≢ 0).
-          (let f = used first (omega (arith, some)) first_low in
-          let f_is : f.0 ≡ e =
-          sym (get_or_from_slice_get m.homes first f.0 root_home (homes.each f.0 first f.1))
-          ∙ inside.1 in
-          same_number c first (sym held ∙ ap (held_in m.entries) (sym f_is) ∙ f.1) ∙ sym d_is))
-          (cases_eq first 0))
-          (λ (past : place_of e m.homes ≡ length m.homes). absurd (omega (arith, past, first_low)))
-          (placed e m.homes))

@@ -32,8 +32,10 @@ use Rattle.cs_apm.specs.Reasons.{MovesOnto, ResizesOrMakes, SetsDirectory, SetsF
 use Rattle.cs_apm.specs.Reasons.{TouchesEntryOf, Writes, links, links_over, makes, moves, removes}
 use Rattle.cs_apm.specs.Reasons.{replaces}
 use Rattle.cs_apm.specs.Laws.Lists.{any_between, any_found, any_from, found_between}
-use Rattle.cs_apm.specs.Laws.Pairs.{directory_says, entry_operation_says, entry_says}
-use Rattle.cs_apm.specs.Laws.Pairs.{says_directory, says_entry, says_entry_operation}
+use Rattle.cs_apm.specs.Laws.Pairs.{directory_says, entry_operation_says}
+use Rattle.cs_apm.specs.Laws.Touched.{entry_says}
+use Rattle.cs_apm.specs.Laws.Pairs.{says_directory, says_entry_operation}
+use Rattle.cs_apm.specs.Laws.Touched.{says_entry}
 
 -- ---- what an operation handles
 

@@ -23,7 +23,8 @@ use Rattle.cs_apm.specs.Reasons.{is_kept_in_order, is_acknowledged_first, create
 use Rattle.cs_apm.specs.Reasons.{is_journaled as is_journaled_by, moves_directories, is_other_half}
 use Rattle.cs_apm.specs.Laws.Lists.{any_found, any_from}
 use Rattle.cs_apm.specs.Laws.Pairs.{OneBlock, OneFile, place_says, block_place, size_place}
-use Rattle.cs_apm.specs.Laws.Pairs.{shares_says, says_shares, settled_says, says_settled}
+use Rattle.cs_apm.specs.Laws.Pairs.{settled_says, says_settled}
+use Rattle.cs_apm.specs.Laws.Touched.{shares_says, says_shares}
 use Rattle.cs_apm.specs.Laws.Pairs.{empties_says, says_empties, say_says, file_says, says_file}
 use Rattle.cs_apm.specs.Laws.Pairs.{order_says, says_order, first_line_says, says_first_line}
 use Rattle.cs_apm.specs.Laws.Pairs.{linked_says, says_linked, moves_says, says_moves, half_says}

@@ -23,8 +23,10 @@ use Rattle.cs_apm.specs.Rules.{sets_directory, touches_entry_of}
 use Rattle.cs_apm.specs.Reasons.{ChangesSize, IsCovered, IsLatestMaking, IsSyncedBetween}
 use Rattle.cs_apm.specs.Reasons.{SetsDirectory, SetsFile, TouchesEntryOf, Writes, WritesWithin}
 use Rattle.cs_apm.specs.Laws.Lists.{any_between, any_found, any_from, none_between}
-use Rattle.cs_apm.specs.Laws.Pairs.{directory_says, entry_says, makes_says, says_directory}
-use Rattle.cs_apm.specs.Laws.Pairs.{says_entry, says_makes}
+use Rattle.cs_apm.specs.Laws.Pairs.{directory_says, makes_says, says_directory}
+use Rattle.cs_apm.specs.Laws.Touched.{entry_says}
+use Rattle.cs_apm.specs.Laws.Pairs.{says_makes}
+use Rattle.cs_apm.specs.Laws.Touched.{says_entry}
 
 -- ---- a sync
 
