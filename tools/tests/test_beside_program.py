@@ -1,18 +1,35 @@
 """What the program prints of random traces, and what the second reading does."""
 
-import subprocess
-from pathlib import Path
+from __future__ import annotations
 
+import io
+import unittest
+from typing import Dict, Iterator, List, Sequence, Tuple
+
+from crashfs_tools.common.archive import Member, members
 from crashfs_tools.common.program import Crashfs
-from crashfs_tools.reading import ReadingFault, plan_of, read
-from crashfs_tools.reading.listing import listing
-from crashfs_tools.reading.picking import printed_lines
+from crashfs_tools.reading import ReadingFault, read
+from crashfs_tools.reading.every import count_sets
+from crashfs_tools.reading.order import Order
 
+from .case_runs import Ran, Runner
 from .random_traces import RandomTrace
 from .support import EXAMPLE_TRACES, InFolder, needed
 
-ROW_43 = Path(__file__).with_name('data') / 'version-3' / 'row43.trace'
 TRACES = 300
+# The second reading takes long for the different sets of a trace that has more.
+MOST_SETS = 3000
+# Of so many states of a trace the archives are compared.
+MOST_ARCHIVED = 30
+COMMANDS = (
+    ['list', '--holes', '--lines', '--same'],
+    ['list', '--holes', '--json'],
+    ['picks', '--lost'],
+    ['picks', '--files'],
+)
+DIFFERENT = ['picks', '--every', '--different']
+# In turn, from trace to trace.
+ARCHIVES: Sequence[List[str]] = ([], ['--sparse'], ['--changes'], ['--changes', '--sparse'])
 
 NEEDS_LOST = (
     '{"trace":3,"profile":"blocks","block":4096,"owner":"cat","group":"staff","mode":"775"}\n'
@@ -25,72 +42,88 @@ NEEDS_LOST = (
 {"op":"say","text":"2"}
 """
 )
+PROGRAM = Crashfs.find(None)
+needs_program = needed(PROGRAM is not None, 'crashfs is not built')
+needs_version_4 = needed(
+    PROGRAM is not None and PROGRAM.reads_version(4),
+    'a crashfs that reads traces of version 4 is not there',
+)
 
 
-def program_of(version):
-    """The program that is built here or on PATH, if it takes traces of the version."""
-    program = Crashfs.find(None)
-    if program is None:
-        return None
-    ran = subprocess.run(
-        [program.path, 'list', '--trace', str(ROW_43)],
-        check=False,
-        stdout=subprocess.DEVNULL,
-        stderr=subprocess.DEVNULL,
-    )
-    return program.path if version < 3 or ran.returncode == 0 else None
+def texts_of(version: int) -> Iterator[Tuple[int, str]]:
+    for seed in range(TRACES):
+        yield seed, RandomTrace(version, seed).text()
+    if version == 3:
+        yield TRACES, NEEDS_LOST
+
+
+def has_few_sets(text: str) -> bool:
+    try:
+        return count_sets(Order(read(text.encode()))) <= MOST_SETS
+    except ReadingFault:
+        return True
 
 
 class BesideTheProgram(InFolder):
-    """What the program prints for random traces, and what the second reading does."""
+    def setUp(self) -> None:
+        super().setUp()
+        assert PROGRAM is not None
+        self.program = Runner(self.folder, PROGRAM.path)
+        self.reading = Runner(self.folder, None)
 
-    def compare(self, version, program):
-        texts = [RandomTrace(version, seed).text() for seed in range(TRACES)]
-        for seed, text in enumerate(texts + ([NEEDS_LOST] if version == 3 else [])):
-            trace = self.write('random.trace', text)
+    def ran(self, words: List[str], text: str) -> Tuple[Ran, Ran]:
+        given: Dict[str, bytes] = {'trace': text.encode()}
+        return self.program.run(words, given), self.reading.run(words, given)
+
+    def assert_printed_alike(self, words: List[str], text: str) -> None:
+        program, reading = self.ran(words, text)
+        self.assertEqual(program.text(), reading.text(), words)
+
+    def assert_archived_alike(self, words: List[str], text: str) -> None:
+        """Bytes of archives may differ: entries may not."""
+        listed = self.reading.run(['list', '--holes'], {'trace': text.encode()})
+        if listed.status != 0:
+            return
+        count = listed.text().count('state ')
+        numbers = ','.join(map(str, range(0, count, 1 + count // MOST_ARCHIVED)))
+        program, reading = self.ran(['tar', '--holes', *words, '--states', numbers], text)
+        self.assertEqual(members_of(program), members_of(reading), words)
+
+    def compare(self, version: int) -> None:
+        for seed, text in texts_of(version):
             with self.subTest(version=version, seed=seed):
-                for words in (
-                    ['list', '--holes', '--lines', '--same'],
-                    ['picks', '--lost'],
-                    ['picks', '--files'],
-                    ['picks', '--every', '--different'],
-                ):
-                    self.assertEqual(self.printed(program, words, trace), read_of(words, text))
+                for words in COMMANDS:
+                    self.assert_printed_alike(words, text)
+                if version < 4 or has_few_sets(text):
+                    self.assert_printed_alike(DIFFERENT, text)
+                if version >= 4:
+                    self.assert_archived_alike(ARCHIVES[seed % len(ARCHIVES)], text)
 
-    @staticmethod
-    def printed(program, words, trace):
-        ran = subprocess.run(
-            [program, *words, '--trace', trace],
-            stdout=subprocess.PIPE,
-            stderr=subprocess.PIPE,
-            text=True,
-            check=False,
-        )
-        return ran.stdout or ran.stderr.partition('\n')[0].replace('crashfs: ', '')
-
-    @needed(program_of(1) is not None, 'crashfs is not built')
-    def test_random_traces_of_versions_1_and_2(self):
+    @needs_program
+    def test_random_traces_of_versions_1_and_2(self) -> None:
         for version in (1, 2):
-            self.compare(version, program_of(version))
+            self.compare(version)
 
-    @needed(program_of(3) is not None, 'a crashfs that takes traces of version 3 is not there')
-    def test_random_traces_of_version_3(self):
-        self.compare(3, program_of(3))
+    @needs_program
+    def test_random_traces_of_version_3(self) -> None:
+        self.compare(3)
 
-    @needed(program_of(3) is not None, 'a crashfs that takes traces of version 3 is not there')
-    def test_the_sets_that_differ_in_the_examples(self):
-        words = ['picks', '--every', '--different']
+    @needs_version_4
+    def test_random_traces_of_version_4(self) -> None:
+        self.compare(4)
+
+    @needs_program
+    def test_the_sets_that_differ_in_the_examples(self) -> None:
         for path in EXAMPLE_TRACES:
             with self.subTest(trace=path.name):
-                wanted = read_of(words, path.read_text('utf-8'))
-                self.assertEqual(self.printed(program_of(3), words, str(path)), wanted)
+                self.assert_printed_alike(DIFFERENT, path.read_text('utf-8'))
 
 
-def read_of(words, text):
-    try:
-        plan = plan_of(read(text.encode()), words[0] == 'list')
-    except ReadingFault as fault:
-        return str(fault)
-    if words[0] == 'list':
-        return ''.join(listing(plan, True, True))
-    return ''.join(printed_lines(plan.reading, dict.fromkeys(words[1:], True)))
+def members_of(ran: Ran) -> List[Member]:
+    """The entries of the archive that a command wrote."""
+    assert (ran.status, ran.err) == (0, b''), ran
+    return list(members(io.BytesIO(ran.out)))
+
+
+if __name__ == '__main__':
+    unittest.main()

@@ -10,9 +10,10 @@ from crashfs_tools.reading import ReadingFault, plan_of, read
 from crashfs_tools.reading.listing import listing
 from crashfs_tools.reading.plan import different_places, file_sets, read_picks
 
+from .case_runs import Runner
 from .random_traces import RandomTrace
 from .support import EXAMPLES, FAKE, InFolder
-from .test_beside_program import NEEDS_LOST, read_of
+from .test_beside_program import NEEDS_LOST
 
 ROWS = Path(__file__).with_name('data') / 'version-3'
 ROOT = '"owner":"cat","group":"staff","mode":"775"'
@@ -276,11 +277,12 @@ class AsAProgram(InFolder):
         )
 
     def test_random_traces_are_read_in_all_versions(self):
-        for version, seed in itertools.product((1, 2, 3), range(20)):
+        runner = Runner(self.folder, None)
+        for version, seed in itertools.product((1, 2, 3, 4), range(20)):
             text = RandomTrace(version, seed).text()
             self.assertEqual(text, RandomTrace(version, seed).text())
-            for words in (['list'], ['--lost'], ['--files']):
-                read_of(words, text)
+            for words in (['list'], ['picks', '--lost'], ['picks', '--files']):
+                self.assertIn(runner.run(words, {'trace': text.encode()}).status, (0, 1))
 
     def test_faults_are_printed_as_the_program_prints_them_and_then_why(self):
         mode = HEADERS[1].replace('775', '0775')
