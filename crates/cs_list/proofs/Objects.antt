@@ -3,7 +3,7 @@ use Rattle.std.proofs.Common.{◌≡◌, ℕ, ◌+◌, List, [], ◌∷◌, ◌+
 use Rattle.std.proofs.Common.{length-append}
 use Rattle.std.proofs.lemmas.Grind.{flat_map-append}
 use Rattle.std.proofs.lemmas.List.{append-nil}
-use Rattle.std.proofs.lemmas.List.Elements.{All-push}
+use Rattle.std.proofs.lemmas.List.Elements.{All-nil, All-push}
 use Rattle.std.specs.List.{All, enumerate_from, flat_map}
 use Rattle.cs_plan.specs.Scenes.{Scene}
 use Rattle.cs_list.specs.declared.profiles.Profiles.{Profiles}
@@ -43,7 +43,7 @@ objects_more s lines count text grown path so e =
     }
 
 pub no_states : (s : Scene) (firsts : List ℕ) → AreStateObjects s firsts 0 []
-no_states s firsts = record { profiles = []; long = refl; each = tt; spelled = refl }
+no_states s firsts = record { profiles = []; long = refl; each = All-nil (λ (e : ℕ × Profiles). AreProfilesOf s e.0 e.1); spelled = refl }
 
 -- one state more
 pub states_more : (s : Scene) (firsts : List ℕ) (count : ℕ) (text grown : List ℕ) (profiles : Profiles)

@@ -10,7 +10,7 @@ pub loop-number-preserved : goal.loop-number-preserved
 loop-number-preserved c =
     let pushed = c.in_ok-push_state_object.ensures in
     states_more c.args.scene.now c.args.firsts.now c.loop-number.number c.loop-number.text.items c.push_state_object.new.text.items
-    pushed.0 c.loop-number.invariant pushed.1.0 pushed.1.1
+    pushed.0 c.loop-number.invariant pushed.1 pushed.2
 
 pub returns : goal.returns
 returns c =
