@@ -14,7 +14,7 @@ ghost use Rattle.cs_list.specs.Json.{size_fields, state_line, target_fields};
 use crate::profiles::Profiles;
 use cs_entries::{FileKind, Node};
 use cs_micro::MicroOp;
-use cs_names::Path;
+use cs_names::{Path, as_utf8};
 use cs_plan::{Places, Recipe};
 use cs_trace::{Rights, Target, Version};
 use serde_json::Value;
@@ -50,9 +50,9 @@ fn quoted_name(alloc: Global, name: &str) -> Result<String, AllocError>
 fn quoted_text(alloc: Global, bytes: &[u8]) -> Result<String, AllocError>
     ensures { IfOk result (λ text. string_bytes text ≡ quoted_text bytes.now) }
 {
-    match std::str::from_utf8(bytes) {
-        Ok(text) => quoted_name(alloc, text),
-        Err(_) => String::from_str(alloc, "null"),
+    match as_utf8(bytes) {
+        Some(text) => quoted_name(alloc, text),
+        None => String::from_str(alloc, "null"),
     }
 }
 
@@ -263,7 +263,10 @@ fn fields_of(
 {
     match op {
         MicroOp::CreateDirEntry {
-            entry, node, bytes, ..
+            entry,
+            node,
+            bytes,
+            ..
         } => fields_of_create(alloc, &entry.path, *node, bytes.as_slice()),
         MicroOp::DeleteDirEntry { entry, node } => fields_of_delete(alloc, &entry.path, *node),
         MicroOp::MoveDirEntry { from, to, node, .. } => {

@@ -1,7 +1,8 @@
 //! The paths that each file has after the first micro-operations of a trace.
-use cs_entries::{Node, entry::copy_name};
+use cs_entries::Node;
+use cs_entries::entry::copy_name;
 use cs_micro::{MicroOp, Micros};
-use cs_names::Path;
+use cs_names::{Name, Path};
 use cs_same_states::changed_file;
 use std::alloc::{AllocError, Global};
 
@@ -37,15 +38,25 @@ fn replace<'a>(paths: &mut [FilePath<'a>], old: &Path, new: &'a Path) {
     }
 }
 
+/// Appends copies of a path's names, but for the first `skipped` of them. After an error some are
+/// there.
+fn push_names(
+    alloc: Global,
+    path: &Path,
+    skipped: usize,
+    names: &mut Vec<Name>,
+) -> Result<(), AllocError> {
+    for name in path.names().skip(skipped) {
+        names.push(copy_name(alloc, name)?)?;
+    }
+    Ok(())
+}
+
 /// The path with the names of `to` in place of its first names, which are those of `from`.
 fn path_below(alloc: Global, path: &Path, from: &Path, to: &Path) -> Result<Path, AllocError> {
     let mut names = Vec::new(alloc);
-    for name in to.names() {
-        names.push(copy_name(alloc, name)?)?;
-    }
-    for name in path.names().skip(from.names().count()) {
-        names.push(copy_name(alloc, name)?)?;
-    }
+    push_names(alloc, to, 0, &mut names)?;
+    push_names(alloc, path, from.names().len(), &mut names)?;
     Path::from_names(alloc, &names)
 }
 
@@ -132,12 +143,7 @@ impl<'a> FilePaths<'a> {
     }
 
     /// Moves all files below the directory at `from` to the same places below `to`.
-    fn move_directory(
-        &mut self,
-        alloc: Global,
-        from: &Path,
-        to: &Path,
-    ) -> Result<(), AllocError> {
+    fn move_directory(&mut self, alloc: Global, from: &Path, to: &Path) -> Result<(), AllocError> {
         for paths in self.files.iter_mut() {
             move_below(alloc, paths, from, to)?;
         }
