@@ -4,13 +4,13 @@ use serde_json::{Map, Value};
 use std::alloc::{AllocError, Global};
 
 /// The keys that lines have.
-const KEYS: [&str; 16] = [
+const KEYS: [&str; 18] = [
     "trace", "profile", "block", "start", "op", "path", "from", "to", "owner", "group", "mode",
-    "bytes", "offset", "length", "text", "note",
+    "bytes", "offset", "length", "parts", "target", "text", "note",
 ];
 
 /// The versions of traces.
-const VERSIONS: [u64; 3] = [1, 2, 3];
+const VERSIONS: [u64; 4] = [1, 2, 3, 4];
 
 /// Whether the text is three octal digits.
 fn is_mode(text: &str) -> bool {
@@ -30,7 +30,7 @@ fn is_version(value: &Value) -> bool {
 fn reason_of_field(alloc: Global, key: &str, value: &Value) -> Result<Option<String>, AllocError> {
     let reason = match key {
         "trace" if !is_version(value) => format!(in alloc;
-            "version {value} is not known (1, 2, 3)"
+            "version {value} is not known (1, 2, 3, 4)"
         ),
         "mode" if !value.as_str().is_some_and(is_mode) => {
             format!(in alloc; "mode {value} is not three octal digits")
