@@ -85,10 +85,11 @@ REASONS: List[Tuple[str, Optional[str]]] = [
     ('\ufeff{}', 'it starts with a byte order mark'),
     ('[1]', 'it is no JSON object'),
     ('{"trace":1', 'it is no JSON object'),
-    ('{"trace":4}', 'version 4 is not known (1, 2, 3)'),
+    ('{"trace":5}', 'version 5 is not known (1, 2, 3, 4)'),
     ('{"mode":755}', 'mode 755 is not three octal digits'),
     ('{"bytes":"686"}', 'bytes has an odd number of digits'),
     ('{"comment":1}', 'unknown key "comment"'),
+    ('{"target":"t","length":1,"parts":[],"comment":1}', 'unknown key "comment"'),
     ('{"op":"sync","mode":"755"}', None),
 ]
 UNKNOWN = [

@@ -130,7 +130,7 @@ PROGRAM: List[Tuple[str, int, List[str]]] = [
     ('list STORE --picks none', 1, ['none: cannot read', 'none: No such file or directory']),
     ('list empty', 1, ['trace line 1: Syntax', 'empty:1: the file has no line']),
     ('list bom', 1, ['trace line 1: Syntax', 'bom:1: it starts with a byte order mark']),
-    ('list version', 1, ['trace line 1: Syntax', 'version:1: version 5 is not known (1, 2, 3)']),
+    ('list version', 1, ['trace line 1: Syntax', 'version:1: version 5 is not known (1, 2, 3, 4)']),
     (
         'list long-mode',
         1,
