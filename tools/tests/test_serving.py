@@ -26,6 +26,15 @@ D = '{"start":"dir","path":"/d","owner":"ann","group":"staff","mode":"775"}\n'
 MADE = '{"op":"creat","path":"/g","owner":"ann","group":"staff","mode":"644"}\n'
 STAFF = HEADER % ('staff', '775')
 TRACE = STAFF + F + MADE
+MOVED = '''\
+{"trace":4,"profile":"ordered","block":4096,"owner":"cat","group":"staff","mode":"775"}
+{"start":"dir","path":"/t","owner":"ann","group":"staff","mode":"775"}
+{"start":"file","path":"/t/f","owner":"ann","group":"staff","mode":"664","length":9000,"parts":[]}
+{"start":"symlink","path":"/t/l","owner":"ann","group":"staff","target":"f"}
+{"op":"rename","from":"/t","to":"/d"}
+{"op":"symlink","path":"/d/m","owner":"ann","group":"staff","target":"x"}
+{"op":"rename","from":"/d/m","to":"/d/l"}
+'''
 OPENED = 'Ropen tag 1 qid (00 0 1) iounit 0'
 UNKNOWN, DENIED = 'Rerror tag 1 ename "A6 unknown user"', 'Rerror tag 1 ename "O7 no write right"'
 # How many seconds may be between two looks at the time.
@@ -63,6 +72,23 @@ class Clients(Served):
             self.assertEqual(talker.ask('clunk 1'), 'Rclunk tag 1')
             talker.end()
         self.assertEqual((server.end(), server.runs), (0, 'run 0/x entries 10 audit ok\n'))
+
+    def test_clients_of_states_before_and_after_the_rename_of_a_directory(self) -> None:
+        """A trace of version 4: at the end `/t`, with a symbolic link in it, is `/d`."""
+        if PROGRAM is None or not PROGRAM.reads_version(4):
+            self.skipTest('the program reads no trace of version 4')
+        server = self.server('--connections', '2', trace=MOVED)
+        for state, there, gone, target in (('0', 't', 'd', 'f'), ('3', 'd', 't', 'x')):
+            ann = self.talker(server, ANN.replace('0/x', f'{state}/x'))
+            self.assertEqual(ann.ask(f'walk 0 1 {gone}'), 'Rerror tag 1 ename "K8 no such name"')
+            walked = 'Rwalk tag 1 wqid [(80 0 1), (02 0 3)]'
+            self.assertEqual(ann.ask(f'walk 0 1 {there}/l'), walked)
+            self.assertEqual(ann.ask('open 1 0'), 'Ropen tag 1 qid (02 0 3) iounit 0')
+            self.assertEqual(ann.ask('read 1 0 9'), f"Rread '{target}'")
+            ann.end()
+        self.assertEqual(server.end(), 0)
+        ended = ''.join(f'run {state}/x entries 6 audit ok\n' for state in (0, 3))
+        self.assertEqual(server.runs, ended)
 
     def test_a_client_that_hangs_up_inside_a_message(self) -> None:
         """A client that is attached hangs up after three bytes of a message: the command still
