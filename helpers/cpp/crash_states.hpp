@@ -51,8 +51,6 @@ inline const std::string kRole = "CRASH_STATES_ROLE";
 inline constexpr int kSays = 3;
 inline constexpr const char *kWithSays = "exec \"$@\" 3>/dev/null";
 inline constexpr const char *kWithOutput = "exec \"$@\" >\"$0\" 2>&1";
-// The first line of a report that can be read here.
-inline const std::string kVersion = "TAP version 13";
 
 inline void acknowledge(const std::string &line) {
     const std::string text = line + "\n";
@@ -130,7 +128,7 @@ inline void run(const std::string &role, const Words &words, const Path &output,
 // `not ok`, and begin with `# `.
 inline Words entries_of(std::istream &report) {
     const Words lines = lines_of(report);
-    if (lines.empty() || lines[0] != kVersion)
+    if (lines.empty() || lines[0] != "TAP version 13")
         throw std::runtime_error("a report of another version");
     Words entries;
     for (const std::string &line : lines) {

@@ -163,7 +163,7 @@ class Helpers(unittest.TestCase):
 
     @needs('cargo', 'rustc')
     def test_a_panic_in_rust_is_the_cause(self):
-        error = 'Err("lost: there is no configuration".to_string())'
+        error = 'Err("lost: there is no configuration".into())'
         self.change('rust', 'tests/example.rs', error, 'panic!("lost: {}", "a panic")')
         self.change('rust', 'tests/example.rs', '#[test]', '#[test]\n#[ignore]')
         ran = self.run_in('rust', *CARGO_TEST, '--', '--include-ignored', EXAMPLE_BUG='1')

@@ -1,9 +1,9 @@
 //! Runs a store's recovery in the crash states of a session, as tests.
 //!
 //! ```no_run
-//! # use std::{io, path::Path};
-//! # fn session(_: &Path, _: &mut dyn FnMut(&str) -> io::Result<()>) -> io::Result<()> { Ok(()) }
-//! # fn recovery(_: &Path, _: &[String]) -> Result<(), String> { Ok(()) }
+//! # use {crash_states::Outcome, std::path::Path};
+//! # fn session(_: &Path, _: &dyn Fn(&str)) -> Outcome { Ok(()) }
+//! # fn recovery(_: &Path, _: &[String]) -> Outcome { Ok(()) }
 //! #[test]
 //! fn every_crash_state() {
 //!     crash_states::check("every_crash_state", session, recovery);
@@ -31,18 +31,17 @@ const SAYS: i32 = 3;
 const WITH_SAYS: &str = r#"exec "$@" 3>/dev/null"#;
 /// The trace, in the directory of a test.
 const TRACE: &str = "session.trace";
-/// The first line of a report that can be read here.
-const VERSION: &str = "TAP version 13\n";
 
-type Fallible<T> = Result<T, Box<dyn Error>>;
+/// What a session or a recovery returns: any error, such as `"lost: row 3".into()`.
+pub type Outcome = Result<(), Box<dyn Error>>;
 
 /// Changes the store in a directory. It calls its second argument when it would tell its user that
 /// something is stored.
-pub type Session = fn(&Path, &mut dyn FnMut(&str) -> io::Result<()>) -> io::Result<()>;
+pub type Session = fn(&Path, &dyn Fn(&str)) -> Outcome;
 
 /// Opens what a crash left in a directory, and compares it with the acknowledged lines. Its error,
 /// or its panic, says what is missing or wrong. Reports count failures by the part before a colon.
-pub type Recovery = fn(&Path, &[String]) -> Result<(), String>;
+pub type Recovery = fn(&Path, &[String]) -> Outcome;
 
 /// Records the session and runs the recovery in its crash states. `test` is the path of the
 /// calling test, as `cargo test` prints it.
@@ -95,7 +94,11 @@ fn new_directory() -> io::Result<PathBuf> {
 }
 
 /// Records a trace and checks it, in this new directory. Returns the text of each failing entry.
-fn failing_entries(room: &Path, test: &str, options: &[&str]) -> Fallible<Vec<String>> {
+fn failing_entries(
+    room: &Path,
+    test: &str,
+    options: &[&str],
+) -> Result<Vec<String>, Box<dyn Error>> {
     let store = room.join("store");
     let trace = room.join(TRACE);
     let report = room.join("report.tap");
@@ -114,7 +117,7 @@ fn failing_entries(room: &Path, test: &str, options: &[&str]) -> Fallible<Vec<St
     check.arg(&trace).arg("--").args(&this_test);
     expect_status(&mut check, &[0, 1])?;
     let text = fs::read_to_string(&report)?;
-    let lines = text.strip_prefix(VERSION);
+    let lines = text.strip_prefix("TAP version 13\n");
     Ok(entries_of(lines.ok_or("a report of another version")?))
 }
 
@@ -139,7 +142,7 @@ fn command(name: &str, role: &str) -> Command {
     command
 }
 
-fn expect_status(command: &mut Command, wanted: &[i32]) -> Fallible<()> {
+fn expect_status(command: &mut Command, wanted: &[i32]) -> Outcome {
     let name = command.get_program().to_string_lossy().into_owned();
     let ran = command.output().map_err(|error| {
         format!("{name}: {error} (set CRASHFS_TOOLS to the directory that has it)")
@@ -152,24 +155,22 @@ fn expect_status(command: &mut Command, wanted: &[i32]) -> Fallible<()> {
     Err(format!("{name}: {}\n{printed}", ran.status).into())
 }
 
-fn run_session(session: Session) -> Fallible<()> {
+fn run_session(session: Session) -> Outcome {
     // SAFETY: the descriptor is open, and nothing else in this process has it.
-    let mut says = unsafe { File::from_raw_fd(SAYS) };
-    session(&env::current_dir()?, &mut |line| {
-        says.write_all(format!("{line}\n").as_bytes())
-    })?;
-    Ok(())
+    let says = unsafe { File::from_raw_fd(SAYS) };
+    session(&env::current_dir()?, &|line| {
+        writeln!(&says, "{line}").expect("a line can be acknowledged");
+    })
 }
 
-fn run_recovery(recovery: Recovery) -> Fallible<()> {
+fn run_recovery(recovery: Recovery) -> Outcome {
     let lines: io::Result<Vec<String>> = io::stdin().lock().lines().collect();
-    recovery(&env::current_dir()?, &lines?)?;
-    Ok(())
+    recovery(&env::current_dir()?, &lines?)
 }
 
 /// Runs a part of the test and ends the process. The last line that it prints is the cause of a
 /// failure.
-fn run_and_exit(part: impl FnOnce() -> Fallible<()>) -> ! {
+fn run_and_exit(part: impl FnOnce() -> Outcome) -> ! {
     let cause = match panic::catch_unwind(AssertUnwindSafe(part)) {
         Ok(Ok(())) => process::exit(0),
         Ok(Err(error)) => error.to_string(),
