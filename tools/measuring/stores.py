@@ -16,11 +16,11 @@ import subprocess
 import sys
 import tempfile
 from pathlib import Path
-from typing import Any, Dict, Iterator, List, NamedTuple
+from typing import Any, Dict, List, NamedTuple
 
 from crashfs_tools.common.guard import Stopped, stop_by_exception
 
-from .store_rows import STORES, TOP, ResultsFile, row_of
+from .store_rows import STORES, TOP, ResultsFile, disks_of, row_of
 
 TOOLS = TOP / 'tools'
 # Sessions of at most so many operations are made again on disks.
@@ -72,7 +72,7 @@ def parsed_words(given: List[str]) -> argparse.Namespace:
     words.add_argument('--record', action='store_true', help='make traces again')
     words.add_argument('--disks', metavar='LIST', help='file systems, as of crashfs-check')
     words.add_argument('--jobs', type=int, default=4, metavar='N', help='at once (4)')
-    words.add_argument('--time-limit', metavar='S', help='seconds for each check')
+    words.add_argument('--time-limit', metavar='S', help='seconds for the states of each')
     words.add_argument('names', nargs='*', metavar='NAME', help='FOLDER or FOLDER/SESSION (all)')
     parsed = words.parse_args(given)
     for name in parsed.names:
@@ -116,10 +116,12 @@ class Check:
             raise NoResult(f'not installed: {", ".join(missing)}')
         output_of([str(STORES / 'build.sh'), str(self.session.path)])
         self.make_trace()
-        report = output_of(list(self.check_words()))
-        if not self.json.exists():
-            raise NoResult('crashfs-check made no report')
+        limit, disks = self.limit_words(), self.disk_words()
+        report = self.report_of(*limit, *([] if limit else disks))
         row = row_of(self.session.about, self.session.key, str(self.json), report)
+        if limit and disks:
+            self.report_of('--prefixes', *disks)
+            row['disks'] = disks_of(json.loads(self.json.read_text('utf-8')))
         return {**row, 'version': version_of(self.session.about['package'])}
 
     def make_trace(self) -> None:
@@ -131,16 +133,26 @@ class Check:
         if not self.trace.exists():
             raise NoResult('record.sh made no trace')
 
-    def check_words(self) -> Iterator[str]:
-        """The words of the check."""
-        yield from (str(TOOLS / 'crashfs-check'), '--jobs', str(self.words.jobs))
-        yield from (*MORE, '--json', str(self.json), '--timeout', '60')
-        if self.words.time_limit:
-            yield from ('--time-limit', self.words.time_limit)
-        if self.words.disks and self.has_few_operations():
-            yield from ('--disks', self.words.disks)
-        yield from (str(self.trace), '--')
-        yield from (str(self.session.path / 'check.sh'), self.session.name)
+    def report_of(self, *options: str) -> str:
+        """Checks the session with some more options, and returns the report; its file is the one of
+        --json. NoResult if there is no report."""
+        words = [str(TOOLS / 'crashfs-check'), '--jobs', str(self.words.jobs), *MORE]
+        words += ['--json', str(self.json), '--timeout', '60', *options, str(self.trace), '--']
+        self.json.unlink(missing_ok=True)
+        report = output_of([*words, str(self.session.path / 'check.sh'), self.session.name])
+        if not self.json.exists():
+            raise NoResult('crashfs-check made no report')
+        return report
+
+    def limit_words(self) -> List[str]:
+        """The option of the time limit, if there is one. It ends a check before its disks, which
+        then have a check of their own, in which only the prefixes are tried besides them."""
+        return ['--time-limit', self.words.time_limit] if self.words.time_limit else []
+
+    def disk_words(self) -> List[str]:
+        """The option of the disks, if they are asked for and the session isn't too long."""
+        is_asked = self.words.disks and self.has_few_operations()
+        return ['--disks', self.words.disks] if is_asked else []
 
     def has_few_operations(self) -> bool:
         """Whether the session has so few operations that it is made again on disks."""

@@ -61,6 +61,9 @@ NOT_RUN = {
     },
     'docs/how-to/testing.md': {
         'pip install': 'it needs a network; test_pytest_plugin.py uses the plugin of the clone',
+        'mkdir store': 'test_testing_page.py runs them, in their languages',
+        'cp ': 'the same',
+        '#!/bin/sh -e': 'the same',
     },
     'docs/internals/BENCHMARKS.md': {
         'tools/measure': 'it needs programs that the toolchain builds; test_measure.py',

@@ -21,7 +21,7 @@ from crashfs_tools.common.sparse import SparseBytes
 from crashfs_tools.common.trace import KINDS, Trace
 from crashfs_tools.common.trace_read import read_trace, replay
 from crashfs_tools.disks import disk, filesystems, images, own_mounts
-from crashfs_tools.disks.levers import Lever, Pull, pulls
+from crashfs_tools.disks.levers import Lever
 from crashfs_tools.disks.moments import Moment, moments
 from crashfs_tools.disks.owners import FIRST_UNKNOWN, Owners
 from crashfs_tools.disks.pool import DiskPool
@@ -95,12 +95,6 @@ class Moments(unittest.TestCase):
         self.assertEqual(found[4], Moment(7, 3, 3, 11))
         self.assertEqual(found[-1], Moment(21, 3, 3, 25))
         self.assertEqual(len(found), len(trace.operations) + 1 - 3)
-
-    def test_a_lever_is_pulled_as_often_as_it_makes_sense(self) -> None:
-        self.assertEqual(list(pulls(Lever.ONE, 3)), [Pull(Lever.ONE, place) for place in range(3)])
-        self.assertEqual(list(pulls(Lever.ONE, 1)), [])
-        self.assertEqual(list(pulls(Lever.BYTES, 0)), [])
-        self.assertEqual(list(pulls(Lever.LOG, 0)), [Pull(Lever.LOG)])
 
 
 class InReplays(InFolder):
@@ -260,42 +254,6 @@ class Disks(InFolder):
         levers = Counter(crash.lever for one in found for crash in one.crashes)
         self.assertEqual(levers[Lever.NOTHING], len(made.tasks()))
         self.assertEqual(mounted_below(self.path('')), [])
-
-    def test_a_rename_that_is_not_synced_is_lost_unless_the_log_is_written(self) -> None:
-        text = '\n'.join(
-            [
-                *ALL_KINDS.splitlines()[:3],
-                '{"op":"rename","from":"/d/f","to":"/d/g"}',
-                '{"op":"say","text":"renamed"}',
-            ]
-        )
-        made = DiskPool([filesystems.KNOWN['ext4']], read_trace(text), self.path(''))
-        trees = {
-            crash.lever: '/d/g' in one.tree
-            for one in made.disks(1, lambda *_: None)['ext4']
-            for crash in one.crashes
-            if crash.moment.most == 1
-        }
-        self.assertEqual(trees[Lever.NOTHING], False)
-        self.assertEqual(trees[Lever.LOG], True)
-
-    def test_a_lever_works_without_the_ones_before_it(self) -> None:
-        lines = [
-            *ALL_KINDS.splitlines()[:3],
-            '{"op":"write","path":"/d/f","offset":0,"text":"HELLO"}',
-        ]
-        pool = DiskPool(
-            [filesystems.KNOWN['ext4']],
-            read_trace('\n'.join(lines)),
-            self.path(''),
-            [Lever.BYTES],
-        )
-        found = [
-            (one.tree['/d/f'].data, crash.lever)
-            for one in pool.disks(1, lambda *_: None)['ext4']
-            for crash in one.crashes
-        ]
-        self.assertEqual(found, [(b'HELLO', Lever.BYTES)])
 
     def test_syncs_of_data_make_what_they_cover_durable(self) -> None:
         for sync in ('"offset":0,"length":9000', '"offset":4096,"length":4096', ''):

@@ -26,6 +26,8 @@ from .support import FAKE, InFolder
 # Committed traces are smaller, and those with at most so many sets are counted again.
 MOST_BYTES, MOST_SETS = 150_000, 2_000
 ROWS: List[Dict[str, Any]] = ResultsFile().rows()
+# The options of a check that say what is tried besides states.
+DISK_WORDS = ('--time-limit', '--prefixes', '--disks')
 
 
 def row(**changes: Any) -> Dict[str, Any]:
@@ -142,6 +144,28 @@ class Rows(InFolder):
             )
             wanted = {**kept, 'version': made['version'], 'disks': {}, 'report': report}
             self.assertEqual(made, wanted)
+
+
+class Limited(InFolder):
+    def test_disks_have_a_check_of_their_own_if_the_time_for_the_states_is_limited(self) -> None:
+        (session,) = sessions(['config/durable'])
+        called: List[List[str]] = []
+
+        def output_of(words: List[str]) -> str:
+            called.append(words)
+            if '--json' in words:
+                Path(words[words.index('--json') + 1]).write_text('{"disks":%d}' % len(called))
+            return ''
+
+        words = argparse.Namespace(record=False, disks='ext4', jobs=1, time_limit='5')
+        with mock.patch.object(stores, 'output_of', side_effect=output_of):
+            with mock.patch.object(stores, 'row_of', return_value=row()):
+                with mock.patch.object(stores, 'disks_of', side_effect=lambda one: one['disks']):
+                    made = Check(session, words, Path(self.path(''))).row()
+        _, first, second = called
+        self.assertEqual([word for word in first if word in DISK_WORDS], ['--time-limit'])
+        self.assertEqual([word for word in second if word in DISK_WORDS], ['--prefixes', '--disks'])
+        self.assertEqual(made['disks'], 3)
 
 
 class NoRows(unittest.TestCase):

@@ -16,7 +16,7 @@ from crashfs_tools.common.trace import Trace
 from . import images
 from .disk import Crash, read_tree
 from .filesystems import FileSystem
-from .levers import Lever, Pull, pull, pulls
+from .levers import Lever, Pull, Unsynced, pull, pulls, write_earlier
 from .moments import Moment, moments
 from .owners import Owners
 from .replay import Replay, lay_out_start
@@ -57,19 +57,19 @@ class CrashMaker:
 
     def crashes(self, moment: Moment, levers: Sequence[Lever]) -> Iterator[Tuple[Entries, Crash]]:
         """The trees that crashes at a moment leave, one for each pull of the levers. The session is
-        made again for each. Without a lever it is always made, since that counts the files with
-        unsynced bytes; its tree is among those returned only if NOTHING is among the levers."""
+        made again for each. Without a lever it is always made, since that finds the changes that no
+        sync covers; its tree is among those returned only if NOTHING is among the levers."""
         unsynced = self.crash(moment, Pull(Lever.NOTHING))
         if Lever.NOTHING in levers:
             yield self.tree_after_crash(), Crash(moment, Lever.NOTHING)
         for lever in levers:
-            for one in pulls(lever, unsynced) if lever is not Lever.NOTHING else ():
+            for one in pulls(lever, unsynced, moment.done) if lever is not Lever.NOTHING else ():
                 self.crash(moment, one)
                 yield self.tree_after_crash(), Crash(moment, lever)
 
-    def crash(self, moment: Moment, one: Pull) -> int:
+    def crash(self, moment: Moment, one: Pull) -> Unsynced:
         """Makes the session up to a moment, pulls a lever, and copies the disk while it is mounted:
-        the copy is what the crash leaves. Returns how many files had unsynced bytes before the
+        the copy is what the crash leaves. Returns the changes that no sync covered before the
         pull."""
         disk = self.own_path('disk')
         images.copy_image(self.start_image(), disk)
@@ -77,7 +77,8 @@ class CrashMaker:
             with Replay(os.path.join(top, DIRECTORY), self.owners) as replay:
                 for operation in self.trace.operations[: moment.done]:
                     replay.do(operation)
-                unsynced = len(replay.unsynced)
+                    write_earlier(replay, one)
+                unsynced = list(replay.unsynced.values())
                 pull(replay, one, os.path.join(top, OTHER))
                 images.copy_image(disk, self.own_path('copy'))
         return unsynced

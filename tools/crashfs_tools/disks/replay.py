@@ -6,7 +6,7 @@ import ctypes
 import mmap
 import os
 from contextlib import contextmanager
-from typing import Any, Callable, Dict, Iterator, List, Type, Union
+from typing import Any, Callable, Dict, Iterator, List, NamedTuple, Type, Union
 
 from crashfs_tools.common.sparse import SparseBytes
 from crashfs_tools.common.trace import (
@@ -90,17 +90,27 @@ def make_symlink(path: str, made: Union[Symlink, StartSymlink], owners: Owners) 
         os.lchown(path, *rights)
 
 
+class Change(NamedTuple):
+    """An operation that changed a file's bytes or size: how many operations were done with it, and
+    the file's path then."""
+
+    done: int
+    path: str
+
+
 class Replay:
     """The session in a directory, made again as root, so that modes don't hinder it. Each kind of
     operation has a method of its name; an OSError of its call is raised. Files stay open, so that a
-    file is written and synced by the same descriptor. unsynced has the path, by inode, of each file
-    with bytes that no sync of the file covers, in the order in which they were written."""
+    file is written and synced by the same descriptor. done is how many operations were made.
+    unsynced has by inode the changes of each file that no sync of the file covers; the files are in
+    the order of their first ones."""
 
     def __init__(self, top: str, owners: Owners) -> None:
         self.top = top
         self.owners = owners
         self.files: Dict[int, int] = {}
-        self.unsynced: Dict[int, str] = {}
+        self.done = 0
+        self.unsynced: Dict[int, List[Change]] = {}
 
     def __enter__(self) -> Replay:
         return self
@@ -127,6 +137,7 @@ class Replay:
 
     def do(self, operation: Operation) -> None:
         """Makes an operation, after those before it."""
+        self.done += 1
         CALLS[type(operation)](self, operation)
 
     def creat(self, made: Creat) -> None:
@@ -176,7 +187,7 @@ class Replay:
 
     def note_unsynced(self, path: str) -> None:
         """Notes that a file has bytes that no sync covers."""
-        self.unsynced.setdefault(self.inode(path), path)
+        self.unsynced.setdefault(self.inode(path), []).append(Change(self.done, path))
 
     def chmod(self, one: Chmod) -> None:
         os.chmod(self.path(one.path), one.mode)
