@@ -1,5 +1,6 @@
 -- The parts of a state, by the places of a set.
-use Rattle.std.proofs.Common.{◌≡◌, ◌≢◌, ℕ, ◌<◌, ◌≤◌, ◌==◌, cond, List, [], ◌∷◌, refl, sym, ap, ◌∙◌, subst, arith, ⊎_elim, length, get_or, fold, map}
+use Rattle.std.proofs.Common.{◌≡◌, ◌≢◌, ℕ, ◌<◌, ◌≤◌, ◌==◌, cond, List, [], ◌∷◌, refl, sym}
+use Rattle.std.proofs.Common.{ap, ◌∙◌, subst, arith, ⊎_elim, length, get_or, fold, map}
 use Rattle.std.proofs.lemmas.Bool.{cases_eq, eq-eqb, ne_eqb}
 use Rattle.std.proofs.lemmas.List.{get_or_past, get_or-set_same, get_or-set_other, length-set}
 use Rattle.std.specs.Prelude.{slice_set}
@@ -11,7 +12,8 @@ use Rattle.cs_micro.specs.declared.micro_op.MicroOp.TheVariants.{WriteBlock, Set
 use Rattle.cs_apm.specs.Contents.{content_after, content_left}
 use Rattle.cs_apm.specs.Owners.{owner_after}
 use Rattle.cs_apm.specs.Rules.{op_at}
-use Rattle.cs_apm.specs.States.{Content, State, directories_after, entries_after, files_after, no_content, no_rights, owners_after, state_after}
+use Rattle.cs_apm.specs.States.{Content, State, directories_after, entries_after, files_after, no_content, no_rights}
+use Rattle.cs_apm.specs.States.{owners_after, state_after}
 use Rattle.cs_apm.proofs.Contents.{file_left}
 
 pub entries_at : (s : State) (os : List MicroOp) → (fold state_after s os).entries ≡ fold entries_after s.entries os

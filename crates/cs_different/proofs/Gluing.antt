@@ -17,7 +17,6 @@ use Rattle.cs_sets.specs.Different.{IsLike, add_first, different, firsts, leave_
 use Rattle.cs_sets.specs.Every.{every}
 use Rattle.cs_sets.specs.Following.{chosen}
 use Rattle.cs_sets.specs.Places.{places_of}
-use Rattle.cs_sets.specs.Orders as places
 use Rattle.cs_sets.specs.Rows.{needed_in}
 use Rattle.cs_sets.specs.Sets.{IsAllowed, is_member}
 use Rattle.cs_sets.specs.Laws.Complete.{each_allowed, has_each}
@@ -65,16 +64,11 @@ module _ (needs : ℕ → ℕ → Bool) (back : IsBackward needs) (n : ℕ) (row
 
 -- the columns of an order that is the scene's
 pub columns_at : (s : Scene) (order : List (List Bool)) (rows items : List Row) → rows ≡ items → length items ≡ length order
-    → ((i j : ℕ) → i < length order → needed_in items i j ≡ (ltb j (length order) && by_chain (places.needs_in order) i j))
-    → length order ≡ length (order_in s) → places.needs_in order ≡ needs_in (order_in s)
-    → AreColumns (needs_in (order_in s)) (length (order_in s)) rows
-columns_at s order rows items e long each same agree = record {
-  long = ap length e ∙ long ∙ same;
-  each = λ i j low.
-      ap (λ r. needed_in r i j) e ∙ each i j (subst (λ m. i < m) (sym same) low)
-      ∙ ap (λ m. ltb j m && by_chain (places.needs_in order) i j) same
-      ∙ ap (λ f. ltb j (length (order_in s)) && by_chain f i j) agree;
-}
+    → ((i j : ℕ) → i < length order → needed_in items i j ≡ (ltb j (length order) && by_chain (needs_in order) i j))
+    → order ≡ order_in s → AreColumns (needs_in (order_in s)) (length (order_in s)) rows
+columns_at s order rows items e long each is =
+    subst (λ o. AreColumns (needs_in o) (length o) rows) is
+    (record { long = ap length e ∙ long; each = λ i j low. ap (λ r. needed_in r i j) e ∙ each i j low })
 
 -- ---- tests that agree
 

@@ -1,7 +1,5 @@
 //! Those sets of a scene's micro-operations that differ in what they leave.
-ghost use Rattle.std.specs.Prelude.{◌≡◌, ◌≤◌, length, map, IfErr, IfOk};
-ghost use Rattle.cs_plan.specs.Scenes.{order_in};
-ghost use Rattle.cs_sets.specs.Orders.{needs_in};
+ghost use Rattle.std.specs.Prelude.{◌≤◌, length, map, IfErr, IfOk};
 ghost use Rattle.cs_sets.specs.Places.{places_of};
 ghost use Rattle.cs_different.specs.Refusals.{IsRefused};
 ghost use Rattle.cs_different.specs.Sets.{AreDifferent};
@@ -15,30 +13,22 @@ use cs_apm::laws::rules_are_sentences;
 use cs_names::laws::know;
 use cs_plan::Scene;
 use cs_same_states::Parts;
-use cs_sets::{Order, Row};
+use cs_sets::Row;
 use std::alloc::{AllocError, Global};
 
 /// Of all sets of the scene's micro-operations that a crash may leave, the first of those that
-/// leave equal trees and as many acknowledged lines, ascending. `order` is that of the scene.
+/// leave equal trees and as many acknowledged lines, ascending.
 /// TooMany if the sets fall into more classes than are followed, More if more than `most` differ.
-pub fn different_sets(
-    alloc: Global,
-    scene: &Scene,
-    order: &Order,
-    most: u32,
-) -> Result<Vec<Row>, DifferentFault>
-    requires long { length order.now ≡ length (order_in scene.now) }
-    requires needs { needs_in order.now ≡ needs_in (order_in scene.now) }
+pub fn different_sets(alloc: Global, scene: &Scene, most: u32) -> Result<Vec<Row>, DifferentFault>
     ensures different { IfOk result (λ sets. AreDifferent scene.now (map places_of sets.items)) }
     ensures few { IfOk result (λ sets. length sets.items ≤ most) }
     ensures refused { IfErr result (IsRefused scene.now most) }
 {
+    let order = scene.order();
     // that an order is short, and each place needs only earlier ones
     know(order.len());
     // By this law, what the order allows is what the rules allow.
     rules_are_sentences(scene.micros());
-    // that the order has as many places as there are micro-operations
-    know(scene.order());
     let parts = Parts::of(alloc, scene)?;
     let needed = columns_of(alloc, order)?;
     let wanted = wants_of(alloc, scene, &parts)?;

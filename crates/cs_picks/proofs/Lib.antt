@@ -1,6 +1,5 @@
 mod Allowed
 mod Compared
-mod Filled
 mod Holes
 mod Printed
 mod Written

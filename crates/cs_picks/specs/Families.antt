@@ -1,6 +1,6 @@
 -- The families of sets.
-use Rattle.std.specs.Prelude.{ℕ, ◌+◌, ◌-◌, ◌==◌, ◌||◌, if◌then◌else◌, Bool, List, [], ◌∷◌, ◌++◌, length}
-use Rattle.std.specs.Prelude.{map, Option}
+use Rattle.std.specs.Prelude.{ℕ, ◌+◌, ◌-◌, ◌==◌, ◌||◌, if◌then◌else◌, Bool, List, []}
+use Rattle.std.specs.Prelude.{◌∷◌, ◌++◌, length, map, Option}
 use Rattle.std.specs.List.{filter, flat_map}
 use Rattle.cs_micro.specs.Micros.{Micros}
 use Rattle.cs_sets.specs.Chains.{by_chain}

@@ -9,7 +9,8 @@ use Rattle.cs_different.specs.declared.classes.TheConstants.{CLASSES}
 use Rattle.cs_different.specs.declared.fault.DifferentFault.{DifferentFault}
 use Rattle.cs_different.specs.declared.fault.DifferentFault.TheVariants as compared
 use Rattle.cs_every.specs.declared.fault.EveryFault.{EveryFault}
-use Rattle.cs_every.specs.declared.fault.EveryFault.TheVariants.{More, TooMany, TooManyClasses, Memory, Output}
+use Rattle.cs_every.specs.declared.fault.EveryFault.TheVariants.{More, TooMany, TooManyClasses}
+use Rattle.cs_every.specs.declared.fault.EveryFault.TheVariants.{Memory, Output}
 use Rattle.cs_every.specs.Drawn.{WritesSample}
 use Rattle.cs_every.specs.Faults.{IsOutside, IsUncounted, IsUndrawn}
 use Rattle.cs_every.specs.Texts.{count_text, picks_text}

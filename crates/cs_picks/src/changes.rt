@@ -1,28 +1,12 @@
 //! The files that micro-operations change. An operation changes a file if it sets its size, writes
 //! a block or sets its rights; a new, moved or deleted entry doesn't change the file.
 ghost use Rattle.std.specs.Prelude.{◌≡◌, ◌≤◌, ◌^◌, IfOk};
-ghost use Rattle.cs_picks.specs.Changes.{changed_files, file_changed, file_end, is_changed};
-ghost use Rattle.cs_picks.specs.Changes.{is_same_file, number_after};
+ghost use Rattle.cs_picks.specs.Changes.{changed_files, file_end, is_changed, is_same_file};
+ghost use Rattle.cs_picks.specs.Changes.{number_after};
 
 use cs_micro::MicroOp;
-use cs_trace::Target;
+use cs_same_states::changed_file;
 use std::alloc::{AllocError, Global};
-
-/// The number of the file whose size, block or rights the operation changes. None if it changes no
-/// file. `changed_file` of cs_same_states has the same cases: change both.
-pub fn file_changed(op: &MicroOp) -> Option<u32>
-    ensures { result ≡ file_changed op.now }
-{
-    match op {
-        MicroOp::ChangeFileSize { file, .. }
-        | MicroOp::WriteBlock { file, .. }
-        | MicroOp::SetAttr {
-            target: Target::File(file),
-            ..
-        } => Some(*file),
-        _ => None,
-    }
-}
 
 /// Whether `found` is the file of that number; false if `found` is None.
 pub fn is_same_file(found: Option<u32>, file: u32) -> bool
@@ -52,7 +36,7 @@ fn file_end(ops: &[MicroOp]) -> usize
 {
     let mut end = 0;
     for op in ops {
-        end = number_after(file_changed(op)).max(end);
+        end = number_after(changed_file(op)).max(end);
     }
     end
 }
@@ -61,7 +45,7 @@ fn file_end(ops: &[MicroOp]) -> usize
 fn is_changed(ops: &[MicroOp], file: u32) -> bool
     ensures { result ≡ is_changed ops.now file }
 {
-    ops.iter().any(|op| is_same_file(file_changed(op), file))
+    ops.iter().any(|op| is_same_file(changed_file(op), file))
 }
 
 /// The numbers of the files that the operations change, ascending, each once; empty if they change

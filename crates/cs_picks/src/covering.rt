@@ -3,9 +3,9 @@ ghost use Rattle.std.specs.Prelude.{◌≡◌, ℕ, List, true};
 ghost use Rattle.cs_plan.specs.Plans.{plan_of};
 ghost use Rattle.cs_picks.specs.Covering.{HasPairs, HasSingles};
 
-use cs_apm::Order;
 use cs_names::laws::know;
 use cs_plan::Plan;
+use cs_sets::Order;
 
 /// What a plan that was made with holes covers. If a crash may leave a set that has an operation
 /// and lacks an earlier one, some state of the plan has the one and lacks the other. And each set

@@ -31,7 +31,7 @@ pub fn write_different<W: Write>(
         (WritesDifferent scene.now most (W.contents out.old) (W.contents out.new)) }
     ensures fault { IfErr result (IsUncompared scene.now most) }
 {
-    let sets = match different_sets(alloc, scene, scene.order(), most) {
+    let sets = match different_sets(alloc, scene, most) {
         Ok(sets) => sets,
         Err(fault) => return Err(fault_of(fault)),
     };

@@ -11,10 +11,10 @@ ghost use Rattle.cs_every.specs.Texts.{picks_text};
 use crate::changes::changed_files;
 use crate::left::{is_given, left_of, lost_places};
 use crate::losses::losses_of;
-use cs_apm::Order;
 use cs_every::{EveryFault, write_pick};
 use cs_micro::Micros;
 use cs_names::laws::know;
+use cs_sets::Order;
 use std::alloc::Global;
 use std::io::Write;
 

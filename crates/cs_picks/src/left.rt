@@ -8,10 +8,10 @@ ghost use Rattle.cs_picks.specs.Left.{adds_nothing, is_given, left_of, loses_at,
 ghost use Rattle.cs_picks.specs.Left.{lost_places, stays};
 
 use crate::changes::is_same_file;
-use cs_apm::Order;
 use cs_names::laws::know;
 use cs_names::limits::MICRO_OPERATIONS;
 use cs_plan::members::is_kept;
+use cs_sets::Order;
 use std::alloc::{AllocError, Global};
 
 /// Whether a change of the file is lost at the place. `losses` has for each place the file whose

@@ -4,9 +4,9 @@ ghost use Rattle.std.specs.Prelude.{◌≡◌, ◌<◌, ◌≤◌, length, IfOk}
 ghost use Rattle.cs_apm.specs.Rules as rules;
 ghost use Rattle.cs_picks.specs.Losses.{losses_of, lost_at};
 
-use crate::changes::file_changed;
 use cs_apm::is_covered;
 use cs_micro::{MicroOp, SyncPoint};
+use cs_same_states::changed_file;
 use std::alloc::{AllocError, Global};
 
 /// Whether a sync point after `op`, the operation at the place, and before the operation at `last`
@@ -28,7 +28,7 @@ fn lost_at(ops: &[MicroOp], syncs: &[SyncPoint], last: usize, place: usize) -> O
     if is_synced(syncs, place, last, op) {
         return None;
     }
-    file_changed(op)
+    changed_file(op)
 }
 
 /// For each place of the prefix of `end` places, the file whose change there a crash may lose: None

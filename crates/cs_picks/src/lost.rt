@@ -7,9 +7,9 @@ ghost use Rattle.cs_picks.specs.Families.{is_needed, least_with, lost_sets};
 ghost use Rattle.cs_every.specs.Faults.{IsOutside};
 ghost use Rattle.cs_every.specs.Texts.{picks_text};
 
-use cs_apm::Order;
 use cs_every::{EveryFault, write_pick};
 use cs_names::laws::know;
+use cs_sets::Order;
 use std::alloc::{AllocError, Global};
 use std::io::Write;
 

@@ -27,11 +27,7 @@ pub enum PickSets {
 }
 
 /// Writes all sets of the scene. If there are more than `most`, nothing is written.
-fn write_all_sets<W: Write>(
-    scene: &Scene,
-    most: u32,
-    out: &mut W,
-) -> Result<(), EveryFault>
+fn write_all_sets<W: Write>(scene: &Scene, most: u32, out: &mut W) -> Result<(), EveryFault>
     ensures written { OnOk result
         (WritesSets scene.now (forms.Every most) (W.contents out.old) (W.contents out.new)) }
     ensures fault { IfErr result (IsRefused scene.now (forms.Every most)) }

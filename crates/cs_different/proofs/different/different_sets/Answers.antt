@@ -31,11 +31,11 @@ class_sets-requires-clause-backward c =
     let s = c.args.scene.now in
     let needs = needs_in (order_in s) in
     let n = length (order_in s) in
-    let back : IsBackward needs = subst IsBackward c.requires.needs c.len.ensures.backward in
+    let back : IsBackward needs = subst IsBackward (ap needs_in c.order-order.ensures.value) c.len.ensures.backward in
     let rows = c.as_slice-2.result.now in
     let cols : AreColumns needs n rows =
-    columns_at s c.args.order.now rows c.in_ok-needed.needed.items c.as_slice-2.ensures.value c.in_ok-needed.ensures.long
-    c.in_ok-needed.ensures.chains c.requires.long c.requires.needs in
+    columns_at s c.order-order.result.now rows c.in_ok-needed.needed.items c.as_slice-2.ensures.value c.in_ok-needed.ensures.long
+    c.in_ok-needed.ensures.chains c.order-order.ensures.value in
     columns_backward needs back n rows cols
 
 pub returns-in_err-classes-clause-refused : goal.returns-in_err-classes-clause-refused
@@ -43,11 +43,11 @@ returns-in_err-classes-clause-refused c =
     let s = c.args.scene.now in
     let needs = needs_in (order_in s) in
     let n = length (order_in s) in
-    let back : IsBackward needs = subst IsBackward c.requires.needs c.len.ensures.backward in
+    let back : IsBackward needs = subst IsBackward (ap needs_in c.order-order.ensures.value) c.len.ensures.backward in
     let rows = c.as_slice-2.result.now in
     let cols : AreColumns needs n rows =
-    columns_at s c.args.order.now rows c.in_ok-needed.needed.items c.as_slice-2.ensures.value c.in_ok-needed.ensures.long
-    c.in_ok-needed.ensures.chains c.requires.long c.requires.needs in
+    columns_at s c.order-order.result.now rows c.in_ok-needed.needed.items c.as_slice-2.ensures.value c.in_ok-needed.ensures.long
+    c.in_ok-needed.ensures.chains c.order-order.ensures.value in
     let P : DifferentFault → Type 0 = λ fault. (fault ≡ Memory) ⊎ ((fault ≡ TooMany) × (CLASSES < length (every (needed_in rows) (length
     rows)))) in
     let known : IfErr c.from_residual-in_err-classes.result P = search rules in
@@ -64,16 +64,16 @@ firsts_of-requires-clause-sets c =
     let s = c.args.scene.now in
     let needs = needs_in (order_in s) in
     let n = length (order_in s) in
-    let back : IsBackward needs = subst IsBackward c.requires.needs c.len.ensures.backward in
+    let back : IsBackward needs = subst IsBackward (ap needs_in c.order-order.ensures.value) c.len.ensures.backward in
     let rows = c.as_slice-2.result.now in
     let cols : AreColumns needs n rows =
-    columns_at s c.args.order.now rows c.in_ok-needed.needed.items c.as_slice-2.ensures.value c.in_ok-needed.ensures.long
-    c.in_ok-needed.ensures.chains c.requires.long c.requires.needs in
+    columns_at s c.order-order.result.now rows c.in_ok-needed.needed.items c.as_slice-2.ensures.value c.in_ok-needed.ensures.long
+    c.in_ok-needed.ensures.chains c.order-order.ensures.value in
     let wants = bit_in c.as_slice.result.now in
     let are : (z k : ℕ) → wants z k ≡ true → Wants s z k =
     (λ z k t. c.in_ok-wanted.ensures.wants z k (ap (λ r. bit_in r z k) (sym c.as_slice.ensures.value) ∙ t)) in
     let long : length (order_in s) ≡ length (micros_of s).ops =
-    ap length (sym c.order.ensures.value) ∙ c.order.ensures.long in
+    ap length (sym c.order-order.ensures.value) ∙ c.order-order.ensures.long in
     let told : (p : List ℕ) → sets.IsAllowed needs n p ↔ IsLeavable s p =
     subst (λ (m : Micros). (p : List ℕ) → sets.IsAllowed (needs_in (order_of m)) (length (order_of m)) p
     ↔ sets.IsAllowed (needs_of m) (length m.ops) p) c.micros.ensures
@@ -88,16 +88,16 @@ returns-in_err-sets-clause-refused c =
     let s = c.args.scene.now in
     let needs = needs_in (order_in s) in
     let n = length (order_in s) in
-    let back : IsBackward needs = subst IsBackward c.requires.needs c.len.ensures.backward in
+    let back : IsBackward needs = subst IsBackward (ap needs_in c.order-order.ensures.value) c.len.ensures.backward in
     let rows = c.as_slice-2.result.now in
     let cols : AreColumns needs n rows =
-    columns_at s c.args.order.now rows c.in_ok-needed.needed.items c.as_slice-2.ensures.value c.in_ok-needed.ensures.long
-    c.in_ok-needed.ensures.chains c.requires.long c.requires.needs in
+    columns_at s c.order-order.result.now rows c.in_ok-needed.needed.items c.as_slice-2.ensures.value c.in_ok-needed.ensures.long
+    c.in_ok-needed.ensures.chains c.order-order.ensures.value in
     let wants = bit_in c.as_slice.result.now in
     let are : (z k : ℕ) → wants z k ≡ true → Wants s z k =
     (λ z k t. c.in_ok-wanted.ensures.wants z k (ap (λ r. bit_in r z k) (sym c.as_slice.ensures.value) ∙ t)) in
     let long : length (order_in s) ≡ length (micros_of s).ops =
-    ap length (sym c.order.ensures.value) ∙ c.order.ensures.long in
+    ap length (sym c.order-order.ensures.value) ∙ c.order-order.ensures.long in
     let told : (p : List ℕ) → sets.IsAllowed needs n p ↔ IsLeavable s p =
     subst (λ (m : Micros). (p : List ℕ) → sets.IsAllowed (needs_in (order_of m)) (length (order_of m)) p
     ↔ sets.IsAllowed (needs_of m) (length m.ops) p) c.micros.ensures
@@ -131,16 +131,16 @@ returns-clause-different c =
     let s = c.args.scene.now in
     let needs = needs_in (order_in s) in
     let n = length (order_in s) in
-    let back : IsBackward needs = subst IsBackward c.requires.needs c.len.ensures.backward in
+    let back : IsBackward needs = subst IsBackward (ap needs_in c.order-order.ensures.value) c.len.ensures.backward in
     let rows = c.as_slice-2.result.now in
     let cols : AreColumns needs n rows =
-    columns_at s c.args.order.now rows c.in_ok-needed.needed.items c.as_slice-2.ensures.value c.in_ok-needed.ensures.long
-    c.in_ok-needed.ensures.chains c.requires.long c.requires.needs in
+    columns_at s c.order-order.result.now rows c.in_ok-needed.needed.items c.as_slice-2.ensures.value c.in_ok-needed.ensures.long
+    c.in_ok-needed.ensures.chains c.order-order.ensures.value in
     let wants = bit_in c.as_slice.result.now in
     let are : (z k : ℕ) → wants z k ≡ true → Wants s z k =
     (λ z k t. c.in_ok-wanted.ensures.wants z k (ap (λ r. bit_in r z k) (sym c.as_slice.ensures.value) ∙ t)) in
     let long : length (order_in s) ≡ length (micros_of s).ops =
-    ap length (sym c.order.ensures.value) ∙ c.order.ensures.long in
+    ap length (sym c.order-order.ensures.value) ∙ c.order-order.ensures.long in
     let told : (p : List ℕ) → sets.IsAllowed needs n p ↔ IsLeavable s p =
     subst (λ (m : Micros). (p : List ℕ) → sets.IsAllowed (needs_in (order_of m)) (length (order_of m)) p
     ↔ sets.IsAllowed (needs_of m) (length m.ops) p) c.micros.ensures
