@@ -41,6 +41,8 @@ WORDS = {
 }
 # How often the last line may be one that doesn't fit.
 FAULTY = 0.1
+# How often an operation of version 4 is followed by the removal of a directory.
+EMPTYING = 0.1
 
 
 class RandomTrace:
@@ -59,6 +61,8 @@ class RandomTrace:
             self.add(self.start())
         for _ in range(self.random.randrange(*operations)):
             self.add(self.operation())
+            if self.version > 3 and self.random.random() < EMPTYING:
+                self.remove_directory()
         if self.random.random() < FAULTY:
             self.lines.append(as_line(self.operation()))
         return '\n'.join(self.lines) + '\n'
@@ -70,6 +74,15 @@ class RandomTrace:
         except ReadingFault:
             return
         self.lines.append(line)
+
+    def remove_directory(self) -> None:
+        """Empties a directory, and removes it or puts another in its place."""
+        directory = self.pick('/d', '/e', '/d/e', '/e/d')
+        for path in reversed(self.paths):
+            if path.startswith(f'{directory}/'):
+                self.add({'op': self.pick('unlink', 'rmdir'), 'path': path})
+        self.add({'op': 'rmdir', 'path': directory})
+        self.add({'op': 'rename', 'from': self.pick(*self.paths), 'to': directory})
 
     def pick(self, *choices: Any) -> Any:
         return self.random.choice(choices)

@@ -4,6 +4,7 @@ import os
 import re
 import shutil
 import subprocess
+import tarfile
 import unittest
 
 from crashfs_tools.common import limits
@@ -54,6 +55,8 @@ for name, length, parts in [
 ]:
     parts = ','.join(f'{{"at":{at},"text":"{text}"}}' for at, text in parts)
     SPARSE += f'{{"start":"file","path":"/{name}",{RIGHTS},"length":{length},"parts":[{parts}]}}\n'
+LONG_SPARSE = SPARSE.partition('\n')[0] + '\n'
+LONG_SPARSE += f'{{"start":"file","path":"/{LONG}",{RIGHTS},"length":70000,"parts":[]}}\n'
 SPARSE += """\
 {"op":"write","path":"/b","offset":4095,"text":"ab"}
 {"op":"truncate","path":"/d","length":600001}
@@ -156,6 +159,15 @@ class Archives(InFolder):
             self.assertEqual(both[0], both[1], state)
         self.assertLess(sizes[1], 120_000)
         self.assertGreater(sizes[0], 1_000_000)
+
+    def test_a_file_in_pieces_has_its_long_name_for_python_too(self):
+        trace = self.write('long.trace', LONG_SPARSE)
+        with open(self.path('archive'), 'wb') as out:
+            words = ['tar', '--trace', trace, '--state', '0', '--sparse']
+            subprocess.run([FAKE, *words], stdout=out, check=True)
+        with tarfile.open(self.path('archive')) as archive:
+            self.assertEqual(archive.getnames(), ['.', LONG])
+        self.assertEqual(self.tar('-tf', self.path('archive')).decode(), f'./\n{LONG}\n')
 
     def assert_states(self, trace, text, step=1):
         """Each state, or each so many, is as the second reading has it, alone and in a range."""

@@ -90,14 +90,17 @@ class ArchiveWriter:
         The name of the info changes as that format has it."""
         runs = runs_of(data)
         head = map_of(runs, data.length)
+        above, slash, name = info.name.rpartition('/')
+        own_name = f'{above}{slash}GNUSparseFile.0/{name}'
         info.pax_headers = {
+            # It comes first: to Python's tarfile the last of two names counts.
+            'path': own_name,
             'GNU.sparse.major': '1',
             'GNU.sparse.minor': '0',
             'GNU.sparse.name': info.name,
             'GNU.sparse.realsize': str(data.length),
         }
-        above, slash, name = info.name.rpartition('/')
-        info.name = f'{above}{slash}GNUSparseFile.0/{name}'
+        info.name = own_name
         info.size = len(head) + sum(end - begin for begin, end in runs)
         self.file.addfile(info, Reader(data, runs, head))
 
