@@ -87,10 +87,10 @@ def failure_lines(rows: List[Row]) -> Iterator[str]:
     """The lines with the first entry of a report of each store: of its first session that has
     one. The data has those of all sessions."""
     yield from ('', '## The first failure of each store', '')
-    told: Set[str] = set()
+    shown: Set[str] = set()
     for row in rows:
-        if row['failing'] and row['store'] not in told:
-            told.add(row['store'])
+        if row['failing'] and row['store'] not in shown:
+            shown.add(row['store'])
             yield from (f'{row["store"]}, {row["session"]} (`{row["key"]}`):', '')
             yield from (f'    {line}'.rstrip() for line in row['report'])
             yield ''

@@ -107,8 +107,8 @@ class Tables(unittest.TestCase):
             if one['failing']:
                 first.setdefault(one['store'], one['key'])
         for one in ROWS:
-            is_told = first.get(one['store']) == one['key']
-            self.assertEqual(f'(`{one["key"]}`)' in text, is_told, one['key'])
+            is_shown = first.get(one['store']) == one['key']
+            self.assertEqual(f'(`{one["key"]}`)' in text, is_shown, one['key'])
 
 
 class Rows(InFolder):
