@@ -3,7 +3,7 @@
 from __future__ import annotations
 
 import json
-from typing import Any, Dict, Iterator, List
+from typing import Any, Dict, Iterator, List, Set
 
 from .sources import TOP
 
@@ -20,7 +20,7 @@ Row = Dict[str, Any]
 
 
 def results_part() -> str:
-    """The made part of the page: the table, and the first entry of each report with failures."""
+    """The made part of the page: the table, and of each store the first entry of a report."""
     rows: List[Row] = json.loads(DATA.read_text('utf-8'))
     return '\n'.join([*table_lines(rows), *failure_lines(rows)])
 
@@ -84,10 +84,13 @@ def disk_cell(row: Row, name: str) -> str:
 
 
 def failure_lines(rows: List[Row]) -> Iterator[str]:
-    """The lines with the first entry of each session's report that has one."""
-    yield from ('', '## The first failure of each', '')
+    """The lines with the first entry of a report of each store: of its first session that has
+    one. The data has those of all sessions."""
+    yield from ('', '## The first failure of each store', '')
+    shown: Set[str] = set()
     for row in rows:
-        if row['failing']:
+        if row['failing'] and row['store'] not in shown:
+            shown.add(row['store'])
             yield from (f'{row["store"]}, {row["session"]} (`{row["key"]}`):', '')
             yield from (f'    {line}'.rstrip() for line in row['report'])
             yield ''

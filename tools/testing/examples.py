@@ -48,14 +48,14 @@ def script_examples() -> Dict[Files, List[str]]:
     return found
 
 
-def compare_example(outcome: Outcome, expected: str, printed: str) -> None:
-    """Counts an example as passed or failed in an outcome: whether the file `expected` has what was
-    printed."""
-    if printed == (EXAMPLES / expected).read_text('utf-8'):
+def count_example(outcome: Outcome, name: str, printed: str) -> None:
+    """Counts an example as passed or failed in an outcome: whether the file of this name has what
+    was printed, byte for byte."""
+    if printed.encode() == (EXAMPLES / name).read_bytes():
         outcome.passed += 1
     else:
         outcome.failed += 1
-        outcome.output += f'examples/{expected} is not what was printed:\n{printed[-2000:]}\n'
+        outcome.output += f'examples/{name} is not what was printed:\n{printed[-2000:]}\n'
 
 
 def output_of(words: List[str], folder: Path, given: Optional[Path] = None) -> str:
@@ -80,13 +80,13 @@ def try_examples(has_rt: bool) -> Outcome:
     outcome = Outcome('examples')
     for name in list_examples():
         words = [*head, 'list', '--trace', f'{name}.trace', '--holes']
-        compare_example(outcome, f'{name}.list', output_of(words, EXAMPLES))
+        count_example(outcome, f'{name}.list', output_of(words, EXAMPLES))
     for files, names in script_examples().items() if program else ():
         for name in names:
             found = output_of(
                 [*head, *files.script_command()], EXAMPLES, EXAMPLES / f'{name}.script'
             )
-            compare_example(outcome, f'{name}.replies', found)
+            count_example(outcome, f'{name}.replies', found)
     if not program and not has_rt:
         outcome.left.append(
             f'{sum(map(len, script_examples().values()))} examples: {NEEDS_PROGRAM}'
@@ -108,6 +108,6 @@ def try_scripts(files: Files, names: List[str]) -> Outcome:
         )
     replies = dict(CASE.findall(said))
     for name in names:
-        compare_example(outcome, f'{name}.replies', replies.get(f'{name}.script', said))
+        count_example(outcome, f'{name}.replies', replies.get(f'{name}.script', said))
     outcome.seconds = time.monotonic() - begin
     return outcome

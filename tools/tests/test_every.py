@@ -142,8 +142,18 @@ class Rows(unittest.TestCase):
         self.assertEqual(
             list(map(text_of, every_set(Order(reading)))), ['[]', '[1]', '[0]', '[0,1]']
         )
-        both = Order(reading).within(reading, 'ordered')
+        both = Order(reading).also_under(reading, 'ordered')
         self.assertEqual(list(map(text_of, every_set(both))), ['[]', '[0]', '[0,1]'])
+
+    def test_what_one_of_two_profiles_makes_durable_is_not_pending(self) -> None:
+        # The fsync of /b writes the log, with the profile journal: /a is in it.
+        sync = '{"op":"fsync","path":"/b"}'
+        header = HEADERS['blocks'].replace('"trace":3', '"trace":4')
+        reading = reading_of([header, creat('/a'), creat('/b'), sync, creat('/c')])
+        blocks, both = Order(reading), Order(reading).also_under(reading, 'journal')
+        self.assertEqual(both.profile, 'journal')
+        self.assertEqual((blocks.pending(2), both.pending(2)), (0b11, 0))
+        self.assertEqual((blocks.pending(3), both.pending(3)), (0b111, 0b100))
 
 
 class AllSets(unittest.TestCase):

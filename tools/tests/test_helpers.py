@@ -184,7 +184,8 @@ class Helpers(unittest.TestCase):
         program = self.make_cpp()
         printed = self.check('cpp', program)
         self.assertEqual(len(re.findall(r'example_test.cpp:\d+: Failure\n', printed)), 2)
-        shard = {'GTEST_TOTAL_SHARDS': '2', 'GTEST_SHARD_INDEX': '0'}
+        # Of three tests it is the last, and the only one that it starts itself.
+        shard = {'GTEST_TOTAL_SHARDS': '3', 'GTEST_SHARD_INDEX': '2'}
         self.assertIn(FOUND[1], self.run_in('cpp', program, EXAMPLE_BUG='1', **shard).stdout)
 
     @needs('g++')

@@ -306,14 +306,21 @@ class AsAProgram(InFolder):
             ['list', '--trace', 'a', '--count'],
             *(
                 ['tar', '--trace', str(EXAMPLES / 'store.trace'), '--states', states]
-                for states in ('', '3-1', '3-', 'x', '1,,2')
+                for states in ('', '3-1', '3-', 'x', '1,,2', '²', '١', '9' * 5000)
             ),
         ):
             ran = self.run_reading(*words)
             self.assertEqual((ran.returncode, ran.stdout), (2, ''), words)
             self.assertTrue(ran.stderr.startswith('error: '), ran.stderr)
-        ran = self.run_reading('tar', '--trace', str(EXAMPLES / 'store.trace'), '--state', '99')
-        self.assertEqual((ran.returncode, ran.stderr), (1, 'crashfs: no such state\n'))
+        for option, states in (
+            ('--state', '99'),
+            ('--states', '0-99'),
+            ('--states', '0-99999999999999'),
+            ('--states', f'1,{2**64 - 1}'),
+        ):
+            words = 'tar', '--trace', str(EXAMPLES / 'store.trace'), option, states
+            ran = self.run_reading(*words)
+            self.assertEqual((ran.returncode, ran.stderr), (1, 'crashfs: no such state\n'), words)
 
     def test_a_reader_that_leaves_is_no_fault_to_report(self):
         reader, writer = os.pipe()

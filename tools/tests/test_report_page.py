@@ -232,6 +232,15 @@ class JUnit(unittest.TestCase):
             minidom.parseString(text.encode())
             self.assertNotIn('\u202e', text)
 
+    def test_what_was_not_tried_is_an_error(self):
+        report = odd_report()
+        report.head.stopped = 'the time limit'
+        suite = minidom.parseString(''.join(junit_lines(report))).documentElement
+        (error,) = suite.getElementsByTagName('error')
+        self.assertEqual(suite.getAttribute('errors'), '1')
+        self.assertRegex(error.parentNode.getAttribute('name'), '^all other states')
+        self.assertRegex(error.getAttribute('message'), '^a.trace: .* micro-operations, ')
+
     def test_a_state_without_an_answer_is_an_error(self):
         findings = odd_findings()
         for group in findings.groups:

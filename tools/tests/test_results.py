@@ -99,11 +99,16 @@ class Tables(unittest.TestCase):
         self.assertEqual(some[2:4], ['100 tried (of uncounted)', '12 lost'])
         self.assertEqual(list(row_cells(row(failing=0, causes={})))[3:6], ['none', '', ''])
 
-    def test_the_page_has_each_row_and_the_first_failure(self) -> None:
+    def test_the_page_has_each_row_and_the_first_failure_of_each_store(self) -> None:
         text = results_part()
+        first: Dict[str, str] = {}
         for one in ROWS:
             self.assertIn(f'[{one["session"]}]', text)
-            self.assertEqual(f'(`{one["key"]}`)' in text, one['failing'] > 0, one['key'])
+            if one['failing']:
+                first.setdefault(one['store'], one['key'])
+        for one in ROWS:
+            is_shown = first.get(one['store']) == one['key']
+            self.assertEqual(f'(`{one["key"]}`)' in text, is_shown, one['key'])
 
 
 class Rows(InFolder):

@@ -10,6 +10,7 @@ import subprocess
 import unittest
 from subprocess import PIPE
 from typing import List
+from xml.etree import ElementTree
 
 from crashfs_tools.checker.findings.accepted_failures import AcceptedFailures
 from crashfs_tools.checker.findings.second_crashes import Recovery
@@ -161,13 +162,19 @@ class Command(InFolder):
 
 class SecondCrashes(InRecoveries):
     def test_a_crash_during_recovery_is_a_test(self) -> None:
-        ran = self.nested('--nested', '2', '--tap', 'r.tap')
+        ran = self.nested('--nested', '2', '--tap', 'r.tap', '--junit', 'r.xml')
         self.assertEqual((ran.returncode, ran.stderr), (1, ''), ran.stdout)
         text = self.read('r.tap')
         self.assertIn('\nnot ok 1 - lost: a=2 is not there\n# lost: a=2 is not there\n', text)
         self.assertRegex(text, r'\n#   state (\d+), then a crash at line \d+ of its recovery ')
         self.assertRegex(text, r'\n#   state \d+/\d+ of store.trace\n')
         self.assertTrue(re.search(r'\nok \d+ - all other states \(\d+\)\n$', text), text)
+        suite = ElementTree.parse(self.path('r.xml')).getroot()
+        tests = text.count('not ok ') + 1
+        self.assertEqual(
+            [suite.get(key) for key in ('tests', 'failures')], [f'{tests}', f'{tests - 1}']
+        )
+        self.assertEqual(suite[0].get('name'), 'lost: a=2 is not there')
 
 
 if __name__ == '__main__':

@@ -8,8 +8,7 @@ trap 'rm -rf "$work"' EXIT
 all() {
     [ ! -e lock.exclusive ] || borg break-lock . 2>/dev/null
     for what in 'check --verify-data' 'list --short'; do
-        printed=$(borg $what . 2>&1) || { printf '%s\n' "$printed" | tail -n 1; return 1; }
+        borg $what . 2>"$work/faults" || { tail -n 1 "$work/faults"; return 1; }
     done
-    printf '%s\n' "$printed"
 }
 recover all

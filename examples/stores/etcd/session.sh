@@ -8,7 +8,7 @@ cd "$run" || exit
 client=unix://client:1 peer=unix://peer:1
 etcd --data-dir "$data" --listen-client-urls $client --advertise-client-urls $client \
     --listen-peer-urls $peer --initial-advertise-peer-urls $peer \
-    --initial-cluster default=$peer >log 2>&1 &
+    --initial-cluster default=$peer --heartbeat-interval 20 --election-timeout 100 >log 2>&1 &
 server=$!
 ask() { etcdctl --endpoints $client --command-timeout 30s "$@" 2>faults; }
 until [ -S client:1 ]; do

@@ -18,6 +18,8 @@ ENCODING = 'utf-8', 'surrogateescape'
 CHANGES = ('write', 'truncate', 'chmod', 'chown')
 ENTRY_CHANGES = ('creat', 'mkdir', 'unlink', 'rmdir', 'rename', 'link', 'symlink')
 SYNCS = ('fsync', 'fdatasync', 'fsync_range', 'sync')
+# Lines after which a path may name another file, or none.
+PATH_CHANGES = ('rename', 'unlink', 'rmdir')
 LARGEST_SAY = 40
 # What differs from run to run in a name or a cause: hashes, the directories that are named by two
 # digits of one, the six letters of mkstemp, and numbers.
@@ -77,6 +79,13 @@ class TraceLine(NamedTuple):
     def paths_with_slash(self) -> List[str]:
         """The one or two paths of the line, each with a slash at its end."""
         return [path.rstrip('/') + '/' for path in (self.path, self.target) if path]
+
+    def takes_path(self, path: str) -> bool:
+        """Whether a path doesn't name the same file, or directory, after this line as before it:
+        the line renames or removes that or a directory above it, or renames another to the path."""
+        if self.word not in PATH_CHANGES or self.path == self.target:
+            return False
+        return self.target == path or f'{path}/'.startswith(f'{self.path}/')
 
     @property
     def synced_by(self) -> Optional[str]:

@@ -25,10 +25,11 @@ LAZY = ('-E', 'lazy_itable_init=0,lazy_journal_init=0')
 
 @dataclass(frozen=True)
 class FileSystem:
-    """How a file system is made and mounted. name is that of --disks. program makes it, with words
-    before the image's path; size is the image's in bytes; options are those of mount(8). repair is
-    the command that must be run on an image before it can be mounted after a crash, if it has no
-    log."""
+    """How a file system is made and mounted. name is that of --disks. program makes it, `mkfs.` and
+    its type, with words before the image's path; size is the image's in bytes. options are the data
+    that mount(2) passes to it: those of all file systems, such as `ro`, are flags, and refused.
+    repair is the command that must be run on an image before it can be mounted after a crash, if it
+    has no log."""
 
     name: str
     program: str
@@ -39,7 +40,7 @@ class FileSystem:
 
     @property
     def kind(self) -> str:
-        """The type that `mount` is given."""
+        """The type that mount(2) is given."""
         return self.program.partition('.')[2]
 
 
@@ -47,7 +48,7 @@ EXT4 = FileSystem('ext4', 'mkfs.ext4', (*EXT_BLOCKS, '-J', 'size=4', *LAZY), 24 
 
 
 def ext4_with(name: str, options: str) -> FileSystem:
-    """ext4 with options of mount(8), under a name of its own."""
+    """ext4 with options of its own, as mount(2) passes them, under another name."""
     return FileSystem(name, EXT4.program, EXT4.words, EXT4.size, options)
 
 

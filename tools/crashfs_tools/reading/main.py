@@ -8,7 +8,7 @@ from typing import Dict, List, Union
 
 from .faults import ReadingFault
 from .listing import json_listing, listing
-from .picking import Usage, printed_lines, refuse_options
+from .picking import Usage, is_number, printed_lines, refuse_options
 from .plan import StateList, add_families, plan_of, read_picks
 from .trace import read
 
@@ -126,26 +126,27 @@ def states_of(plan: StateList, options: Options) -> List[int]:
     """The numbers of the states that options name, in their order; ReadingFault if one isn't
     there."""
     if '--state' in options:
-        number = str(options['--state'])
-        if not number.isdecimal():
-            raise Usage(f"invalid value '{number}' for '--state <N>'")
-        numbers = [int(number)]
+        shown = str(options['--state'])
+        if not is_number(shown):
+            raise Usage(f"invalid value '{shown}' for '--state <N>'")
+        ranges = [range(int(shown), int(shown) + 1)]
     else:
-        numbers = numbers_of(str(options.get('--states', '')))
-    if max(numbers) >= len(plan.states):
+        ranges = ranges_of(str(options.get('--states', '')))
+    # A range may have more numbers than there is memory for.
+    if any(one[-1] >= len(plan.states) for one in ranges):
         raise ReadingFault('no such state')
-    return numbers
+    return [number for one in ranges for number in one]
 
 
-def numbers_of(shown: str) -> List[int]:
-    """The numbers of a list of numbers and ranges, in its order; Usage if it isn't one."""
-    numbers: List[int] = []
+def ranges_of(shown: str) -> List[range]:
+    """The ranges of a list of numbers and ranges, in its order; Usage if it isn't one."""
+    ranges: List[range] = []
     for piece in shown.split(','):
         first, dash, last = piece.partition('-')
-        if not first.isdecimal() or bool(dash) != last.isdecimal():
+        if not is_number(first) or not is_number(last if dash else first):
             raise Usage(f"invalid value '{shown}' for '--states <LIST>'")
-        more = range(int(first), int(last or first) + 1)
-        if not more:
+        numbers = range(int(first), int(last or first) + 1)
+        if not numbers:
             raise Usage(f"invalid value '{shown}' for '--states <LIST>'")
-        numbers.extend(more)
-    return numbers
+        ranges.append(numbers)
+    return ranges

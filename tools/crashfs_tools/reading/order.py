@@ -139,9 +139,12 @@ class Order:
         return self.units.get(lowest.bit_length() - 1, lowest)
 
     def needed_in_both(self, other: Order) -> Order:
-        """The order that allows a set if this one and another do, of the same micro-operations."""
+        """The order that allows a set if this one and another do, of the same micro-operations.
+        What one of them has made durable is durable."""
         both = copy(self)
         both.needs, both.units = [], {**self.units, **other.units}
+        both.synced = list(map(or_, self.synced, other.synced))
+        both.logged = list(map(or_, self.logged, other.logged))
         for place, needs in enumerate(map(or_, self.needs, other.needs)):
             if place in both.units:
                 needs |= (self.needs[place + 1] | other.needs[place + 1]) & ~(1 << place)
@@ -151,13 +154,15 @@ class Order:
         both.needed_by = inverse(both.needs)
         return both
 
-    def within(self, reading: Reading, profile: str) -> Order:
+    def also_under(self, reading: Reading, profile: str) -> Order:
         """The order that allows a set if this one does, and a file system of a profile may leave
-        it: only with `blocks` a rename may be half done."""
+        it: only with `blocks` a rename may be half done. The reading is that of this order."""
         other = Order(reading, profile)
         if profile != 'blocks':
             other.units = {place: 0b11 << place for place in half_places(reading.operations)}
-        return self.needed_in_both(other)
+        both = self.needed_in_both(other)
+        both.profile = profile
+        return both
 
     def acknowledged_first(self, reading: Reading) -> Order:
         """The order that allows a set if this one does, and the set has, for each member, all
@@ -237,7 +242,7 @@ def order_in(reading: Reading, profile: str) -> Order:
     if profile not in profile_names(reading):
         raise ReadingFault('no such profile')
     order = Order(reading)
-    return order if profile == order.profile else order.within(reading, profile)
+    return order if profile == order.profile else order.also_under(reading, profile)
 
 
 def orders_in(reading: Reading) -> Dict[str, Order]:

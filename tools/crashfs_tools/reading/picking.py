@@ -52,10 +52,14 @@ def number_of(options: Options, option: str, default: int = MOST) -> int:
     if option not in options:
         return default
     text = str(options[option])
-    is_number = text.isascii() and text.isdigit() and len(text) <= 20
-    if not is_number or not LEAST[option] <= int(text) <= LARGEST[option]:
+    if not is_number(text) or not LEAST[option] <= int(text) <= LARGEST[option]:
         raise Usage(f"invalid value '{text}' for '{option} <N>'")
     return int(text)
+
+
+def is_number(text: str) -> bool:
+    """Whether a text is a number that eight bytes hold."""
+    return text.isascii() and text.isdecimal() and len(text) <= 20 and int(text) < 2**64
 
 
 def printed_lines(reading: Reading, options: Options) -> Iterator[str]:

@@ -7,7 +7,7 @@ from typing import Dict, List, Optional
 
 from crashfs_tools.common.trace_lines import TraceLine
 
-from .sync_points import Places, is_synced, sync_points
+from .sync_points import Places, end_of_path, is_synced, sync_points
 
 ATOMIC = 'write a new file, sync it, rename it, sync the directory'
 ONE_CHANGE = f'no sync helps: make these lines one change ({ATOMIC})'
@@ -108,16 +108,9 @@ def loss_advice(
             target = f'the directory {path} is never synced: fsync it'
     more = len(syncs) - 1
     also = f' (and at {more:,} more place{"s" if more > 1 else ""})' if more > 0 else ''
-    where = 'between them' + before_rename(path, range(lost.number, kept.number), lines)
-    return Advice(before, f'{target} {where}{also}', syncs)
-
-
-def before_rename(path: str, between: range, lines: Dict[int, TraceLine]) -> str:
-    """Names the line that renames a file, of the lines of a range, since the sync belongs before
-    it; an empty text if there is none."""
-    found = (lines[number] for number in between if number in lines)
-    first = next((one for one in found if (one.word, one.path) == ('rename', path)), None)
-    return f', before line {first.number} ({first.text})' if first else ''
+    end = end_of_path(path, range(lost.number + 1, kept.number), lines)
+    where = f', before line {end.number} ({end.text})' if end else ''
+    return Advice(before, f'{target} between them{where}{also}', syncs)
 
 
 def kept_text(kept: TraceLine) -> str:

@@ -2,7 +2,7 @@
 
 from __future__ import annotations
 
-from typing import Dict, Iterable, NamedTuple, Tuple
+from typing import Dict, Iterable, NamedTuple, Optional, Tuple
 
 from crashfs_tools.common.trace_lines import SYNCS, TraceLine
 
@@ -23,7 +23,9 @@ def sync_points(places: Places, lines: Dict[int, TraceLine]) -> Dict[int, str]:
     """The path to sync after each line, by its number: as few as serve all pairs, since one sync
     serves those that it is between. Pairs whose lost line no sync makes durable are left out."""
     points: Dict[int, str] = {}
-    left = sorted(interval(lost, kept, lines) for lost, kept in places if is_syncable(lost, lines))
+    left = sorted(
+        sync_interval(lost, kept, lines) for lost, kept in places if is_syncable(lost, lines)
+    )
     while left:
         earliest = left[0]
         same = [one for one in left if one.path == earliest.path and one.first < earliest.end]
@@ -38,17 +40,20 @@ def is_syncable(number: int, lines: Dict[int, TraceLine]) -> bool:
     return number in lines and lines[number].synced_by is not None
 
 
-def interval(lost: int, kept: int, lines: Dict[int, TraceLine]) -> Interval:
-    """Where a sync for two lines may be; a file that is renamed between them is synced before
-    that. The lost line must be one that a sync makes durable."""
+def sync_interval(lost: int, kept: int, lines: Dict[int, TraceLine]) -> Interval:
+    """Where a sync for two lines may be: while the path names what the lost line changed. That line
+    must be one that a sync makes durable."""
     path = lines[lost].synced_by
     assert path is not None
-    renames = (
-        number
-        for number in range(lost + 1, kept)
-        if number in lines and (lines[number].word, lines[number].path) == ('rename', path)
-    )
-    return Interval(next(renames, kept), lost, path)
+    end = end_of_path(path, range(lost + 1, kept), lines)
+    return Interval(end.number if end else kept, lost, path)
+
+
+def end_of_path(path: str, between: range, lines: Dict[int, TraceLine]) -> Optional[TraceLine]:
+    """The first of some lines after which a path doesn't name what it named before; None if there
+    is none."""
+    found = (lines[number] for number in between if number in lines)
+    return next((line for line in found if line.takes_path(path)), None)
 
 
 def is_synced(path: str, lines: Dict[int, TraceLine]) -> bool:

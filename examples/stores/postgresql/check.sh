@@ -1,3 +1,0 @@
-#!/bin/sh
-. "${0%/*}/../rows.sh"
-recover "$here/server.sh" all
