@@ -6,7 +6,7 @@ use Rattle.std.proofs.lemmas.List.{flat_map_more, take_more}
 use Rattle.std.proofs.lemmas.List.FromFn.{map-range_with_len_more}
 use Rattle.std.specs.Io.KnownBytes.{Appends}
 use Rattle.std.specs.List.{flat_map, range_with_len}
-use Rattle.cs_sets.specs.Laws.Chains.{range_more}
+use Rattle.cs_sets.specs.Laws.Lists.{range_more}
 use Rattle.cs_sets.specs.Orders.{needs_in}
 use Rattle.cs_micro.specs.Micros.{Micros}
 use Rattle.cs_micro.specs.declared.micro_op.MicroOp.{MicroOp}
