@@ -108,6 +108,7 @@ const FAULTS: [Faulty; 7] = [
     },
 ];
 
+/// Lines of version 4, behind others, have the faults of its page.
 #[test]
 fn each_line_has_its_fault(rt: HostRuntime) {
     are_faults(&rt, rt.alloc(), &TREE, &FAULTS);
@@ -147,6 +148,7 @@ const EARLIER: [Faulty; 4] = [
     },
 ];
 
+/// In version 3 lines, keys and renames of version 4 are at fault.
 #[test]
 fn earlier_versions_have_none_of_it(rt: HostRuntime) {
     are_faults(&rt, rt.alloc(), &THIRD, &EARLIER);
