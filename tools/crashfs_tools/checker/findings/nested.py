@@ -106,7 +106,8 @@ class Nested:
         self.seen: Set[Tuple[str, str]] = set()
 
     def run(self, trials: Trials, findings: Findings) -> Iterator[Recovery]:
-        """Tries the recoveries of some states of a window, and yields what was found in each."""
+        """Chooses states of a window, records the recovery of each, and yields what second crashes
+        of it leave. `left` counts down."""
         for state in self.chosen_states(findings):
             self.left -= 1
             try:
@@ -146,14 +147,14 @@ class Nested:
             best = max(
                 left,
                 key=lambda one: (
-                    len(self.features(findings, one) - self.seen),
+                    len(self.features_of(findings, one) - self.seen),
                     one.says,
                     -one.number,
                 ),
             )
-            if not self.features(findings, best) - self.seen:
+            if not self.features_of(findings, best) - self.seen:
                 break
-            self.seen |= self.features(findings, best)
+            self.seen |= self.features_of(findings, best)
             left.remove(best)
             chosen.append(best)
         more = wanted - len(chosen)
@@ -162,7 +163,7 @@ class Nested:
         return iter(chosen)
 
     @staticmethod
-    def features(findings: Findings, state: State) -> Set[Tuple[str, str]]:
+    def features_of(findings: Findings, state: State) -> Set[Tuple[str, str]]:
         """What a chosen state covers: its cause, and the kind of the last operation that it has."""
         kept = findings.plan.kept[state.number]
         last = findings.plan.operations[kept.bit_length() - 1] if kept else None

@@ -61,8 +61,8 @@ def torn_places(plan: Plan) -> Dict[int, List[int]]:
 
 
 def sample_places(torn: Dict[int, List[int]]) -> List[int]:
-    """Of what torn_places returns: the places of the first, the middle and the last block of each
-    write."""
+    """The places of the first, the middle and the last block of each torn write, from what
+    torn_places returns."""
     writes = {places[0]: places for places in torn.values()}
     return [
         place
