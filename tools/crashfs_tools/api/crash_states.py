@@ -69,7 +69,7 @@ def states(
     options = Options(os.fspath(trace), every=every, families=families, prefixes=prefixes)
     options.quick, options.profile = quick, profile
     options.crashfs, options.unproved = path_of(crashfs), unproved
-    program = Crashfs.find_or_read(options.crashfs, unproved)
+    program = Crashfs.program_or_reading(options.crashfs, unproved)
     with Guard(NAME, may_reap=False) as guard:
         checked = CheckedTrace(options, program, guard)
         before: Optional[Plan] = None

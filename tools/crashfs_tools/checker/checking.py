@@ -288,7 +288,7 @@ def open_trace(options: Options, guard: Guard, progress: Progress) -> Iterator[C
         from crashfs_tools.disks.filesystems import require_filesystems
 
         require_filesystems(options.disks)
-    program = Crashfs.find_or_read(options.crashfs, options.unproved)
+    program = Crashfs.program_or_reading(options.crashfs, options.unproved)
     if options.function is None:
         options.command = with_program_path(options.command)
     else:

@@ -31,7 +31,7 @@ def merged_report(options: Options) -> CheckReport:
     results = merged_shards([read_json(path) for path in options.merge or []])
     if options.trace is None:
         return report_of(options, results)
-    program = Crashfs.find_or_read(options.crashfs, options.unproved)
+    program = Crashfs.program_or_reading(options.crashfs, options.unproved)
     with Guard(NAME) as guard:
         trace = CheckedTrace(options, program, guard)
         if trace.head().digest != results.head.digest:

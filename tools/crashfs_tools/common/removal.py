@@ -121,8 +121,8 @@ class Removal:
         self.waiting: List[str] = []
 
     def remove(self, path: str, at: Optional[int]) -> bool:
-        """Removes a directory as far as it can; returns whether it is gone. What may not be removed
-        stays aside."""
+        """Removes a directory as far as it can; returns whether it is gone from its path. What may
+        not be removed stays aside."""
         is_gone = self.move_aside(path, at)
         while self.waiting:
             name = self.waiting.pop()

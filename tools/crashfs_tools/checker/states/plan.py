@@ -17,8 +17,8 @@ class PlanError(Exception):
 
 
 class MicroOperation(NamedTuple):
-    """A micro-operation by its place in the session. path is that of its file, or of its entry;
-    rest has its details as text, and line is that of the session's trace."""
+    """A micro-operation by its place in the session. path is that of its file or entry; rest has
+    its details as text, and line is that of the session's trace."""
 
     place: int
     kind: str
@@ -68,13 +68,11 @@ class Offsets(NamedTuple):
     lines: Tuple[int, ...] = ()
 
     def session_line(self, number: int) -> int:
-        """The line of the session that is the line of a number of the plan's trace."""
+        """The line of the session that is a line of the plan's trace."""
         return self.lines[number - 1] if self.lines else number
 
     def by_own_lines(self, values: Dict[int, str]) -> Dict[int, str]:
-        """Values by the lines of the plan's trace, from values by lines of the session. Of several
-        own lines for one of the session the last one counts; lines that the trace hasn't are left
-        out."""
+        """Values by the trace's own lines: by the last one for each line of the session."""
         if not self.lines:
             return values
         own = {line: number for number, line in enumerate(self.lines, 1)}
@@ -104,8 +102,8 @@ class Needs:
         self._needing: Dict[int, int] = {}
 
     def is_needed(self, earlier: int, by: int) -> bool:
-        """Whether the micro-operation at the place `by` needs that at an earlier place. False if
-        `by` is past the last place."""
+        """Whether the micro-operation at `by` needs an earlier one; False for a `by` past the
+        end."""
         return by < len(self.masks) and bool(self.masks[by] >> earlier & 1)
 
     def set_needing(self, place: int) -> int:
@@ -123,8 +121,8 @@ class Needs:
         return (1 << len(self.masks)) - 1
 
     def sets_without_lines(self, lines: Iterable[int]) -> List[int]:
-        """For each line of a trace the largest allowed set that has nothing of it. lines has the
-        line of each micro-operation, in their order."""
+        """For each line of a trace the largest allowed set that has nothing of it; lines has the
+        line of each micro-operation."""
         lost: Dict[int, int] = {}
         for place, line in enumerate(lines):
             lost[line] = lost.get(line, 0) | self.set_needing(place)
@@ -132,8 +130,8 @@ class Needs:
 
     @property
     def hole_count(self) -> int:
-        """How many holes a plan has: one for each micro-operation, as the last one kept, and each
-        earlier one that it doesn't need."""
+        """How many holes a plan has: one for each micro-operation and each earlier one that it
+        doesn't need."""
         return sum(place + 1 - size_of(mask) for place, mask in enumerate(self.masks))
 
     def is_prefix_or_hole(self, kept: int) -> bool:
@@ -190,8 +188,7 @@ class Plan:
         ]
 
     def profiles_of_trials(self) -> Dict[Trial, int]:
-        """For each trial, as bits, the profiles that allow at least one of the sets that leave
-        it."""
+        """For each trial, as bits, the profiles that allow one of the sets that leave it."""
         found: Dict[Trial, int] = {}
         for state, profiles in zip(self.listed, self.profiles.of_sets):
             found[state.trial] = found.get(state.trial, 0) | profiles
@@ -210,8 +207,7 @@ class Plan:
 
     @property
     def families(self) -> List[State]:
-        """The listed states that are members of families: the first ones, or all if only families
-        were asked for."""
+        """The first listed states; all if only families were asked for."""
         return self.listed[: self.all_states.families] if self.all_states else self.listed
 
     @property
@@ -243,7 +239,7 @@ class Plan:
         return (1 << end) - 1 & ~self.needs.set_needing(lost)
 
     def may_be_left(self, kept: int) -> bool:
-        """Whether a crash may leave a set: it has no member after an acknowledged line that it
+        """Whether a crash may leave a set: no member comes after an acknowledged line that it
         lacks. Traces of version 3 on have no other sets."""
         lost_says = self.say_places & ~kept
         first_lost = lost_says & -lost_says
@@ -297,8 +293,7 @@ class Planned:
         return [self.trace, *(path for option, path in pairs if option == '--picks')]
 
     def requests(self, numbers: Iterable[int]) -> Iterator[Request]:
-        """For each part that has some of these states, the options of `tar` for them. Numbers that
-        the plan hasn't are left out."""
+        """The options of `tar` for the states of these numbers, for each part that has some."""
         wanted = set(numbers)
         for part in self.parts:
             own = {one for one in wanted if part.first <= one < part.end}
@@ -351,14 +346,12 @@ class Listed:
         return SetProfiles(names, tuple(set_of(map(names.index, one)) for one in self.allowed))
 
     def begin_part(self) -> None:
-        """Begins the next part: in each part the program numbers picks from the end of the prefixes
-        on, so that they get a lead."""
+        """Begins the next part, in which the program numbers the picks from the same number on."""
         self.is_first = not self.states
         self.lead = 0 if self.is_first else len(self.states) - len(self.operations) - 1
 
     def add_line(self, fields: Dict[str, Any]) -> None:
-        """Adds the operation or the state of a line. Operations are those of the first part: each
-        part has the same."""
+        """Adds the operation or the state of a line. Each part has the same operations."""
         if 'op' not in fields:
             self.add_state(fields)
         elif self.is_first:
@@ -366,8 +359,7 @@ class Listed:
             self.masks.append(set_of(fields['needs']))
 
     def add_state(self, fields: Dict[str, Any]) -> None:
-        """Adds the state of a line; of a further part only if it is a pick, whose numbers in
-        `fields` get the lead."""
+        """Adds the state of a line; of a further part only a pick, with a lead on its numbers."""
         if not self.is_first:
             if fields['kind'] != 'pick':
                 return
@@ -392,7 +384,7 @@ def operation_of(fields: Dict[str, Any], offsets: Offsets) -> MicroOperation:
 
 
 def state_of(fields: Dict[str, Any], offsets: Offsets) -> State:
-    """The state of a line of `list --json`, in numbers of the session. KeyError for an unknown
+    """The state of a line of `list --json`, in numbers of the session; KeyError for another
     kind."""
     kind = fields['kind']
     if kind == 'pick':
