@@ -3,7 +3,7 @@
 import json
 import unittest
 
-from crashfs_tools.checker.findings.losses import Searches, search
+from crashfs_tools.checker.findings.losses import Searches, loss_search
 from crashfs_tools.checker.findings.pairs import Loss, Pair
 from crashfs_tools.checker.running.runner import BAD, GOOD, Outcome
 from crashfs_tools.checker.states.plan import State, read_plan

@@ -200,10 +200,10 @@ class ReadSets:
     def drawn_sets(self, count: int, seed: int) -> Optional[List[int]]:
         """So many sets, drawn at random, the same ones for each seed; None if all are too many to
         count."""
-        from crashfs_tools.reading.every import sample
+        from crashfs_tools.reading.every import drawn_sets
         from crashfs_tools.reading.faults import ReadingFault
 
         try:
-            return list(sample(self.order(), count, seed))
+            return list(drawn_sets(self.order(), count, seed))
         except ReadingFault:
             return None

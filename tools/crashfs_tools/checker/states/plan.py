@@ -121,8 +121,7 @@ class Needs:
         return (1 << len(self.masks)) - 1
 
     def sets_without_lines(self, lines: Iterable[int]) -> List[int]:
-        """For each line of a trace the largest allowed set that has nothing of it; lines has the
-        line of each micro-operation."""
+        """The largest allowed set that has nothing of each line, which `lines` has by places."""
         lost: Dict[int, int] = {}
         for place, line in enumerate(lines):
             lost[line] = lost.get(line, 0) | self.set_needing(place)
