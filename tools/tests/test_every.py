@@ -9,7 +9,7 @@ from typing import Dict, List, Tuple
 
 from crashfs_tools.reading import StateList, ReadingFault, Reading, plan_of, read
 from crashfs_tools.reading.classes import Classes
-from crashfs_tools.reading.every import count_sets, every_set, drawn_sets
+from crashfs_tools.reading.every import count_sets, drawn_sets, every_set
 from crashfs_tools.reading.order import Order
 from crashfs_tools.reading.place_sets import places_of
 

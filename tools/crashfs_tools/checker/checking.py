@@ -136,8 +136,8 @@ class Check:
             yield f'--disks: not tried ({why})'
 
     def check_windows(self) -> None:
-        """Checks each window, up to one that was not tried whole or, with --fail-fast, that has a
-        failure."""
+        """Checks window after window. It ends before the last one at a window that has a failure,
+        with --fail-fast: only this leaves a window in part without an exception."""
         for planned in self.trace.all_planned():
             trials = Trials(self.trace.workplace, planned, keeps_trees=True)
             is_whole = self.try_window(trials)

@@ -63,7 +63,7 @@ def leave_laid_out(trials: Trials, state: State) -> Tuple[str, str]:
     of its acknowledged lines. The directory is no mount, also with --serve."""
     folder = os.path.abspath(tempfile.mkdtemp(prefix=f'crashfs-state-{state.number}-'))
     try:
-        ((_, directory),) = trials.archive(folder).states({state.number})
+        ((_, directory),) = trials.archive_layout(folder).states({state.number})
         acknowledged = os.path.join(folder, f'says-{state.says}')
         with open(acknowledged, 'w', **TEXT) as file:
             file.write(trials.says.text(state.says))

@@ -135,7 +135,8 @@ def read_values(fields: Dict[str, Any], kind: Type[Any], version: int) -> Dict[s
 
 
 def read_value(name: str, fields: Dict[str, Any], version: int) -> Any:
-    """The value of a line for a field of its class."""
+    """The value that a line has for a field of its class; KeyError if it has none, ValueError if it
+    is no value for it."""
     if name == 'data':
         if fields.get('start') == 'dir':
             return None

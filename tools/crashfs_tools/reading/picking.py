@@ -7,7 +7,7 @@ from itertools import islice
 from typing import Dict, Iterator, List, Union
 
 from .classes import Classes
-from .every import count_sets, every_set, drawn_sets
+from .every import count_sets, drawn_sets, every_set
 from .faults import ReadingFault
 from .lines import PROFILES
 from .order import Order, order_in
@@ -16,8 +16,8 @@ from .plan import StateList, different_places, file_sets, lost_sets
 from .trace import Reading
 
 MOST = 1_000_000
-LARGEST = {'--most': 16_777_216, '--drawn_sets': 16_384, '--seed': 2**64 - 1}
-LEAST = {'--most': 1, '--drawn_sets': 1, '--seed': 0}
+LARGEST = {'--most': 16_777_216, '--sample': 16_384, '--seed': 2**64 - 1}
+LEAST = {'--most': 1, '--sample': 1, '--seed': 0}
 
 Options = Dict[str, Union[str, bool]]
 
@@ -28,18 +28,18 @@ class Usage(Exception):
 
 def refuse_options(options: Options) -> None:
     """Usage for options that don't go together, or a value that is out of range."""
-    families = [it for it in ('--every', '--drawn_sets') if it in options]
+    families = [it for it in ('--every', '--sample') if it in options]
     families += ['--lost'] if {'--lost', '--files'} & options.keys() else []
     if len(families) != 1:
-        raise Usage('one of --every, --drawn_sets, --lost and --files is needed')
+        raise Usage('one of --every, --sample, --lost and --files is needed')
     for option in ('--different', '--most', '--count', '--profile'):
         if option in options and '--every' not in options:
             raise Usage(f'{option} goes with --every')
     for option in ('--different', '--most', '--profile'):
         if option in options and '--count' in options:
             raise Usage(f"{option} doesn't go with --count")
-    if ('--seed' in options) != ('--drawn_sets' in options):
-        raise Usage('--drawn_sets and --seed go together')
+    if ('--seed' in options) != ('--sample' in options):
+        raise Usage('--sample and --seed go together')
     if options.get('--profile', PROFILES[0]) not in PROFILES:
         raise Usage(f"invalid value '{options['--profile']}' for '--profile <F>'")
     for option in LARGEST:
@@ -63,7 +63,7 @@ def is_number(text: str) -> bool:
 
 
 def printed_lines(reading: Reading, options: Options) -> Iterator[str]:
-    """The lines that `picks` prints of a trace. The first one is a ReadingFault if it is
+    """The lines that `picks` prints of a trace. ReadingFault, before the first line, if it is
     refused."""
     if '--count' in options:
         yield f'{shown_count(count_sets(Order(reading)))}\n'
@@ -84,9 +84,9 @@ def sets_of(reading: Reading, options: Options) -> Iterator[List[int]]:
     ReadingFault if they are refused."""
     if '--every' in options:
         return every_members(reading, options)
-    if '--drawn_sets' in options:
+    if '--sample' in options:
         seed = number_of_option(options, '--seed')
-        drawn = drawn_sets(Order(reading), number_of_option(options, '--drawn_sets'), seed)
+        drawn = drawn_sets(Order(reading), number_of_option(options, '--sample'), seed)
         return (list(places_of(places)) for places in drawn)
     plan = StateList(reading)
     families = [lost_sets(plan)] if '--lost' in options else []

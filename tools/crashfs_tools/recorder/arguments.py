@@ -177,7 +177,7 @@ def bytes_of_messages(word: str) -> Optional[bytes]:
 
 
 def offset_in_cell(word: str) -> Optional[int]:
-    """The offset before the call in an argument that is its address, as `[42]` or `[42] => [45]`;
-    None for NULL."""
+    """The offset before the call, in an argument that is the address of one, as `[42]` or `[42] =>
+    [45]`; None if it isn't shown so, as for NULL."""
     match = re.match(r'\[(\d+)', word)
     return int(match[1]) if match else None

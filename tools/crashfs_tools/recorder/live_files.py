@@ -311,7 +311,7 @@ class LiveFiles:
 
     def sync_file(self, node: Node) -> None:
         """Adds to the trace a sync of a file or directory, with its mode and owner, if the trace
-        has it."""
+        has it, and notes that it was synced."""
         node.was_synced, node.has_new_rights = True, False
         if node.traced_path is not None:
             self.recording.add_operation(Fsync(node.traced_path))
@@ -331,7 +331,8 @@ class LiveFiles:
         self.sync_file(node)
 
     def sync_range(self, node: Node, offset: int, length: int) -> None:
-        """Adds to the trace a sync of a part of a file's bytes, if the trace has the file."""
+        """Adds to the trace a sync of a part of a file's bytes, if the trace has the file, and
+        notes that the file was synced."""
         node.was_synced = True
         if node.traced_path is not None:
             self.recording.add_operation(FsyncRange(node.traced_path, offset, length))

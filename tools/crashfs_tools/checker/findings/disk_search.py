@@ -59,8 +59,8 @@ def sightings_of(trials: Trials, by_state: Dict[int, Outcome]) -> Sightings:
     filesystems = [with_room(one, size) for one in filesystems_of(trials.options.disks or [])]
     room = IMAGES * process_count(trials) * sum(one.size for one in filesystems)
     with Guard('crashfs-disks', MEMORY if has_room(MEMORY, room) else None) as guard:
-        search_trees = DiskSearch(trials, by_state, text)
-        return search_trees.run(
+        search = DiskSearch(trials, by_state, text)
+        return search.run(
             DiskPool(filesystems, trace, guard.directory), trials.workplace.progress.show_moments
         )
 
@@ -87,7 +87,7 @@ class DiskSearch:
         self.trials = trials
         self.by_state = by_state
         self.trace = trace
-        self.checker = trials.checker()
+        self.checker = trials.new_checker()
 
     def run(self, pool: DiskPool, on_step: Callable[[int, int], None]) -> Sightings:
         """Makes the disks, and returns what was seen on them. on_step is called with the number of

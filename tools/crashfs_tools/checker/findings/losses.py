@@ -42,8 +42,9 @@ def sets_by_line(plan: Plan, lacking: int) -> List[int]:
 
 
 def find_losses(trials: Trials, planner: Planner, findings: Findings) -> None:
-    """Finds the smallest loss of each group's example whose pair is a guess, and adds it to the
-    findings, which make their groups again. The planner makes plans of the sets to try."""
+    """Finds the smallest losses of groups' examples whose pair is a guess, and adds them to the
+    findings, which make their groups again: of SEARCHED examples at most, or of more if all states
+    were tried. The planner makes plans of the sets to try."""
     searched = 0
     equal = EqualSets(trials.planned, findings) if findings.plan.all_states else None
     every = findings.plan.all_states

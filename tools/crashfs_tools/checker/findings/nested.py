@@ -46,7 +46,7 @@ class RecoveryRecorder:
         the session."""
         folder = os.path.join(self.guard.directory, f'recovery-{state.number}')
         os.mkdir(folder)
-        ((_, directory),) = self.trials.archive(folder).states({state.number})
+        ((_, directory),) = self.trials.archive_layout(folder).states({state.number})
         trace = os.path.join(folder, f'recovery-{state.number}.trace')
         self.record(state, directory, trace)
         remove_tree(directory)
@@ -62,7 +62,7 @@ class RecoveryRecorder:
     def record(self, state: State, directory: str, trace: str) -> None:
         """Records COMMAND in a directory that has a state's tree, into the file of a trace; Refused
         if none is written."""
-        checker = self.trials.checker()
+        checker = self.trials.new_checker()
         line = [
             sys.executable,
             '-S',

@@ -38,7 +38,7 @@ class Head:
     refused_version: int = 0
 
     def identity(self) -> Tuple[object, ...]:
-        """What two reports of one check have the same."""
+        """Equal for two reports of one check: the trace's digest, COMMAND and the shard."""
         return self.digest, self.command, self.shard
 
     def fields(self) -> Dict[str, Any]:
@@ -140,7 +140,8 @@ class Results:
         return all(number in self.outcomes for number in self.wanted)
 
     def identity(self) -> Tuple[object, ...]:
-        """What two reports of one window have the same."""
+        """Equal for two results of one window of a trace: its micro-operations, states and
+        needs."""
         return self.plan.operations, self.plan.listed, self.plan.needs.masks
 
     def fields(self) -> Dict[str, Any]:

@@ -81,7 +81,7 @@ class AcknowledgedLines:
         return file
 
     def text(self, count: int, first: int = 0) -> str:
-        """The first so many lines as one text, without those before a number."""
+        """The lines from the place `first` to before `count` as one text, each with its end."""
         return ''.join(f'{text}\n' for text in self.texts[first:count])
 
 

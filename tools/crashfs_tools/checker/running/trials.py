@@ -70,18 +70,18 @@ class Trials:
         """The same for all states of a recovery, whose trees a program makes."""
         return Trials(replace(self.workplace, program=program), planned, keeps_trees=True)
 
-    def checker(self) -> Checker:
-        """What runs COMMAND, or the function in its place, in a state that is laid out."""
+    def new_checker(self) -> Checker:
+        """A checker for COMMAND, or for the function in its place."""
         recovery: StateRecovery = CommandRecovery(self.options.command)
         if self.options.function is not None:
             recovery = FunctionRecovery(self.options.function)
         return Checker(recovery, self.options.timeout, self.guard.environment, self.says)
 
-    def archive(self, folder: str) -> Archive:
+    def archive_layout(self, folder: str) -> Archive:
         """A layout of states below a folder, in which each keeps a directory of its own."""
         return Archive(self.program, self.planned, folder, self.guard.environment, self.kept_trees)
 
-    def layout(self, many: bool = False) -> Layout:
+    def new_layout(self, many: bool = False) -> Layout:
         """A new layout, below the guard's directory or on the server of --serve. many says that so
         many states are tried that a layout pays which keeps large trees from state to state."""
         if self.options.serve is None:
@@ -91,7 +91,7 @@ class Trials:
                 return KeptLayout(
                     self.program, self.planned, self.guard.directory, self.guard.environment
                 )
-            return self.archive(self.guard.directory)
+            return self.archive_layout(self.guard.directory)
         from crashfs_tools.checker.states.mounts import Mounts
 
         with open(self.planned.trace, **TEXT) as file:
@@ -116,7 +116,8 @@ class Trials:
         return self.trees([number])[0]
 
     def trees(self, numbers: Sequence[int]) -> List[Entries]:
-        """The trees of the states of these numbers, in their order, without the roots."""
+        """The trees of the states of these numbers, in their order, without the roots.
+        ProgramFault, or KeyError for a number, if the program lacks one."""
         kept = self.kept_trees
         if kept is not None:
             firsts = [self.plan.state(number).same for number in numbers]
@@ -132,14 +133,14 @@ class Trials:
         """The outcome of a state. Each number of an attempt, below ATTEMPTS, has a run of its own,
         also in the cache."""
         found: Dict[int, Outcome] = {}
-        self.find_outcomes(self.layout, {state.number}, found.__setitem__, attempt)
+        self.find_outcomes(self.new_layout, {state.number}, found.__setitem__, attempt)
         return found[state.number]
 
     def run_words(self, words: List[str], number: int) -> Tuple[Outcome, str]:
         """Runs other words than COMMAND in a state; returns their outcome, and the path that the
         state's directory had: it is gone by then."""
-        checker = replace(self.checker(), recovery=CommandRecovery(words))
-        layout = self.layout()
+        checker = replace(self.new_checker(), recovery=CommandRecovery(words))
+        layout = self.new_layout()
         ((own, directory),) = layout.states({number})
         with layout.laid_out(own, directory):
             outcome = checker.run(own, self.plan.state(own).says, directory)
@@ -158,7 +159,7 @@ class Trials:
 
         @lru_cache(None)
         def layout() -> Layout:
-            return self.layout(many=True)
+            return self.new_layout(many=True)
 
         try:
             for turn in turns:
@@ -211,7 +212,9 @@ class Trials:
         """Runs COMMAND in some states, by processes that end with this one, and gives on_outcome
         each outcome. Refused or an OSError if a process has a fault."""
         options = self.options
-        workers = StateWorkers(self.checker(), layout, options.jobs, on_outcome, options.fail_fast)
+        workers = StateWorkers(
+            self.new_checker(), layout, options.jobs, on_outcome, options.fail_fast
+        )
         try:
             workers.run(wanted, {state.number: state.says for state in self.plan.listed})
         finally:
