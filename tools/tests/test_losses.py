@@ -18,7 +18,7 @@ def searched(plan, kept, fails):
     """The loss that a search finds, and the sets that it asks for."""
     state = State(0, 'pick', (), 0, 0)
     plan.kept[0] = kept
-    asked, one = [], search(plan, state)
+    asked, one = [], loss_search(plan, state)
     try:
         asked.append(next(one))
         while True:
