@@ -41,8 +41,9 @@ def report_failure(name: str, check: Check, jobs: int, processors: int) -> None:
 
 
 def prove_in(copy: Path, work: Work, begun: float) -> None:
-    """Proves one crate after the other in a copy of the repository, until nothing is left. One
-    whose library in the repository itself is current is looked at there."""
+    """Proves one crate after the other in a copy of the repository, until nothing is left, and
+    prints a line for each with the minutes since `begun`. A crate whose library in the repository
+    itself is current is checked there, which takes a second."""
     while True:
         chosen = work.next_crate()
         if chosen is None:

@@ -42,7 +42,7 @@ def tests_to_run(is_quick: bool) -> unittest.TestSuite:
 
 
 def skipped_for_program(result: unittest.TestResult) -> int:
-    """How many tests were skipped because they need `crashfs`."""
+    """How many tests were skipped because they need `crashfs`: their reasons have this word."""
     return sum('crashfs' in reason for _, reason in result.skipped)
 
 

@@ -30,7 +30,7 @@ def check_example(trace: str, command: Sequence[str]) -> CheckedExample:
     program. Raises what stopped the check, if something did, and ValueError if no state fails."""
     words = ['--unproved', '--html', os.devnull, trace, '--', *command]
     options = read_options(words)
-    program = Crashfs.find_or_read(None, unproved=True)
+    program = Crashfs.program_or_reading(None, unproved=True)
     with Guard('crashfs-picture') as guard:
         checked_trace = CheckedTrace(options, program, guard)
         check = Check(checked_trace)

@@ -55,7 +55,7 @@ def windows_of_session() -> List[Window]:
         trace = Path(folder, 'session.trace')
         trace.write_text(session_text(), 'utf-8')
         options = Options(str(trace), quick=True, window=LARGEST)
-        checked = CheckedTrace(options, Crashfs.find_or_read(None, unproved=True), guard)
+        checked = CheckedTrace(options, Crashfs.program_or_reading(None, unproved=True), guard)
         for planned in checked.all_planned():
             plan, begin = planned.plan, planned.offsets.operations
             creat = [at for at, one in enumerate(plan.operations) if one.kind == 'create_dir_entry']

@@ -3,7 +3,7 @@
 import os
 import unittest
 
-from crashfs_tools.checker.findings.swaps import replaces_bytes
+from crashfs_tools.checker.findings.swaps import has_replaced_bytes
 from crashfs_tools.checker.findings.tree_diff import different_lines
 from crashfs_tools.checker.states.steps import Session
 from crashfs_tools.common.entry import Entry
@@ -179,7 +179,7 @@ class Differences(unittest.TestCase):
         ):
             new = old.copy()
             new.write(at, data)
-            self.assertEqual(replaces_bytes(old, new), expected, at)
+            self.assertEqual(has_replaced_bytes(old, new), expected, at)
 
 
 class Pieces(unittest.TestCase):

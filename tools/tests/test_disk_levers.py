@@ -11,7 +11,7 @@ from crashfs_tools.disks.disk import Crash
 from crashfs_tools.disks.filesystems import KNOWN
 from crashfs_tools.disks.levers import MOST_EARLIER, Lever, Pull, pulls
 from crashfs_tools.disks.pool import DiskPool
-from crashfs_tools.disks.replay import Change
+from crashfs_tools.disks.replay import UnsyncedChange
 
 from .support import InFolder
 from .test_disks import ALL_KINDS, needs_disks
@@ -27,7 +27,7 @@ def write_of(name: str, text: str) -> str:
 
 class Pulls(unittest.TestCase):
     def test_a_lever_is_pulled_as_often_as_it_makes_sense(self) -> None:
-        three = [[Change(done, f'/{done}')] for done in (1, 2, 3)]
+        three = [[UnsyncedChange(done, f'/{done}')] for done in (1, 2, 3)]
         ones = [Pull(Lever.ONE, place) for place in range(3)]
         self.assertEqual(list(pulls(Lever.ONE, three, 3)), ones)
         self.assertEqual(list(pulls(Lever.ONE, three[:1], 1)), [])
@@ -35,15 +35,15 @@ class Pulls(unittest.TestCase):
         self.assertEqual(list(pulls(Lever.LOG, [], 0)), [Pull(Lever.LOG)])
 
     def test_a_file_is_written_earlier_after_each_change_but_its_last(self) -> None:
-        changed = [Change(done, '/f') for done in (1, 3, 4)]
-        other = [Change(2, '/g'), Change(5, '/g')]
+        changed = [UnsyncedChange(done, '/f') for done in (1, 3, 4)]
+        other = [UnsyncedChange(2, '/g'), UnsyncedChange(5, '/g')]
         found = [Pull(Lever.EARLIER, change=one) for one in changed[:2]]
         self.assertEqual(list(pulls(Lever.EARLIER, [changed, other], 5)), found)
         self.assertEqual(list(pulls(Lever.EARLIER, [changed, other], 6)), [])
         self.assertEqual(list(pulls(Lever.EARLIER, [changed], 4)), [])
-        many = [Change(done, '/f') for done in range(1, 20)]
+        many = [UnsyncedChange(done, '/f') for done in range(1, 20)]
         found = [Pull(Lever.EARLIER, change=one) for one in many[-1 - MOST_EARLIER : -1]]
-        self.assertEqual(list(pulls(Lever.EARLIER, [many, [Change(20, '/g')]], 20)), found)
+        self.assertEqual(list(pulls(Lever.EARLIER, [many, [UnsyncedChange(20, '/g')]], 20)), found)
 
 
 @needs_disks

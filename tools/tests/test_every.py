@@ -9,7 +9,7 @@ from typing import Dict, List, Tuple
 
 from crashfs_tools.reading import StateList, ReadingFault, Reading, plan_of, read
 from crashfs_tools.reading.classes import Classes
-from crashfs_tools.reading.every import count_sets, every_set, sample
+from crashfs_tools.reading.every import count_sets, drawn_sets, every_set
 from crashfs_tools.reading.order import Order
 from crashfs_tools.reading.place_sets import places_of
 
@@ -132,10 +132,10 @@ class Rows(unittest.TestCase):
         lines = [HEADERS['blocks'], say('1'), creat('/a')]
         self.assertEqual(every(lines), ['[]', '[0]', '[0,1]'])
         order = Order(reading_of(lines))
-        drawn = list(sample(order, 5, 1))
+        drawn = list(drawn_sets(order, 5, 1))
         self.assertEqual(len(drawn), 5)
         self.assertLessEqual(set(drawn), set(every_set(order)))
-        self.assertEqual(list(sample(order, 5, 1)), drawn)
+        self.assertEqual(list(drawn_sets(order, 5, 1)), drawn)
 
     def test_sets_that_two_profiles_allow(self) -> None:
         reading = reading_of([HEADERS['blocks'], creat('/a'), creat('/b')])
@@ -208,7 +208,7 @@ class AllSets(unittest.TestCase):
 
     def test_each_set_has_the_same_chance(self) -> None:
         order = Order(reading_of(RENAMED))
-        drawn = list(sample(order, 16_384, 7))
+        drawn = list(drawn_sets(order, 16_384, 7))
         counts = [drawn.count(places) for places in every_set(order)]
         self.assertEqual(sum(counts), 16_384)
         # Within five standard deviations of 16,384 / 17.

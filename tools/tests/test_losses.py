@@ -3,7 +3,7 @@
 import json
 import unittest
 
-from crashfs_tools.checker.findings.losses import Searches, search
+from crashfs_tools.checker.findings.losses import Searches, loss_search
 from crashfs_tools.checker.findings.pairs import Loss, Pair
 from crashfs_tools.checker.running.runner import BAD, GOOD, Outcome
 from crashfs_tools.checker.states.plan import State, read_plan
@@ -18,7 +18,7 @@ def searched(plan, kept, fails):
     """The loss that a search finds, and the sets that it asks for."""
     state = State(0, 'pick', (), 0, 0)
     plan.kept[0] = kept
-    asked, one = [], search(plan, state)
+    asked, one = [], loss_search(plan, state)
     try:
         asked.append(next(one))
         while True:

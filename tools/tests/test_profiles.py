@@ -45,7 +45,7 @@ def allowed_trees(text: str) -> Dict[TreeAndCount, Set[str]]:
 class Planning(InFolder):
     def planned(self, text: str, profile: str = '', program: Any = None) -> Planned:
         options: Any = SimpleNamespace(
-            **OPTIONS, has_every=True, most_states=20_000, profile=profile, draws=50
+            **OPTIONS, has_every=True, most_states=20_000, profile=profile, draw_count=50
         )
         guard: Any = SimpleNamespace(directory=self.temporary, environment=None)
         return Planner(options, program or Reader(), guard).plan(self.write('a.trace', text))

@@ -41,7 +41,7 @@ class TriedNowhere(Trials):
         super().__init__(Workplace(found, nothing, nothing, nothing, Progress()), planned)
         self.order: List[Set[int]] = []
 
-    def layout(self, many: bool = False) -> Any:
+    def new_layout(self, many: bool = False) -> Any:
         return None
 
     def run_workers(self, layout: Any, wanted: Set[int], on_outcome: Any) -> None:

@@ -68,7 +68,8 @@ def path_of(path: Optional[PathLike]) -> Optional[str]:
 
 
 def set_recovery(options: Options, recovery: Union[RecoveryOf, Sequence[str]]) -> None:
-    """Sets the options' command, or function. Refused if other options need a command."""
+    """Writes a command or a function into the options. Refused for a function if other options need
+    a command."""
     if isinstance(recovery, Sequence):
         options.command = [recovery] if isinstance(recovery, str) else list(recovery)
         return

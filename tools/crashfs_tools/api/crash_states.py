@@ -35,7 +35,7 @@ class CrashState:
 
     @contextmanager
     def laid_out(self) -> Iterator[Path]:
-        """A directory that has the state's files. It is removed at the end of the `with`."""
+        """Lays the state out in a new directory, which is removed at the end of the `with`."""
         folder = tempfile.mkdtemp(prefix='crashfs-state-')
         try:
             directory = os.path.join(folder, str(self.number))
@@ -69,7 +69,7 @@ def states(
     options = Options(os.fspath(trace), every=every, families=families, prefixes=prefixes)
     options.quick, options.profile = quick, profile
     options.crashfs, options.unproved = path_of(crashfs), unproved
-    program = Crashfs.find_or_read(options.crashfs, unproved)
+    program = Crashfs.program_or_reading(options.crashfs, unproved)
     with Guard(NAME, may_reap=False) as guard:
         checked = CheckedTrace(options, program, guard)
         before: Optional[Plan] = None
@@ -80,7 +80,7 @@ def states(
 
 
 def states_of(checked: CheckedTrace, planned: Planned, results: Results) -> Iterator[CrashState]:
-    """The different states of one window: those that are tried there, which results has."""
+    """The different states of a window that are tried by the results, each with its files."""
     texts = checked.lines.acknowledged
     for request in planned.requests(results.trials.values()):
         trees = checked.program.trees(request.words, checked.guard.environment)

@@ -45,7 +45,7 @@ class Recording:
     messages: List[str]
 
     def __fspath__(self) -> str:
-        """The trace's path: a recording can be given to check()."""
+        """The path of the trace, so that a recording can be given to check()."""
         return str(self.trace)
 
 

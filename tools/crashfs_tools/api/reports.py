@@ -112,7 +112,8 @@ class Report:
         return '\n'.join(self.lines)
 
     def write_json(self, path: PathLike) -> None:
-        """Writes the whole report for other tools, as --json does."""
+        """Writes the whole report for other tools, as --json does. An OSError if it can't be
+        written: then the file is as it was."""
         from crashfs_tools.checker.report.json_report import json_pieces
 
         self._write(path, json_pieces)
@@ -136,8 +137,8 @@ class Report:
         self._write(path, page)
 
     def _write(self, path: PathLike, pieces: Callable[[CheckReport], Iterator[str]]) -> None:
-        """Writes a file from the pieces of its text. Who may not read the trace may not read it; it
-        is durable when this returns."""
+        """Writes a file from the pieces of its text, for those only who may read the trace; it is
+        durable when this returns. An OSError leaves what was there."""
         write_whole(os.fspath(path), pieces(self._found), self._mode)
 
     def _entry(self, group: Group) -> Entry:

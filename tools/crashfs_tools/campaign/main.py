@@ -44,7 +44,8 @@ class Campaign:
         self.printed = time.monotonic()
 
     def run(self) -> None:
-        """Tries the seeds that are left, in their order, until the time is over."""
+        """Tries the seeds that are left, in their order, up to the last one or until the time is
+        over. A session that has begun is finished."""
         begun, last = time.monotonic(), self.options.seeds[1]
         shutil.rmtree(self.work, ignore_errors=True)
         self.work.mkdir()
@@ -57,7 +58,7 @@ class Campaign:
             shutil.rmtree(self.work, ignore_errors=True)
 
     def try_seed(self, seed: int) -> None:
-        """Records and checks the session of one seed, and adds what is new to the book."""
+        """Records and checks the session of a seed, adds what is new to the book, and saves it."""
         fault = self.sessions.record(seed)
         checked = Checked(fault=fault) if fault else self.sessions.check(self.sessions.trace)
         if checked.fault:
@@ -94,15 +95,16 @@ class Campaign:
             self.print_line(f'seed {seed}: shorter: {length_text(known)}: {failure.cause}')
 
     def keep(self, entry: KnownFailure, seed: int, shrinking: Shrinking, length: int) -> None:
-        """Keeps the session of a seed, up to so many acknowledged lines, as that of a failure."""
+        """Keeps the session of a seed, up to so many acknowledged lines, as the shortest one of a
+        failure: writes its files, and what they are into the entry."""
         entry.kept_seed, entry.says, entry.shortest = seed, len(shrinking.says), length
         kept = shrinking.keep(length, self.results / entry.trace, self.results / entry.page)
         entry.failure = kept or entry.failure
 
 
 def run_campaign(arguments: List[str]) -> int:
-    """Runs a campaign, prints its report, and returns the status. What was found before a stop is
-    kept and reported."""
+    """Runs a campaign, prints its report, and returns the status, also after a stop. Refused input
+    is a line and the status BAD_INPUT; an OSError is raised."""
     try:
         options = read_options(arguments)
         if options.html is not None:

@@ -102,7 +102,8 @@ class Sessions:
 
 
 def failures_in(report: Path) -> List[Failure]:
-    """The entries of a report of crashfs-check; OSError if it has another version."""
+    """The entries of a report of crashfs-check; an OSError if the report is of a version that isn't
+    known here."""
     fields = json.loads(report.read_text('utf-8', 'surrogateescape'))
     if fields.get('crashfs-check') not in REPORTS:
         raise OSError(f'{report} is a report of another version')

@@ -14,8 +14,8 @@ class Address(NamedTuple):
     port: int
 
     def numeric(self) -> str:
-        """The host's IP address, which is all that the kernel knows: one of IPv4 if it has any.
-        Refused if it has none."""
+        """The host's IP address, the only form that the kernel takes: an IPv4 address if the host
+        has one. Refused if it has none."""
         import socket
 
         try:

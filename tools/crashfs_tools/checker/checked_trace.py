@@ -35,8 +35,8 @@ class CheckedTrace:
         guard: Guard,
         progress: Optional[Progress] = None,
     ) -> None:
-        """Reads the whole trace. Its second reading takes the program's place if that takes no
-        traces of this version."""
+        """Reads the whole file; OSError if it can't be read. If the program takes no traces of this
+        version, the second reading takes its place."""
         assert options.trace is not None
         self.options, self.guard = options, guard
         self.progress = progress or Progress()
@@ -47,14 +47,14 @@ class CheckedTrace:
         # Nobody may read of the trace in a report who may not read the trace.
         self.mode = 0o600 | status.st_mode & 0o066
         if not stat.S_ISREG(status.st_mode):
-            self.path = self.copied()
+            self.path = self.copy_to_file()
         self.program = program.for_version(trace_version(self.text))
         self.planner = Planner(options, self.program, guard)
         self.windows: Optional[Windows] = None
 
-    def copied(self) -> str:
-        """Writes the trace, which came by a pipe, to a file, since the program reads it several
-        times; returns the file's path."""
+    def copy_to_file(self) -> str:
+        """Writes the trace, which came by a pipe, to a file below the guard's directory, since the
+        program reads it several times. Returns the path."""
         path = os.path.join(self.guard.directory, 'trace')
         with open(path, 'w', **TEXT) as file:
             file.write(self.text)
@@ -79,7 +79,8 @@ class CheckedTrace:
 
     @cached_property
     def lines(self) -> TraceText:
-        """The trace's lines in words. Ask for them only when the program has accepted the trace."""
+        """The trace's operations in words, and its acknowledged texts. Ask only after the program
+        has accepted the trace: a line with a fault is a TraceError or a KeyError here."""
         return read_text(self.text)
 
     @cached_property
@@ -93,7 +94,8 @@ class CheckedTrace:
         return Workplace(self.options, self.program, self.guard, self.says, self.progress)
 
     def trials_of(self, number: int) -> Trials:
-        """The trials of the window that has a state; Refused if none has it."""
+        """The trials of the window that has the state of a number; Refused if none has it, or the
+        trace has a fault. It plans window after window up to that one."""
         count = 0
         for planned in self.all_planned():
             if planned.plan.has_state(number):
@@ -102,7 +104,7 @@ class CheckedTrace:
         raise Refused(f'no such state: {number} (there are {count:,})')
 
     def head(self) -> Head:
-        """What is checked, for the report."""
+        """A new head of the report: what is checked, without the lines, which are known later."""
         return Head(
             os.path.basename(self.options.trace or ''),
             self.digest(),
@@ -120,8 +122,9 @@ class CheckedTrace:
 
         return hashlib.sha256(self.text.encode('utf-8', 'surrogateescape')).hexdigest()
 
-    def end(self) -> Optional[Planned]:
-        """A plan of the tree at the session's end, if the session is in windows; else None."""
+    def plan_of_end(self) -> Optional[Planned]:
+        """The plan of a trace that has only the tree at the session's end. None if the session
+        isn't in windows: then its own plan has that tree. Ask after the last window."""
         if self.windows is None:
             return None
         path = self.windows.write_end()

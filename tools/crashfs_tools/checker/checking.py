@@ -84,8 +84,9 @@ class Check:
         return earlier
 
     def run(self) -> CheckResult:
-        """Checks window after window. If it ends early after states were tried, the report has
-        these, and what ended it is returned: a stop, or what Interrupted was raised from."""
+        """Checks window after window, and returns the report, also if the check ends early: then
+        `end` of the result is a Stopped, or an Interrupted whose cause is the fault. A fault that
+        comes before the first state was tried is raised."""
         end: Optional[Exception] = None
         try:
             with time_limit(self.options.time_limit):
@@ -109,13 +110,15 @@ class Check:
         return CheckResult(self.report, self.trace.mode, end)
 
     def note_end(self, cause: str) -> None:
-        """Notes what ended the check; the report says so if not all states were tried."""
+        """Notes what ended the check, unless something did before. The report says so if not all
+        states were tried."""
         self.end_cause = self.end_cause or cause
         if not self.is_over:
             self.head.stopped = self.head.stopped or cause
 
     def complete_report(self) -> None:
-        """Adds to the report what is only known at the end, however it came."""
+        """Adds to the report what is only known at the end: what was left out and why, second runs
+        after the time limit, and what the cache had. Stopped if a signal comes meanwhile."""
         self.head.has_rest = self.last is not None and not self.last.trials.planned.is_last
         if self.trace.windows is not None:
             self.head.cut_off = [(one.line, one.tried) for one in self.trace.windows.cut_off]
@@ -133,8 +136,8 @@ class Check:
             yield f'--disks: not tried ({why})'
 
     def check_windows(self) -> None:
-        """Checks each window, up to one that was not tried whole or, with --fail-fast, that has a
-        failure."""
+        """Checks window after window. It ends before the last one at a window that has a failure,
+        with --fail-fast: only this leaves a window in part without an exception."""
         for planned in self.trace.all_planned():
             trials = Trials(self.trace.workplace, planned, keeps_trees=True)
             is_whole = self.try_window(trials)
@@ -149,8 +152,9 @@ class Check:
             self.add_details(trials, window.findings)
 
     def try_window(self, trials: Trials) -> bool:
-        """Tries the states of a window, which becomes the last one, with what was found even if an
-        exception comes; returns whether all were tried."""
+        """Tries the states of a window; returns whether all were tried. Also if an exception comes,
+        the window becomes the last one, and what was found is in the report. Of the first window
+        the start and the end are tried first: Refused if COMMAND fails there."""
         before, planned = self.last, trials.planned
         known = known_states(before.trials.plan, planned.plan) if before else {}
         results = Results(planned.plan, known=known)
@@ -160,7 +164,7 @@ class Check:
             self.head.lines = self.trace.lines.operations
             if self.options.cache is not None:
                 self.open_cache(self.options.cache, trials)
-            FirstTrials(trials, results, self.trace.end()).run()
+            FirstTrials(trials, results, self.trace.plan_of_end()).run()
         try:
             return trials.try_all(results, self.saver_of(results))
         finally:
@@ -169,7 +173,8 @@ class Check:
             self.report.add(self.last.findings)
 
     def open_cache(self, path: str, trials: Trials) -> None:
-        """Opens the outcomes of earlier checks in the directory of --cache."""
+        """Opens the outcomes of earlier checks in the directory of --cache, and gives them to all
+        trials. Refused if the directory can't be used, or COMMAND can't be traced."""
         from crashfs_tools.checker.running.cache import OutcomeCache, open_folder
         from crashfs_tools.checker.running.command_files import command_name
 
@@ -180,8 +185,9 @@ class Check:
         trials.workplace.cache = OutcomeCache(folder, name)
 
     def save_cache(self) -> None:
-        """Writes the outcomes for later checks, if --cache is given. If that fails, a line says so:
-        the later checks are only slower."""
+        """Writes the outcomes for later checks, if --cache is given, and counts in the report those
+        that were taken from it. If the write fails, a line says so: later checks are only
+        slower."""
         cache = self.trace.workplace.cache if self.last is not None else None
         if cache is not None:
             self.report.cached = cache.hits
@@ -223,7 +229,8 @@ class Check:
         return self.head.shard.parts > 1 or self.options.serve is not None
 
     def find_losses(self, trials: Trials, findings: Findings) -> None:
-        """Finds for states that lack several things which loss makes them fail."""
+        """Finds the smallest losses for states whose pair is a guess, and makes the groups again
+        with them."""
         if self.is_part or not any(one.pair.is_guess for one in findings.groups):
             return
         from crashfs_tools.checker.findings.losses import find_losses
@@ -232,8 +239,8 @@ class Check:
         self.report.replace_last(findings)
 
     def rerun_examples(self, window: Window, seconds: float = float('inf')) -> None:
-        """Runs the example of each entry of a window again, with nothing else running; begins none
-        after so many seconds."""
+        """Runs the example of each of the largest groups of a window again, one at a time. After so
+        many seconds no further one is begun."""
         if window.findings.groups:
             from crashfs_tools.checker.findings.reruns import rerun_examples
 
@@ -241,8 +248,8 @@ class Check:
             self.report.replace_last(window.findings)
 
     def add_details(self, trials: Trials, findings: Findings) -> None:
-        """Adds differences and advice, second crashes and disks; nothing if the states are only a
-        part."""
+        """Adds to the report what takes further runs: differences and advice, second crashes,
+        disks. Of a part of the states nothing is added."""
         if self.is_part:
             return
         if findings.groups:
@@ -273,14 +280,15 @@ def new_report(head: Head, options: Options) -> CheckReport:
 
 @contextmanager
 def open_trace(options: Options, guard: Guard, progress: Progress) -> Iterator[CheckedTrace]:
-    """The trace of some options, to which COMMAND's whole path is written. Refused if something of
-    them can't be read or run; within this, what the program refuses is Refused too."""
+    """The trace of some options, in which COMMAND's program gets its whole path (of a function, its
+    name). Refused if the trace, the program or COMMAND isn't there. Within this, a ProgramFault
+    becomes Refused."""
     refuse_unreadable(options.trace or '')
     if options.disks is not None:
         from crashfs_tools.disks.filesystems import require_filesystems
 
         require_filesystems(options.disks)
-    program = Crashfs.find_or_read(options.crashfs, options.unproved)
+    program = Crashfs.program_or_reading(options.crashfs, options.unproved)
     if options.function is None:
         options.command = with_program_path(options.command)
     else:
@@ -308,7 +316,8 @@ def refuse_unreadable(trace: str) -> None:
 def check_trace(
     options: Options, guard: Guard, progress: Progress, has_states: bool = False
 ) -> CheckResult:
-    """Checks the trace of some options. has_states says whether the report has the outcome of each
-    state."""
+    """Checks the trace of some options, and returns the result of Check.run, or raises what it
+    raises. has_states: the report keeps the outcome of each state. COMMAND in the options gets its
+    whole path."""
     with open_trace(options, guard, progress) as trace:
         return Check(trace, has_states).run()

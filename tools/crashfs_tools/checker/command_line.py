@@ -35,7 +35,7 @@ example: crashfs-check --jobs 4 store.trace -- ./recover.sh"""
 
 
 def shard(text: str) -> Shard:
-    """A shard, from `I/N`."""
+    """The shard of `I/N`, with I from 1 to N. ArgumentTypeError for any other text."""
     part, slash, parts = text.partition('/')
     if not (slash and part.isdecimal() and parts.isdecimal() and 1 <= int(part) <= int(parts)):
         raise argparse.ArgumentTypeError(f'{text} is not I/N with I from 1 to N')
@@ -43,7 +43,8 @@ def shard(text: str) -> Shard:
 
 
 def address(text: str) -> Address:
-    """An address, from `HOST:PORT`; a host of IPv6 is in brackets."""
+    """The address of `HOST:PORT`; an IPv6 host is in brackets. ArgumentTypeError for any other
+    text."""
     host, colon, port = text.rpartition(':')
     if not (host and colon and port.isdecimal() and 1 <= int(port) <= 65_535):
         raise argparse.ArgumentTypeError(f'{text} is not HOST:PORT')
@@ -51,14 +52,14 @@ def address(text: str) -> Address:
 
 
 def positive(text: str) -> int:
-    """A number from 1."""
+    """A whole number from 1 on. ArgumentTypeError for any other text."""
     if not (text.isdecimal() and int(text) > 0):
         raise argparse.ArgumentTypeError(f'{text} is not a number from 1')
     return int(text)
 
 
 def job_count(text: str) -> int:
-    """A number of jobs, from 1 to MOST_JOBS."""
+    """A number of jobs, from 1 to MOST_JOBS. ArgumentTypeError for any other text."""
     count = positive(text)
     if count > MOST_JOBS:
         raise argparse.ArgumentTypeError(f'{text} is more than {MOST_JOBS:,}')
@@ -66,7 +67,8 @@ def job_count(text: str) -> int:
 
 
 def state(text: str) -> Tuple[int, Optional[int]]:
-    """A state's number with None, from `N`; or with that of a state of its recovery, from `N/M`."""
+    """The number of a state, and None, of `N`; of `N/M` also the number of a state of its recovery.
+    ArgumentTypeError for any other text."""
     first, slash, second = text.partition('/')
     if not (first.isdecimal() and (second.isdecimal() if slash else True)):
         raise argparse.ArgumentTypeError(f'{text} is neither N nor N/M')
@@ -79,7 +81,7 @@ def names(text: str) -> List[str]:
 
 
 def seconds(text: str) -> float:
-    """A duration above 0."""
+    """A duration in seconds, finite and above 0. ArgumentTypeError for any other text."""
     try:
         value = float(text)
     except ValueError:
@@ -283,7 +285,7 @@ def make_parser() -> argparse.ArgumentParser:
 
 
 def with_number(words: List[str]) -> List[str]:
-    """The arguments, with a number for --every if none follows it."""
+    """The arguments, in which each --every without a number is given MOST_STATES."""
     end = words.index('--') if '--' in words else len(words)
     given = list(words)
     for at in range(end):
@@ -293,19 +295,19 @@ def with_number(words: List[str]) -> List[str]:
 
 
 def read_options(arguments: List[str]) -> Options:
-    """The options of a command line. For one that is refused, or asks for help or the version, it
-    prints a text and ends the program."""
+    """The options of a command line. Prints what is wrong, the help or the version and ends the
+    program (SystemExit) if one of these is due."""
     parser = make_parser()
     values, command = parse_command_line(parser, with_number(arguments))
-    for text, is_so in faults(values, command).items():
+    for text, is_so in possible_faults(values, command).items():
         if is_so:
             parser.error(text)
     return Options(command=command, **vars(values))
 
 
-def faults(values: argparse.Namespace, command: List[str]) -> Dict[str, bool]:
-    """What may be wrong with options that are each right, and whether it is so; the first
-    counts."""
+def possible_faults(values: argparse.Namespace, command: List[str]) -> Dict[str, bool]:
+    """What may be wrong with options that are right one by one, as a line each, and whether it is.
+    The first that is so is reported."""
     is_merge, is_serve = values.merge is not None, values.serve is not None
     is_shard = values.shard.parts > 1
     has_own_states = values.families or values.prefixes or values.quick or is_serve

@@ -34,11 +34,12 @@ BAD_INPUT = 2
 
 
 def run_command(options: Options) -> int:
-    """Does what the options ask for, and returns the exit status. A stop is raised after the report
-    is written."""
+    """Does what the options ask for; returns the exit status. What ended a check early (Stopped or
+    Interrupted) is raised after the report is printed. Refused for bad input, and an OSError if a
+    file can't be read or written."""
     refuse_outputs(options)
     if options.merge is not None:
-        return finish(options, merge_reports(options))
+        return write_and_print(options, merge_reports(options))
     keep_descriptors()
     with Guard(NAME) as guard:
         if options.state is not None:
@@ -46,14 +47,15 @@ def run_command(options: Options) -> int:
 
             return show_state(options, guard)
         checked = check_trace(options, guard, Progress())
-    status = finish(options, Report(checked.report, checked.mode))
+    status = write_and_print(options, Report(checked.report, checked.mode))
     if checked.end is not None:
         raise checked.end
     return status
 
 
 def merge_reports(options: Options) -> Report:
-    """The report of --merge. Refused if the files aren't shards of one check."""
+    """The report of the files of --merge. Refused if they aren't all shards of one check, or not of
+    TRACE."""
     from .merging import merged_report
 
     if options.trace is not None:
@@ -73,7 +75,7 @@ def refuse_outputs(options: Options) -> None:
 
 
 def outputs_of(options: Options) -> Dict[str, str]:
-    """The paths of the files that are written, by their options."""
+    """The paths of the files to write, by the options that name them."""
     outputs = {
         '--json': options.json,
         '--junit': options.junit,
@@ -84,14 +86,14 @@ def outputs_of(options: Options) -> Dict[str, str]:
 
 
 def mode_of_reports(paths: List[str]) -> int:
-    """The mode of a report of other reports: who may read them all may read it."""
+    """The mode for a report made of other reports: only users who may read them all may read it."""
     return reduce(and_, (0o600 | os.stat(path).st_mode & 0o066 for path in paths))
 
 
-def finish(options: Options, report: Report) -> int:
-    """Writes the files and then prints the report; it prints it also if a file can't be written,
-    and then raises the OSError. If standard output has a file, the report goes to standard error.
-    Returns the exit status."""
+def write_and_print(options: Options, report: Report) -> int:
+    """Writes the files that the options name, then prints the report; returns the exit status. If a
+    file can't be written, the report is printed nevertheless, and then the OSError raised. The
+    report goes to standard error if a file is standard output."""
     fault = None
     try:
         write_files(options, report)
@@ -108,7 +110,7 @@ def finish(options: Options, report: Report) -> int:
 
 
 def write_files(options: Options, report: Report) -> None:
-    """Writes the files that the options name."""
+    """Writes the files that the options name, up to the first OSError."""
     if options.json is not None:
         report.write_json(options.json)
     if options.junit is not None:

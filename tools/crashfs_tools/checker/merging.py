@@ -26,12 +26,12 @@ OTHER_PLAN = (
 
 
 def merged_report(options: Options) -> CheckReport:
-    """The report of the files of --merge; how files differ is in it if the trace is given, of which
-    trees are made. Refused if they are not all shards of one check, or not of the trace."""
+    """The report of the files of --merge. If TRACE is given, its states are made again to show how
+    files differ. Refused if the files aren't all shards of one check, or not of TRACE."""
     results = merged_shards([read_json(path) for path in options.merge or []])
     if options.trace is None:
         return report_of(options, results)
-    program = Crashfs.find_or_read(options.crashfs, options.unproved)
+    program = Crashfs.program_or_reading(options.crashfs, options.unproved)
     with Guard(NAME) as guard:
         trace = CheckedTrace(options, program, guard)
         if trace.head().digest != results.head.digest:
@@ -42,7 +42,8 @@ def merged_report(options: Options) -> CheckReport:
 def report_of(
     options: Options, results: AllResults, trace: Optional[CheckedTrace] = None
 ) -> CheckReport:
-    """The report of results. Refused if the trace has other states than they."""
+    """The report of results that were read, window by window. Refused if the trace has other states
+    than they."""
     report = new_report(results.head, options)
     outcomes: Dict[int, Outcome] = {}
     planned = trace.all_planned() if trace else None

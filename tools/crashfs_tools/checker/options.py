@@ -33,8 +33,8 @@ class Shard(NamedTuple):
     part: int = 1
     parts: int = 1
 
-    def has(self, place: int) -> bool:
-        """Whether the state at a place of the list of all, from 0, is of this part."""
+    def has_place(self, place: int) -> bool:
+        """Whether this part has the state at a place, from 0, of the list of all states."""
         return place % self.parts == self.part - 1
 
 
@@ -78,8 +78,8 @@ class Options:
 
     @property
     def leaves_families_out(self) -> bool:
-        """Whether --lost and --files are only tried if they are given. A server has the plan that
-        it was started with: prefixes and holes, unless it has picks."""
+        """Whether --lost and --files must be given to be tried. With --serve the plan is that of
+        the server, which has prefixes and holes unless it was started with picks."""
         return self.quick or self.prefixes or self.serve is not None
 
     @property
@@ -89,18 +89,18 @@ class Options:
 
     @property
     def most_states(self) -> int:
-        """The most different states of which all are tried."""
+        """How many different states there may be at most for all of them to be tried."""
         return self.every or MOST_STATES
 
     @property
-    def draws(self) -> int:
-        """How many sets are drawn if all crash states are too many."""
+    def draw_count(self) -> int:
+        """How many sets are drawn at random if the crash states are too many to be tried."""
         return LIMITED_DRAWS if self.time_limit is not None else DRAWS
 
     @property
     def most_seconds(self) -> float:
-        """How many seconds all crash states may take; as long as they do if that is asked for, or
-        if each shard has a part of them."""
+        """How many seconds all crash states may take before only some are tried. Without a bound if
+        --every or --time-limit is given, and for a shard, which has only a part of them."""
         is_free = self.every is not None or self.time_limit is not None or self.shard.parts > 1
         return float('inf') if is_free else MOST_SECONDS
 

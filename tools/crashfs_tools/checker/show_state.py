@@ -24,8 +24,8 @@ STATUSES = {GOOD: NONE_FAILS, BAD: SOME_FAIL, NO_ANSWER: NOT_ALL_TRIED}
 
 
 def show_state(options: Options, guard: Guard) -> int:
-    """Shows the state that the options name, or a state of its recovery; returns the exit status.
-    Refused if there is no such state."""
+    """Shows the state that --state names, or a state of its recovery; returns the exit status.
+    Refused if there is no such state, or its recovery can't be recorded."""
     with open_trace(options, guard, Progress()) as trace:
         assert options.state is not None
         number, second = options.state
@@ -36,8 +36,8 @@ def show_state(options: Options, guard: Guard) -> int:
 
 
 def try_and_show(trials: Trials, number: int) -> int:
-    """Tries a state, leaves it laid out, and prints its outcome and how to try it by hand; returns
-    the exit status."""
+    """Tries a state, lays it out a second time in a directory that stays, and prints the outcome
+    and how to run COMMAND there. Returns the exit status; Refused if the plan has no such state."""
     if not trials.plan.has_state(number):
         raise Refused(f'no such state: {number} (there are {len(trials.plan.listed):,})')
     state = trials.plan.state(number)
@@ -63,7 +63,7 @@ def leave_laid_out(trials: Trials, state: State) -> Tuple[str, str]:
     of its acknowledged lines. The directory is no mount, also with --serve."""
     folder = os.path.abspath(tempfile.mkdtemp(prefix=f'crashfs-state-{state.number}-'))
     try:
-        ((_, directory),) = trials.archive(folder).states({state.number})
+        ((_, directory),) = trials.archive_layout(folder).states({state.number})
         acknowledged = os.path.join(folder, f'says-{state.says}')
         with open(acknowledged, 'w', **TEXT) as file:
             file.write(trials.says.text(state.says))

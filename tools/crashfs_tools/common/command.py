@@ -29,11 +29,12 @@ LINE_LETTERS = 8192
 
 
 class Refused(Exception):
-    """Bad input: one line that says what is wrong."""
+    """Bad input: a line that says what is wrong, or a few lines."""
 
 
 def split_command(words: List[str]) -> Tuple[List[str], List[str]]:
-    """The words before the first `--`, and those after it, which are COMMAND; none without `--`."""
+    """The words before the first `--`, and those after it, which are COMMAND. COMMAND is empty if
+    there is no `--`."""
     if '--' not in words:
         return words, []
     place = words.index('--')
@@ -115,9 +116,9 @@ def folder_to_write(path: str) -> str:
 
 
 def write_whole(path: str, pieces: Iterable[str], mode: int = 0o666) -> None:
-    """Writes the whole file, or none of it, and returns when it is durable; an OSError has its
-    name. A mode says who may read it at most. `-` is standard output, and what is there and is no
-    plain file, as a device or a pipe, is written in place."""
+    """Replaces a file as a whole, and returns when that is durable; an OSError has its path, and
+    then what was there stays. A mode says who may read it at most. `-` is standard output, and what
+    is no plain file, as a device or a pipe, is written in place."""
     if path == '-':
         with standard_output():
             sys.stdout.writelines(pieces)
@@ -180,8 +181,8 @@ def sync_directory(folder: str) -> None:
 
 
 def mode_to_write(path: str) -> int:
-    """The mode for a file that takes a path: that of the file which is there, else that of a new
-    one."""
+    """The mode of a file that will take a path: that of the file there, or that of a new one by the
+    umask."""
     if os.path.exists(path):
         return os.stat(path).st_mode & 0o777
     umask = os.umask(0)
@@ -217,7 +218,8 @@ def ending_text(status: int) -> str:
 
 
 def print_line(program: str, text: str) -> None:
-    """Prints one line on standard error, if that can be written."""
+    """Prints one line on standard error, in front the program's name; nothing if that can't be
+    written."""
     if sys.stderr is None:
         return
     try:

@@ -43,8 +43,8 @@ def become_reaper() -> bool:
 
 
 def children(process: int = 0) -> Set[int]:
-    """The children of a process, or of this one (0); also those that have ended, until they are
-    waited for. None if the process is gone."""
+    """The children of a process, or of this one (0), also those that have ended until they are
+    waited for. An empty set if the process is gone."""
     folder = f'/proc/{process or "self"}/task'
     try:
         lists = [f'{folder}/{task}/children' for task in os.listdir(folder)]
@@ -106,7 +106,8 @@ def name_of(process: int) -> str:
 
 
 def become_cleaner() -> None:
-    """Gives this process the name CLEANER, if the system can: it is left to end by itself."""
+    """Names this process CLEANER, if the system can: those who end processes let it end by
+    itself."""
     try:
         with open('/proc/self/comm', 'w', encoding='ascii') as file:
             file.write(CLEANER)
@@ -157,7 +158,8 @@ def send_kill(send: Callable[[int, int], None], target: int) -> None:
 
 
 def reap(child: int) -> bool:
-    """Waits for a child if it has ended, and returns whether it has, or was waited for before."""
+    """Waits for a child if it has ended. Returns whether it is gone, also if it was waited for
+    before."""
     try:
         return os.waitpid(child, os.WNOHANG)[0] != 0
     except ChildProcessError:

@@ -30,16 +30,16 @@ class ForkedReading:
                 for stop in STOPS:
                     signal.signal(stop, signal.SIG_DFL)
                 signal.pthread_sigmask(signal.SIG_SETMASK, before)
-                self.run_command(words, out[1], err[1])
+                self.run_and_exit(words, out[1], err[1])
         os.close(out[1])
         os.close(err[1])
         self.stdout: BinaryIO = open(out[0], 'rb')
         self.stderr: BinaryIO = open(err[0], 'rb')
         self.returncode: Any = None
 
-    def run_command(self, words: List[str], out: int, err: int) -> NoReturn:
+    def run_and_exit(self, words: List[str], out: int, err: int) -> NoReturn:
         """In the new process: runs the command, with these descriptors as its two outputs, and ends
-        the process. It never returns."""
+        the process with its status. It never returns."""
         status = INTERNAL_ERROR
         try:
             die_with_parent()
@@ -59,8 +59,8 @@ class ForkedReading:
             os._exit(status)
 
     def communicate(self) -> Tuple[bytes, bytes]:
-        """Waits for its end; all that it printed, and what it printed as an error. That must be
-        short: it is read last."""
+        """Waits for its end; returns all that it printed, and what it printed as an error, which
+        must fit into the pipe, since it is read last."""
         with self.stdout, self.stderr:
             printed, error_text = self.stdout.read(), self.stderr.read()
         self.wait()

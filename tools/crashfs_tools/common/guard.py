@@ -86,7 +86,7 @@ class Guard:
 
     @property
     def environment(self) -> Dict[str, str]:
-        """The environment for processes that the guard ends."""
+        """The environment in which to start processes, so that the guard ends them."""
         return with_token(os.environ, self.token)
 
     def end_processes(self, spared: Iterable[int] = ()) -> Dict[int, str]:
@@ -113,7 +113,7 @@ class Guard:
         return sent
 
     def __exit__(self, *_: object) -> None:
-        """Lets the watcher clean up, waits for it, and names what it could not remove."""
+        """Lets the watcher clean up, waits for it, and prints what it could not remove."""
         os.close(self.alive)
         os.waitpid(self.watcher, 0)
         for path in (self.directory, self.directory + LEFT):
@@ -248,7 +248,8 @@ class TimeUp(Exception):
 
 @contextmanager
 def time_limit(seconds: Optional[float]) -> Iterator[None]:
-    """Within this, TimeUp is raised in the main thread after so many seconds; None is no limit."""
+    """Within this, TimeUp is raised in the main thread after so many seconds; None is no limit.
+    Must be entered in the main thread."""
 
     def end(_: int, __: object) -> None:
         raise TimeUp

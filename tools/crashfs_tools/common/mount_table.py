@@ -39,7 +39,7 @@ class MountTable:
         }
 
     def unmount(self, points: Mapping[int, str]) -> List[str]:
-        """Unmounts these mount points, the last one first, also if they are in use. Returns those
+        """Unmounts these mount points, the last one first, lazily if they are in use. Returns those
         that are still there."""
         for point in reversed(list(points.values())):
             any(run_quietly([*words, point]) for words in UNMOUNTS)

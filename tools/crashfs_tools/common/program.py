@@ -80,8 +80,9 @@ class Crashfs:
         self.refused_version = refused_version
 
     @staticmethod
-    def find_or_read(given: Optional[str], unproved: bool) -> Crashfs:
-        """The program, or the second reading if there is none or it is asked for."""
+    def program_or_reading(given: Optional[str], unproved: bool) -> Crashfs:
+        """The program, as find() finds it, or the second reading if there is none or unproved is
+        set: then `given` isn't looked at. Refused if `given` is no program."""
         program = None if unproved else Crashfs.find(given)
         return program or Crashfs.second_reading()
 
@@ -92,8 +93,9 @@ class Crashfs:
 
     @staticmethod
     def find(given: Optional[str]) -> Optional[Crashfs]:
-        """The program that --crashfs names (Refused if there is none), else that of PATH, else the
-        one that was installed with these tools, else the one built here; None if there is none."""
+        """The program that --crashfs names, else that of PATH, else the one that was installed with
+        these tools, or was built here; None if there is none. Refused if --crashfs names no
+        program."""
         if given is not None:
             if shutil.which(given) is None:
                 raise Refused(f'--crashfs {given}: no such program')
@@ -102,7 +104,8 @@ class Crashfs:
         return None if path is None else Crashfs(path)
 
     def for_version(self, version: int) -> Crashfs:
-        """This program, or the second reading if the program takes no traces of a version."""
+        """This program; or, if it doesn't read traces of a version, the second reading, which says
+        so by its refused_version."""
         if self.unproved or version < NEW_VERSION or self.reads_version(version):
             return self
         return Crashfs.second_reading(refused_version=version)
@@ -127,7 +130,8 @@ class Crashfs:
             return False
 
     def output_of(self, words: List[str], environment: Optional[Dict[str, str]] = None) -> str:
-        """The standard output of a command; ProgramFault if its status isn't 0."""
+        """The standard output of a command; ProgramFault if its status isn't 0, or it can't be
+        started."""
         child = self.start(words, environment)
         out, error_text = child.communicate()
         if child.returncode != 0:
@@ -192,7 +196,8 @@ class Crashfs:
         return int(last[1]) + 1
 
     def tree(self, trace: str, state: int) -> Entries:
-        """The tree of the state of a trace with this number, without the root."""
+        """The tree of the state of a number, without the root; ProgramFault if there is no such
+        state."""
         tree = self.whole_tree(['--trace', trace, '--state', str(state)])
         tree.pop('/', None)
         return tree
@@ -200,14 +205,16 @@ class Crashfs:
     def trees(
         self, words: List[str], environment: Optional[Dict[str, str]] = None
     ) -> Iterator[Tuple[int, Entries]]:
-        """Each state that the option `--states` among the words names, in ascending order: its
-        number, and its tree with the root."""
+        """The states that the option `--states` among the words names, in ascending order: of each
+        its number and its tree, with the root. ProgramFault, at the end, if the program refuses
+        them."""
         with self.archive(words, environment) as archive:
             for top, state in groupby(archive, first_name):
                 yield int(top), {'/' + path[len(top) + 1 :]: entry for path, entry in state}
 
     def whole_tree(self, words: List[str], environment: Optional[Dict[str, str]] = None) -> Entries:
-        """The tree of the one state that the options among the words name, with the root."""
+        """The tree, with the root, of the one state that the options among the words name;
+        ProgramFault if the program refuses it."""
         with self.archive(words, environment) as archive:
             return {'/' + path: entry for path, entry in archive}
 
@@ -254,8 +261,8 @@ class ProgramOutput(io.RawIOBase):
                 return os.readv(self.output, [buffer])
 
     def read_errors(self) -> bool:
-        """Waits for some of what the program prints as an error, and reads it; returns False at its
-        end."""
+        """Reads a piece of what the program prints as an error, after waiting for it, into
+        error_text; returns False at its end."""
         piece = os.read(self.errors, PIECE_BYTES)
         self.error_text = (self.error_text + piece)[-PIECE_BYTES:]
         if not piece and not self.errors_ended:
@@ -279,8 +286,7 @@ def read_to_end(child: RunningProgram, streams: ProgramOutput) -> bytes:
 
 
 def is_plan_too_large(fault: Exception) -> bool:
-    """Whether a fault of the program, or of the second reading, says that a trace is too long for
-    one plan."""
+    """Whether a fault says that a trace is too long for one plan."""
     said = fault.text if isinstance(fault, ProgramFault) else str(fault)
     return any(text in said for text in TOO_LARGE)
 

@@ -42,7 +42,7 @@ def remove_tree(path: str, at: Optional[int] = None, aside: str = '') -> bool:
 def remove_directory(path: str, at: Optional[int], aside: str) -> bool:
     """Removes a directory, and returns whether it is gone, as remove_tree does. An OSError comes
     only if `aside` can't be made."""
-    if is_removed_empty(path, at):
+    if remove_if_empty(path, at):
         return True
     if not os.path.isdir(aside):
         make_aside(aside, path, at)
@@ -56,8 +56,8 @@ def remove_directory(path: str, at: Optional[int], aside: str) -> bool:
     return is_gone
 
 
-def is_removed_empty(path: str, at: Optional[int]) -> bool:
-    """Removes a directory that is empty; returns whether it was."""
+def remove_if_empty(path: str, at: Optional[int]) -> bool:
+    """Removes a directory if it is empty; returns whether it is removed."""
     try:
         os.rmdir(path, dir_fd=at)
     except OSError:
@@ -104,7 +104,7 @@ def remove_first_entry(directory: int) -> Optional[int]:
     if not is_directory:
         os.unlink(entry.name, dir_fd=directory)
         return None
-    if is_removed_empty(entry.name, directory):
+    if remove_if_empty(entry.name, directory):
         return None
     return os.open(entry.name, FOLDER, dir_fd=directory)
 
@@ -121,8 +121,8 @@ class Removal:
         self.waiting: List[str] = []
 
     def remove(self, path: str, at: Optional[int]) -> bool:
-        """Removes a directory as far as it can; returns whether it is gone. What may not be removed
-        stays aside."""
+        """Removes a directory as far as it can; returns whether it is gone from its path. What may
+        not be removed stays aside."""
         is_gone = self.move_aside(path, at)
         while self.waiting:
             name = self.waiting.pop()

@@ -63,12 +63,13 @@ class TraceLine(NamedTuple):
 
     @property
     def statement(self) -> str:
-        """Equal for the lines that one statement of a program makes, however often it runs."""
+        """The same for all lines that one statement of a program makes: the word and the paths,
+        without numbers and random parts."""
         return ' '.join([self.word, without_numbers(self.path), without_numbers(self.target)])
 
     def is_apart_from(self, other: TraceLine) -> bool:
-        """Whether the lines name no path in common, and none in a directory that the other
-        names: then a program may change their order."""
+        """Whether no path of one line is, or is below, a path of the other: then a program may
+        change their order."""
         return not any(
             one.startswith(two) or two.startswith(one)
             for one in self.paths_with_slash
@@ -143,7 +144,8 @@ class TraceText(NamedTuple):
 
 
 def read_text(text: str) -> TraceText:
-    """Reads a trace that `crashfs` has accepted, of any version."""
+    """The operations and acknowledged texts of a trace that `crashfs` has accepted, of any version.
+    Of others TraceError, KeyError or TypeError may come."""
     operations: Dict[int, TraceLine] = {}
     acknowledged: List[str] = []
     for number, fields in fields_of_lines(text.split('\n')):
@@ -155,7 +157,8 @@ def read_text(text: str) -> TraceText:
 
 
 def trace_version(text: str) -> int:
-    """The version that a trace's header gives; 0 if it has no header, or none with a version."""
+    """The version that a trace's header gives; 0 if there is no header, or its version is no
+    number."""
     try:
         _, header = next(fields_of_lines(StringIO(text)))
         version = header['trace']
@@ -165,14 +168,15 @@ def trace_version(text: str) -> int:
 
 
 def root_owner(lines: Iterable[str]) -> str:
-    """The owner of the root, from the header of a trace that `crashfs` has accepted."""
+    """The owner of the root, from the lines of a trace that `crashfs` has accepted: the first one
+    is its header."""
     _, header = next(fields_of_lines(lines))
     return str(header['owner'])
 
 
 def with_syncs(text: str, points: Iterable[Tuple[int, str]]) -> str:
-    """A trace with more syncs: each of the points is a line's number and the path that an fsync
-    after it has."""
+    """The text of a trace with more syncs: each of the points is a line's number, and the path of
+    an fsync that comes after it."""
     paths: Dict[int, List[str]] = {}
     for number, path in sorted(points):
         paths.setdefault(number, []).append(path)
@@ -184,7 +188,7 @@ def with_syncs(text: str, points: Iterable[Tuple[int, str]]) -> str:
 
 
 def without_says(text: str) -> str:
-    """A trace without its acknowledged lines."""
+    """The text of a trace without its acknowledged lines. TraceError if a line is no JSON."""
     lines = text.split('\n')
     says = {number for number, fields in fields_of_lines(lines) if fields.get('op') == 'say'}
     return '\n'.join(line for number, line in enumerate(lines, 1) if number not in says)

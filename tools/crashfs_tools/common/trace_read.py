@@ -106,8 +106,8 @@ def profiles_of(version: int) -> Tuple[str, ...]:
 
 
 def read_line(trace: Trace, fields: Dict[str, Any]) -> None:
-    """Adds a line to a trace: a start line or an operation. ValueError, KeyError or TypeError if it
-    is neither, in the trace's version."""
+    """Adds a start line or an operation to a trace, from its fields. ValueError, KeyError or
+    TypeError if it is neither, in the trace's version."""
     note = fields.pop('note', None) if trace.version >= 3 else None
     kind = type_of_line(fields)
     if not trace.has_kind(kind):
@@ -129,12 +129,14 @@ def type_of_line(fields: Dict[str, Any]) -> Type[Any]:
 
 
 def read_values(fields: Dict[str, Any], kind: Type[Any], version: int) -> Dict[str, Any]:
-    """The values of a line, by the names that the fields of its class have."""
+    """The values of a line for the fields of its class, by their names. ValueError, KeyError or
+    TypeError for a value that isn't there, or is of another kind."""
     return {part.name: read_value(part.name, fields, version) for part in dataclasses.fields(kind)}
 
 
 def read_value(name: str, fields: Dict[str, Any], version: int) -> Any:
-    """The value of a line for a field of its class."""
+    """The value that a line has for a field of its class; KeyError if it has none, ValueError if it
+    is no value for it."""
     if name == 'data':
         if fields.get('start') == 'dir':
             return None

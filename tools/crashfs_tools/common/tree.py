@@ -74,7 +74,7 @@ class Tree:
         return self.steps_of_all + (self.steps_of_version_4 if self.version >= 4 else 0)
 
     def add_start(self, entry: StartLine) -> None:
-        """Adds the file, directory or link of a start line, which must have its parent."""
+        """Adds the file, directory or link of a start line, whose parent must be there."""
         if isinstance(entry, StartLink):
             self.add_link(entry.source, entry.path)
         elif isinstance(entry, StartSymlink):
@@ -132,22 +132,23 @@ class Tree:
         return f'{path} is a directory' if entry.is_directory else None
 
     def file_fault(self, path: str) -> Optional[str]:
-        """Why a path isn't that of a file, which has bytes."""
+        """Why a path isn't that of a file, which has bytes; None if it is."""
         return self.unlink_fault(path) or self.link_fault(path)
 
     def rights_fault(self, operation: Union[Chmod, Chown, Fsync]) -> Optional[str]:
-        """Why an operation can't change or sync the rights of a path."""
+        """Why an operation can't change or sync the rights of its path; None if it can."""
         if operation.path not in self.entries:
             return f'{operation.path} is not there'
         return None if isinstance(operation, Chown) else self.link_fault(operation.path)
 
     def link_fault(self, path: str) -> Optional[str]:
-        """Why an operation that follows symbolic links can't be on a path that is there."""
+        """Why an operation that follows symbolic links can't be on a path that is there: one is
+        there. None if it can."""
         is_link = self.entries[path].link is not None
         return f'{path} is a symbolic link' if is_link else None
 
     def rename_fault(self, operation: Rename) -> Optional[str]:
-        """Why the trace can't have a rename here."""
+        """Why the trace can't have a rename here; None if it can."""
         source, target = operation.source, operation.target
         moved, replaced = self.entries.get(source), self.entries.get(target)
         parent = self.entries.get(parent_of(target))
@@ -163,7 +164,7 @@ class Tree:
         return fault or self.records_fault(operation) or path_fault(target)
 
     def directory_fault(self, source: str, target: str) -> Optional[str]:
-        """Why a directory can't be renamed from `source` to `target`."""
+        """Why a directory can't be renamed from `source` to `target`; None if it can."""
         if self.version < 4:
             return f'{source} is a directory'
         if target == source or target not in self.entries:
@@ -173,7 +174,8 @@ class Tree:
         return self.rmdir_fault(target)
 
     def records_fault(self, operation: Rename) -> Optional[str]:
-        """Why there is no room for a rename, which counts if it goes into another directory."""
+        """Why there is no room for a rename, which counts as a record if it goes into another
+        directory; None if there is."""
         is_counted = self.version >= 4 and self.changes_directory(operation)
         if is_counted and self.records >= limits.RECORDS:
             return f'more than {limits.RECORDS} files and directories'
@@ -187,7 +189,7 @@ class Tree:
         return parent_of(source) != parent_of(target) and not is_nothing
 
     def rmdir_fault(self, path: str) -> Optional[str]:
-        """Why a path is no empty directory."""
+        """Why a path isn't that of an empty directory; None if it is."""
         entry = self.entries.get(path)
         if entry is None or not entry.is_directory:
             return f'{path} is no directory of the trace'
@@ -196,7 +198,7 @@ class Tree:
         return f'{path} has entries' if full else None
 
     def size_fault(self, operation: Operation) -> Optional[str]:
-        """Why a file can't get the size that an operation gives it."""
+        """Why a file can't get the size that an operation gives it; None if it can."""
         end, most = 0, limits.most_file_bytes(self.version)
         if isinstance(operation, Write):
             end = operation.offset + len(operation.data) if operation.data else 0
@@ -207,7 +209,7 @@ class Tree:
     # What an operation does
 
     def apply(self, operation: Operation) -> None:
-        """Does an operation that has no fault, and counts its micro-operations."""
+        """Does an operation, for which fault() must be None, and counts its micro-operations."""
         if isinstance(operation, (Creat, Mkdir)):
             data = b'' if isinstance(operation, Creat) else None
             entry = Entry(operation.owner, operation.group, operation.mode, data)
@@ -277,7 +279,8 @@ class Tree:
         return (end - 1) // self.block - begin // self.block + 1
 
     def set_rights(self, operation: Union[Chmod, Chown]) -> int:
-        """Sets a mode or owners; returns 1, for a micro-operation, if they were others before."""
+        """Sets a mode or an owner and group. Returns how many micro-operations that is: 1, or 0 if
+        they were so before."""
         entry = self.entries[operation.path]
         before = entry.owner, entry.group, entry.mode
         if isinstance(operation, Chmod):

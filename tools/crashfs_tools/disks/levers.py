@@ -6,13 +6,13 @@ import os
 from enum import Enum
 from typing import Iterator, List, NamedTuple, Optional, Sequence
 
-from .replay import Change, Replay, sync_directory
+from .replay import UnsyncedChange, Replay, sync_directory
 
 # At most so many earlier changes are tried at a moment: the last ones.
 MOST_EARLIER = 8
 
 # The changes of each file that no sync covers, in their order.
-Unsynced = Sequence[Sequence[Change]]
+Unsynced = Sequence[Sequence[UnsyncedChange]]
 
 
 class Lever(Enum):
@@ -38,7 +38,7 @@ class Pull(NamedTuple):
 
     lever: Lever
     place: Optional[int] = None
-    change: Optional[Change] = None
+    change: Optional[UnsyncedChange] = None
 
 
 def pulls(lever: Lever, unsynced: Unsynced, done: int) -> Iterator[Pull]:
@@ -52,7 +52,7 @@ def pulls(lever: Lever, unsynced: Unsynced, done: int) -> Iterator[Pull]:
         yield Pull(lever)
 
 
-def earlier_changes(unsynced: Unsynced, done: int) -> List[Change]:
+def earlier_changes(unsynced: Unsynced, done: int) -> List[UnsyncedChange]:
     """The changes after which a file may have been written, but not after its last one: those of
     the files that the last operation did not change. There are none if it changed no file, since
     the others then have no new bytes."""

@@ -90,7 +90,7 @@ def make_symlink(path: str, made: Union[Symlink, StartSymlink], owners: Owners) 
         os.lchown(path, *rights)
 
 
-class Change(NamedTuple):
+class UnsyncedChange(NamedTuple):
     """An operation that changed a file's bytes or size: how many operations were done with it, and
     the file's path then."""
 
@@ -110,7 +110,7 @@ class Replay:
         self.owners = owners
         self.files: Dict[int, int] = {}
         self.done = 0
-        self.unsynced: Dict[int, List[Change]] = {}
+        self.unsynced: Dict[int, List[UnsyncedChange]] = {}
 
     def __enter__(self) -> Replay:
         return self
@@ -187,7 +187,7 @@ class Replay:
 
     def note_unsynced(self, path: str) -> None:
         """Notes that a file has bytes that no sync covers."""
-        self.unsynced.setdefault(self.inode(path), []).append(Change(self.done, path))
+        self.unsynced.setdefault(self.inode(path), []).append(UnsyncedChange(self.done, path))
 
     def chmod(self, one: Chmod) -> None:
         os.chmod(self.path(one.path), one.mode)

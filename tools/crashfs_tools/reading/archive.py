@@ -27,7 +27,8 @@ class ArchiveWriter:
         return self
 
     def __exit__(self, *_: object) -> None:
-        """The end is two empty blocks, and not as many as fill a record of a tape."""
+        """Ends the archive by two empty blocks, without the padding that fills a record of a
+        tape."""
         stream = self.file.fileobj
         assert stream is not None
         stream.write(bytes(2 * tarfile.BLOCKSIZE))
@@ -52,19 +53,19 @@ class ArchiveWriter:
         start = self.tree(0)
         for number in numbers:
             tree = self.tree(number)
-            gone = [path for path in in_order(start) if path not in tree]
+            gone = [path for path in paths_in_order(start) if path not in tree]
             shown = ''.join(shown_name(path, start[path]) + '\0' for path in gone).encode()
             missing = tarfile.TarInfo(f'{number}.missing')
             missing.size = len(shown)
             self.file.addfile(missing, BytesIO(shown))
-            for path in in_order(tree):
+            for path in paths_in_order(tree):
                 if start.get(path) != tree[path]:
                     self.write_item(f'{number}{path}', tree[path])
 
     def write_tree(self, number: int, top: str) -> None:
         """Writes the tree of a state; top, which ends in a slash, is put before its paths."""
         tree = self.tree(number)
-        for path in in_order(tree):
+        for path in paths_in_order(tree):
             name = top if path == '/' else ('' if top == './' else top) + path[1:]
             self.write_item(name, tree[path])
 
@@ -86,8 +87,8 @@ class ArchiveWriter:
             self.file.addfile(info, Reader(data, [(0, data.length)]))
 
     def write_sparse(self, info: tarfile.TarInfo, data: Data) -> None:
-        """Writes a file in pieces, in the PAX format 1.0 of GNU tar: a map, and then the pieces.
-        The name of the info changes as that format has it."""
+        """Writes a file in pieces, in the PAX format 1.0 of GNU tar: a map, then the pieces. Into
+        the info it writes the name that this format has, and its fields."""
         runs = runs_of(data)
         head = map_of(runs, data.length)
         above, slash, name = info.name.rpartition('/')
@@ -125,7 +126,7 @@ class Reader(BytesIO):
         return found
 
 
-def in_order(tree: Dict[str, Item]) -> List[str]:
+def paths_in_order(tree: Dict[str, Item]) -> List[str]:
     """The paths of a tree in the order of archives: name by name, each after its directory."""
     return sorted(tree, key=lambda path: path.split('/'))
 

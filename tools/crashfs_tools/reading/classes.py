@@ -43,7 +43,7 @@ class Classes:
         self.reading = reading
         self.order = order
         self.contents = Contents(reading)
-        self.start = {file: self.contents.start(file) for file in reading.made_rights}
+        self.start = {file: self.contents.number_at_start(file) for file in reading.made_rights}
         self.start_entries: Dict[int, List[Entry]] = {}
         for entry, node in reading.start.items():
             if node.kind != DIRECTORY:
@@ -62,13 +62,13 @@ class Classes:
         self._start_paths: Dict[str, Inode] = {}
 
     def different(self) -> Iterator[int]:
-        """The first set of each different state, ascending as every_set has them."""
+        """The first set of each different state, in the order of every_set."""
         followed: Set[Tuple[int, SetResult]] = set()
         trees: Set[Tuple[int, Tree]] = set()
         waiting = [(0, self.order.full, SetResult(self.number_of_names({}), (), 0))]
         while waiting:
             places, future, found = waiting.pop()
-            one = future, self.left(found, future)
+            one = future, self.seen_result(found, future)
             if one in followed:
                 continue
             followed.add(one)
@@ -83,13 +83,14 @@ class Classes:
                 trees.add(tree)
                 yield places
 
-    def left(self, found: SetResult, future: int) -> SetResult:
-        """What a set leaves, without what no extension of it by a future can show."""
+    def seen_result(self, found: SetResult, future: int) -> SetResult:
+        """What a set leaves as far as extensions by a future can show it: without files that have
+        no name then, and bytes past a size that stays."""
         files = []
         for file, content in found.files:
             if self.is_named(found.names, file) or future & self.linked.get(file, 0):
                 if not future & self.resized.get(file, 0):
-                    content = self.contents.shown(content)
+                    content = self.contents.shown_number(content)
                 if content != self.start[file]:
                     files.append((file, content))
         return found._replace(files=tuple(files))
@@ -101,13 +102,14 @@ class Classes:
         return found
 
     def after_operation(self, found: SetResult, place: int) -> SetResult:
-        """What a set leaves after the micro-operation at a place. Files are sorted: equal results
-        are equal keys."""
+        """What a set leaves after the micro-operation at a place, which it doesn't have; one on no
+        file, entry or directory is an acknowledged line. Files are sorted: equal results are equal
+        keys."""
         operation = self.reading.operations[place]
         if operation.file is not None:
             files = dict(found.files)
             content = files.get(operation.file, self.start[operation.file])
-            files[operation.file] = self.contents.changed(content, place)
+            files[operation.file] = self.contents.number_after(content, place)
             return found._replace(files=tuple(sorted(files.items())))
         if operation.entries or operation.directory is not None:
             return found._replace(names=self.names_after(found.names, place, operation))
@@ -115,8 +117,8 @@ class Classes:
         return found._replace(says=found.says + 1)
 
     def names_after(self, names: int, place: int, operation: Micro) -> int:
-        """The number of the names, from a number of names, after the micro-operation at a place
-        changed entries or a directory's rights."""
+        """The number of the names after the micro-operation at a place, of a set whose names have a
+        number; it changes entries or a directory's rights."""
         key = names, place
         if key not in self._renamed:
             changed = dict(self.names[names])
@@ -126,8 +128,8 @@ class Classes:
         return self._renamed[key]
 
     def change_names(self, changed: Names, operation: Micro) -> None:
-        """Changes entries as a micro-operation does; entries that are as at the start are
-        dropped."""
+        """Changes `changed` as a micro-operation changes entries; those that are as at the start
+        are dropped from it."""
         nodes = {entry: self.node_at_entry(changed, entry) for entry in operation.entries}
         there = {entry: node for entry, node in nodes.items() if node is not None}
         change_entries(there, operation)
@@ -137,8 +139,8 @@ class Classes:
                 del changed[entry]
 
     def change_directories(self, changed: Names, operation: Micro) -> None:
-        """Changes the rights of directories as a micro-operation does; those that are as at the
-        start are dropped, and those of a directory that is removed."""
+        """Changes `changed` as a micro-operation changes the rights of directories; those that are
+        as at the start, or of a removed directory, are dropped from it."""
         rights: Dict[int, Rights] = {}
         change_rights(rights, operation)
         for directory, one in rights.items():
@@ -155,7 +157,7 @@ class Classes:
         return node
 
     def number_of_names(self, names: Names) -> int:
-        """The number of changed names, the same for equal ones."""
+        """The number of changed names: equal ones have one number."""
         key = frozenset(names.items())
         if key not in self.numbers:
             self.numbers[key] = len(self.names)
@@ -207,7 +209,7 @@ class Classes:
         )
 
     def home_path(self, entry: Entry) -> str:
-        """The path of an entry whose directory is where it was made."""
+        """The path of an entry while no directory above it is moved."""
         return f'{self.reading.homes[entry[0]]}/{entry[1]}'
 
     def nodes_at_home(self, found: SetResult) -> Dict[str, Optional[Inode]]:
@@ -247,10 +249,12 @@ class Classes:
             return None
         if node.kind == DIRECTORY:
             return node.kind, names.get(node.number, self.reading.start_rights.get(node.number))
-        return node.kind, self.contents.shown(contents.get(node.number, self.start[node.number]))
+        return node.kind, self.contents.shown_number(
+            contents.get(node.number, self.start[node.number])
+        )
 
 
 def add_place(places: Dict[int, int], file: Optional[int], place: int) -> None:
-    """Adds a place to the set of a file's places."""
+    """Adds a place to the set of a file in `places`."""
     assert file is not None
     places[file] = places.get(file, 0) | 1 << place

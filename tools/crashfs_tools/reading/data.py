@@ -42,21 +42,22 @@ class Data:
             self.blocks.pop(block, None)
 
     def resize(self, length: int) -> None:
-        """Sets the length. One that is less drops every byte past it."""
+        """Sets the length. A smaller one drops every byte past it, so that a larger one later shows
+        zeros there."""
         if length < self.length:
-            self.cut(length)
+            self.clear_from(length)
         self.length = length
 
-    def cut(self, length: int) -> None:
-        """Drops the bytes from an offset on. The length stays."""
-        full, rest = divmod(length, self.block_size)
+    def clear_from(self, offset: int) -> None:
+        """Makes all bytes from an offset on zeros, also hidden ones. The length stays."""
+        full, rest = divmod(offset, self.block_size)
         for block in [block for block in self.blocks if block >= full]:
             self.set_block(block, self.blocks[block][:rest].rstrip(b'\0') if block == full else b'')
 
     def shown(self) -> Data:
         """The same without the bytes past the length."""
         data = self.copy()
-        data.cut(self.length)
+        data.clear_from(self.length)
         return data
 
     def __eq__(self, other: object) -> bool:

@@ -74,8 +74,8 @@ class Digests:
         return self.reading.made_data.get(number, Data(self.reading.block_size))
 
     def last_writes(self, places: int) -> int:
-        """Of writes of one block those that can be seen: the last one alone if it is of the whole
-        block, else all."""
+        """Of a set of writes of one block those whose bytes can be seen: the last one alone if it
+        is of the whole block, else all."""
         last = places.bit_length() - 1
         operation = self.reading.operations[last] if places else None
         if isinstance(operation, WriteBlock) and len(operation.data) == self.reading.block_size:

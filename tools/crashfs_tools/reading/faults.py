@@ -24,7 +24,7 @@ class LineFault(Exception):
         self.why = why
 
     def at(self, line: int) -> ReadingFault:
-        """The fault of the line of a number, as it is printed."""
+        """This fault as that of the line with a number, as the program prints it."""
         return ReadingFault(f'trace line {line}: {self.kind}', line, self.why)
 
 

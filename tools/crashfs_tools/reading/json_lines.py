@@ -15,8 +15,8 @@ LARGEST = 2**64 - 1
 
 
 def read_object(line: str) -> Dict[str, Any]:
-    """The keys and values of a line; of two equal keys the last one counts. LineFault if it isn't
-    an object that the program reads."""
+    """The keys and values of a line; of two equal keys the last one counts. LineFault for what the
+    program doesn't read: no JSON, no object, values nested too deep, half of a surrogate pair."""
     try:
         value = json.loads(
             line, parse_int=number, parse_float=finite, parse_constant=refuse_constant
@@ -33,8 +33,8 @@ def read_object(line: str) -> Dict[str, Any]:
 
 
 def number(text: str) -> float:
-    """The number of some digits. One with a sign, or with more digits than any number that a trace
-    may have, is a float, which no key accepts."""
+    """The number that digits mean. One with a sign, or with more digits than any number of a trace,
+    is a float, which no key accepts; ValueError if that is infinite."""
     return int(text) if text[0] != '-' and len(text) <= DIGITS else finite(text)
 
 
@@ -53,7 +53,7 @@ def refuse_constant(text: str) -> None:
 
 
 def depth(value: Any) -> int:
-    """How many levels of objects and arrays a value has."""
+    """How many levels of objects and arrays a value has; 0 for a value that is neither."""
     if not isinstance(value, (dict, list)):
         return 0
     below = value.values() if isinstance(value, dict) else value

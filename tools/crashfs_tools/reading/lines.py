@@ -73,7 +73,7 @@ class Line:
 
     @property
     def data(self) -> bytes:
-        """The bytes of a file or a write."""
+        """The bytes of a file or a write that has no parts."""
         return bytes_of(self.fields)
 
     @property
@@ -85,12 +85,12 @@ class Line:
 
     @property
     def length(self) -> int:
-        """The length of a start file."""
+        """The length of a start file, with its zeros."""
         return int(self.fields['length']) if 'parts' in self.fields else len(self.data)
 
 
 def bytes_of(fields: Fields) -> bytes:
-    """Bytes, which versions 3 and 4 may have as a text."""
+    """The bytes of a line, or of a part: `text` in UTF-8, or `bytes` in hexadecimal digits."""
     if 'text' in fields:
         return str(fields['text']).encode('utf-8')
     return bytes.fromhex(fields['bytes'])
@@ -104,7 +104,8 @@ class LineJudge:
         self.has_operation = False
 
     def read(self, number: int, text: str) -> Line:
-        """The line of a number, from its text; LineFault for one with a fault of its own."""
+        """The line of a number, from its text; LineFault for the first fault that the line has by
+        itself. It must be given all lines, in their order."""
         fields = read_object(text)
         keys = [key for key in ('trace', 'start', 'op') if key in fields]
         if len(keys) != 1:
@@ -120,7 +121,8 @@ class LineJudge:
         return line
 
     def check_header(self, line: Line) -> None:
-        """Sets the version to that of a header; LineFault for one that isn't known."""
+        """Sets the version to that of a header. LineFault for an unknown version, or other keys or
+        values than those of its version."""
         version = line.fields['trace']
         if not is_number(version) or version not in HEADERS:
             raise syntax(f'version {version} is not known (1, 2, 3, 4)')
@@ -131,8 +133,8 @@ class LineJudge:
             raise syntax(f'profile "{profile}" is not known in version {version}')
 
     def check_word(self, line: Line) -> None:
-        """Sets the word of a line; LineFault for one that the version lacks, for a start line after
-        an operation, or for other keys than those of the word."""
+        """Sets the word of a line. LineFault for a word that the version lacks, for a start line
+        after an operation, and as check_keys raises it."""
         if line.key == 'start' and self.has_operation:
             raise syntax('a start line after an operation')
         self.has_operation = line.key == 'op'
@@ -165,7 +167,8 @@ class LineJudge:
             check_target(line.fields['target'])
 
     def other_bytes(self, line: Line) -> Set[str]:
-        """The keys by which a line has its bytes, if it hasn't the key `bytes`."""
+        """The keys by which a line has its bytes if it hasn't `bytes`: `text`, or the length and
+        the parts of a file. `bytes` if it has none of them, so that it is reported as missing."""
         if self.version >= 4 and line.key == 'start' and 'parts' in line.fields:
             return {'length', 'parts'}
         return {'text' if self.version >= 3 and 'text' in line.fields else 'bytes'}

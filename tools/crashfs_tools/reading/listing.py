@@ -13,7 +13,8 @@ from .states import Digest
 
 
 def listing(plan: StateList, lines: bool = False, same: bool = False) -> Iterator[str]:
-    """The lines that `list` prints of a plan, with --lines and with --same."""
+    """The lines that `list` prints of a plan: with `lines` as --lines has them, with `same` as
+    --same."""
     for place, operation in enumerate(plan.reading.operations):
         yield f'op {place} {operation.text}{origin_text(operation) if lines else ""}\n'
     first: Dict[Digest, int] = {}
@@ -59,7 +60,7 @@ def json_listing(plan: StateList) -> Iterator[str]:
 
 
 def state_fields(text: str) -> Dict[str, Any]:
-    """The fields that say which set a state is, from its text in a StateList."""
+    """The fields of JSON that say which set a state is, from its text in a StateList."""
     kind, *numbers = text.split(' ')
     if kind == 'pick':
         places = [] if numbers == ['-'] else list(map(int, numbers[0].split(',')))

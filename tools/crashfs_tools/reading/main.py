@@ -38,7 +38,7 @@ def main(words: List[str]) -> int:
     """Runs a command, such as `list`, and returns its exit status, which is the program's."""
     try:
         options = read_options(words)
-        run(words[0], options)
+        print_output(words[0], options)
         sys.stdout.flush()
         return 0
     except Usage as usage:
@@ -78,8 +78,9 @@ def read_options(words: List[str]) -> Options:
     return options
 
 
-def run(command: str, options: Options) -> None:
-    """Prints what a command asks for; ReadingFault if its input has a fault."""
+def print_output(command: str, options: Options) -> None:
+    """Prints what a command asks for. ReadingFault if its input has a fault, Usage if its options
+    don't go together."""
     if '--help' in options:
         print(HELP)
         return
@@ -112,7 +113,7 @@ def write_archive(plan: StateList, options: Options) -> None:
     # `list` begins faster without tarfile.
     from .archive import ArchiveWriter
 
-    numbers = states_of(plan, options)
+    numbers = numbers_of_states(plan, options)
     with ArchiveWriter(plan, sys.stdout.buffer, '--sparse' in options) as archive:
         if '--changes' in options:
             archive.write_changes(numbers)
@@ -122,9 +123,9 @@ def write_archive(plan: StateList, options: Options) -> None:
             archive.write_states(numbers)
 
 
-def states_of(plan: StateList, options: Options) -> List[int]:
-    """The numbers of the states that options name, in their order; ReadingFault if one isn't
-    there."""
+def numbers_of_states(plan: StateList, options: Options) -> List[int]:
+    """The numbers of the states that the options of `tar` name, in their order. ReadingFault if a
+    state isn't there, Usage if the text is no list of numbers."""
     if '--state' in options:
         shown = str(options['--state'])
         if not is_number(shown):

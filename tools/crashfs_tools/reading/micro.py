@@ -40,7 +40,8 @@ class Micro:
         raise NotImplementedError
 
     def path_of_file(self) -> Dict[str, Any]:
-        """The fields of a micro-operation that changes a file."""
+        """The fields of JSON that a micro-operation on a file has: a path of it, if it has one, and
+        its number."""
         return {'path': self.path or None, 'file': self.file}
 
 

@@ -28,7 +28,7 @@ Entry = Tuple[int, str]
 
 
 def parent(path: str) -> str:
-    """The path of the directory that has a path's last name."""
+    """The path of the directory that has a path's last name; that of the root is the root."""
     return path.rpartition('/')[0] or '/'
 
 
@@ -66,19 +66,19 @@ class Names:
         return found
 
     def entry(self, path: str) -> Entry:
-        """The entry of a path whose parent directory is there."""
+        """The entry of a path, whose parent directory must be there."""
         above = self.inode_at(parent(path))
         assert above is not None and above.kind == DIRECTORY
         return above.number, path.rpartition('/')[2]
 
     def file_number(self, path: str) -> int:
-        """The number of the file or symbolic link at a path, where one is."""
+        """The number of the file or symbolic link at a path, which must be there."""
         node = self.inode_at(path)
         assert node is not None and node.kind != DIRECTORY
         return node.number
 
     def path_of(self, entry: Entry) -> str:
-        """The path of an entry as the tree is now."""
+        """The path that an entry has in the tree as it is now."""
         directory, name = entry
         above = '' if directory == ROOT else self.path_of(self.directories[directory])
         return f'{above}/{name}'
@@ -149,7 +149,8 @@ class Names:
     # What a line needs
 
     def refuse_unfit(self, line: Line) -> None:
-        """LineFault for a line that doesn't fit the tree; its path, for example, is missing."""
+        """LineFault if a line doesn't fit the tree: a path is missing, taken or of another kind, or
+        a limit is passed."""
         if line.key == 'trace':
             return
         if line.word in ('creat', 'mkdir', 'dir', 'file', 'symlink'):
@@ -199,7 +200,7 @@ class Names:
             raise LineFault('Exists', f'{path} is there already')
 
     def refuse_rename(self, old: str, new: str) -> None:
-        """LineFault with the first fault of a rename, if it has one."""
+        """LineFault with the first fault of a rename of `old` to `new`, if it has one."""
         node = self.need(old)
         if node.kind == DIRECTORY and self.version < 4:
             raise LineFault('NotFile', f'{old} is a directory')
@@ -215,7 +216,7 @@ class Names:
             raise LineFault('NotFile', f'{new} is a directory')
 
     def refuse_rmdir(self, path: str) -> None:
-        """LineFault with the first fault of a removal of a directory, if it has one."""
+        """LineFault unless an empty directory is at a path."""
         node = self.need(path)
         if node.kind != DIRECTORY:
             raise LineFault('NotDir', f'{path} is {WORDS[node.kind]}')
@@ -235,8 +236,8 @@ class Names:
             raise LineFault('TooLarge', f'a file of more than {most} bytes')
 
     def moves_elsewhere(self, line: Line) -> bool:
-        """Whether a line is a rename into another directory that isn't nothing: it counts as a
-        record."""
+        """Whether a line is a rename, of version 4, into another directory that does something: it
+        counts as a record."""
         if self.version < 4 or line.word != 'rename':
             return False
         old, new = line.fields['from'], line.fields['to']

@@ -7,7 +7,7 @@ from itertools import islice
 from typing import Dict, Iterator, List, Union
 
 from .classes import Classes
-from .every import count_sets, every_set, sample
+from .every import count_sets, drawn_sets, every_set
 from .faults import ReadingFault
 from .lines import PROFILES
 from .order import Order, order_in
@@ -43,12 +43,12 @@ def refuse_options(options: Options) -> None:
     if options.get('--profile', PROFILES[0]) not in PROFILES:
         raise Usage(f"invalid value '{options['--profile']}' for '--profile <F>'")
     for option in LARGEST:
-        number_of(options, option)
+        number_of_option(options, option)
 
 
-def number_of(options: Options, option: str, default: int = MOST) -> int:
-    """The number that an option has, or a default if it isn't given; Usage if it is out of
-    range."""
+def number_of_option(options: Options, option: str, default: int = MOST) -> int:
+    """The number that an option has, or a default if it isn't given; Usage if it is no number, or
+    out of range."""
     if option not in options:
         return default
     text = str(options[option])
@@ -63,7 +63,7 @@ def is_number(text: str) -> bool:
 
 
 def printed_lines(reading: Reading, options: Options) -> Iterator[str]:
-    """The lines that `picks` prints of a trace. The first one is a ReadingFault if it is
+    """The lines that `picks` prints of a trace. ReadingFault, before the first line, if it is
     refused."""
     if '--count' in options:
         yield f'{shown_count(count_sets(Order(reading)))}\n'
@@ -85,8 +85,8 @@ def sets_of(reading: Reading, options: Options) -> Iterator[List[int]]:
     if '--every' in options:
         return every_members(reading, options)
     if '--sample' in options:
-        seed = number_of(options, '--seed')
-        drawn = sample(Order(reading), number_of(options, '--sample'), seed)
+        seed = number_of_option(options, '--seed')
+        drawn = drawn_sets(Order(reading), number_of_option(options, '--sample'), seed)
         return (list(places_of(places)) for places in drawn)
     plan = StateList(reading)
     families = [lost_sets(plan)] if '--lost' in options else []
@@ -101,7 +101,7 @@ def every_members(reading: Reading, options: Options) -> Iterator[List[int]]:
     order = Order(reading) if profile is None else order_in(reading, str(profile))
     is_different = '--different' in options
     members = Classes(reading, order).different() if is_different else every_set(order)
-    most = number_of(options, '--most')
+    most = number_of_option(options, '--most')
     found = list(islice(members, most + 1))
     if len(found) > most:
         raise ReadingFault(f'more than {most} sets')

@@ -41,7 +41,8 @@ class StateList:
                     self.add(f'hole {lost} {end}', kept)
 
     def refuse_bad_pick(self, number: int, pick: Sequence[int]) -> None:
-        """ReadingFault for a pick that isn't ascending, or that no crash leaves."""
+        """ReadingFault, with the pick's number, for places that don't ascend, or that no crash
+        leaves."""
         ascending = all(one < other for one, other in zip(pick, pick[1:]))
         if not (
             ascending
@@ -70,8 +71,8 @@ def plan_of(
 
 
 def add_families(plan: StateList, has_lost: bool, has_files: bool) -> None:
-    """Adds the sets of the families that the plan doesn't have, each once; ReadingFault if the plan
-    is full."""
+    """Adds to a plan the sets of the families that are asked for and that it lacks, each once;
+    ReadingFault if the plan is full."""
     families = [lost_sets(plan)] if has_lost else []
     families += [file_sets(plan)] if has_files else []
     known = {places for _, places in plan.states}
@@ -104,7 +105,8 @@ def lost_sets(plan: StateList) -> Iterator[int]:
 
 
 def file_sets(plan: StateList) -> Iterator[int]:
-    """The family --files: each prefix without those changes of a file that no sync covers."""
+    """The family --files: each prefix without those changes of one file that no sync covers. A set
+    may come several times."""
     order, trees = plan.order, plan.trees
     for count in range(1, order.count + 1):
         # A sync after the prefix's last micro-operation hasn't ended yet.
@@ -116,7 +118,7 @@ def file_sets(plan: StateList) -> Iterator[int]:
 
 
 def different_places(sets: Iterator[int]) -> Iterator[List[int]]:
-    """The places of each set, once for sets that come again."""
+    """The places of each set; a set that comes again is left out."""
     seen = set()
     for places in sets:
         if places not in seen:

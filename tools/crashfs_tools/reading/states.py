@@ -130,7 +130,8 @@ class States:
         return f'{self.reading.homes[entry[0]]}/{entry[1]}'
 
     def make_file(self, number: int, places: int) -> Tuple[Rights, Data]:
-        """The rights and bytes of a file, by its number, after some of its changes."""
+        """The rights and bytes of a file, by its number, after some of its changes; without hidden
+        bytes."""
         rights = self.reading.made_rights[number]
         data = self.reading.made_data.get(number, Data(self.reading.block_size)).copy()
         operations: List[Micro] = [self.reading.operations[place] for place in places_of(places)]

@@ -18,7 +18,7 @@ class SyncPoint:
         self.number = number
 
     def covers(self, operation: Micro) -> bool:
-        """Whether it makes an earlier micro-operation durable."""
+        """Whether it makes a micro-operation durable that comes before it."""
         return True
 
     def is_fresh(self, since: List[Micro]) -> bool:
@@ -30,7 +30,8 @@ class FileSync(SyncPoint):
     """An fsync of a file, by its number."""
 
     def covers(self, operation: Micro) -> bool:
-        """Whether it makes a micro-operation durable."""
+        """Whether a micro-operation that comes before it changes the file's size, bytes or
+        rights."""
         return operation.file == self.number
 
     def is_fresh(self, since: List[Micro]) -> bool:
@@ -46,9 +47,11 @@ class DataSync(FileSync):
     the log."""
 
     def covers(self, operation: Micro) -> bool:
+        """Whether a micro-operation that comes before it changes the file's size or bytes."""
         return super().covers(operation) and not isinstance(operation, SetRights)
 
     def is_fresh(self, since: List[Micro]) -> bool:
+        """Whether the file was made, or got a new size, since."""
         return any(
             isinstance(one, ChangeSize)
             and one.file == self.number
@@ -68,6 +71,8 @@ class RangeSync(DataSync):
         self.end = offset + length
 
     def covers(self, operation: Micro) -> bool:
+        """Whether a micro-operation that comes before it changes the file's size, or writes bytes
+        that are all in the part."""
         if not super().covers(operation):
             return False
         if isinstance(operation, WriteBlock):
@@ -86,6 +91,8 @@ class DirectorySync(SyncPoint):
         )
 
     def is_fresh(self, since: List[Micro]) -> bool:
+        """Whether the directory, or an entry of it, was changed since, or the directory was made or
+        moved."""
         own = Inode(DIRECTORY, self.number)
         return any(self.covers(one) or own in one.handled for one in since)
 

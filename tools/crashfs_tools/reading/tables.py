@@ -18,8 +18,8 @@ class EntryTable:
         self.rights: Dict[int, Rights] = dict(reading.start_rights)
 
     def apply(self, operation: Micro) -> None:
-        """Changes entries and rights as a micro-operation does; one that changes a file's bytes
-        does nothing here. What it needs must have been applied."""
+        """Changes entries and rights as a micro-operation does; one that changes a file does
+        nothing here. KeyError if what it needs wasn't applied."""
         change_entries(self.entries, operation)
         change_rights(self.rights, operation)
 
@@ -40,8 +40,8 @@ def change_entries(entries: Dict[Entry, Inode], operation: Micro) -> None:
 
 
 def change_rights(rights: Dict[int, Rights], operation: Micro) -> None:
-    """Changes the rights of directories, by their numbers, as a micro-operation does; other ones do
-    nothing."""
+    """Changes the rights of directories, by their numbers, as a micro-operation does; one that sets
+    no directory's rights does nothing."""
     if isinstance(operation, CreateEntry) and operation.made_directory is not None:
         rights[operation.made_directory] = operation.rights
     elif isinstance(operation, SetRights) and operation.directory is not None:

@@ -51,7 +51,8 @@ class Reading:
         self.names = Names()
 
     def read_line(self, line: Line) -> None:
-        """Adds what a line does; LineFault if it doesn't fit the lines before it."""
+        """Adds what a line does. LineFault if it doesn't fit the lines before it: then nothing was
+        added."""
         self.names.refuse_unfit(line)
         if line.key == 'trace':
             self.begin(line)
@@ -71,7 +72,8 @@ class Reading:
         self.start_rights[ROOT] = self.rights[Inode(DIRECTORY, ROOT)] = line.rights
 
     def add_change(self, operation: Micro) -> None:
-        """Adds a change of a file, to which it writes the oldest of the file's paths."""
+        """Adds a change of a file. The oldest of the file's paths is written into it: the file must
+        have one."""
         assert operation.file is not None
         operation.path = self.names.path_of_file(operation.file)
         self.operations.append(operation)
@@ -134,8 +136,8 @@ class Reading:
         self.add_creation(line, self.make_link(line))
 
     def add_creation(self, line: Line, node: Inode) -> None:
-        """Adds the micro-operation that makes a file, a directory or a symbolic link, which is
-        there already."""
+        """Adds the micro-operation that makes what a line makes: `node`, which make_file(),
+        make_link() or make_directory() has made of this line."""
         path, target = line.fields['path'], line.fields.get('target', '')
         entry = self.names.entry(path)
         self.operations.append(CreateEntry(path, entry, node, self.rights[node], target))

@@ -38,7 +38,8 @@ class Descriptor:
 
 
 def split_arguments(text: str) -> List[str]:
-    """Splits the text of a call's arguments at the commas that are in no brackets and no text."""
+    """The arguments of a call, from their text: it is split at the commas that are in no brackets
+    and no text."""
     words, depth, last = [], 0, 0
     match = SIGN.search(text)
     while match:
@@ -78,8 +79,8 @@ def from_numbers(text: str) -> bytes:
 
 
 def packed_word(word: str) -> str:
-    """An argument that is a text, or a vector of texts, in a quarter of its size: each byte is one
-    letter. Any other argument is returned unchanged."""
+    """A text, or a vector of texts, in a quarter of its size: each byte is one letter. Any other
+    argument is returned unchanged."""
     try:
         found = (
             bytes_of_text(word)
@@ -155,7 +156,7 @@ def descriptor(word: str) -> Descriptor:
 
 
 def bytes_of_vector(word: str) -> Optional[bytes]:
-    """The bytes of all pieces of an argument of writev; None if one is cut."""
+    """The bytes of all pieces in an argument of writev, in one; None if strace cut a piece."""
     if word.startswith(PACKED):
         return unpacked_bytes(word)
     pieces = [b'' if text == 'NULL' else bytes_of_text(text) for text in PIECE.findall(word)]
@@ -176,7 +177,7 @@ def bytes_of_messages(word: str) -> Optional[bytes]:
 
 
 def offset_in_cell(word: str) -> Optional[int]:
-    """The offset before the call in an argument that is its address, as `[42]` or `[42] => [45]`;
-    None for NULL."""
+    """The offset before the call, in an argument that is the address of one, as `[42]` or `[42] =>
+    [45]`; None if it isn't shown so, as for NULL."""
     match = re.match(r'\[(\d+)', word)
     return int(match[1]) if match else None

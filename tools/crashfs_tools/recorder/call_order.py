@@ -111,7 +111,8 @@ class ChangeIndex:
 
 
 def ran_during(sync: Call, change: Call) -> bool:
-    """Whether a change ran while a sync did, in another thread, and on what the sync covers."""
+    """Whether a change of another thread ran while a sync did, and the sync may cover it: paths
+    that aren't known may be the same."""
     if sync.process == change.process or sync.end < change.begin or change.end < sync.begin:
         return False
     synced, changed = synced_path(sync), changed_paths(change)
@@ -121,15 +122,16 @@ def ran_during(sync: Call, change: Call) -> bool:
 
 
 def order_apart(sync: Call, changes: List[Call], moments: Dict[int, Moment]) -> None:
-    """Puts a sync before the changes that overlap it, by setting their moments: each change is
-    placed where it ends, and the sync right before the first of them."""
+    """Sets the moments, by the calls' ids, of a sync and of the changes that overlap it: each
+    change is placed where it ends, and the sync right before the first of them."""
     for change in changes:
         moments[id(change)] = (change.end, 1)
         moments[id(sync)] = min(moments[id(sync)], (change.end, 0))
 
 
 def synced_path(sync: Call) -> Optional[str]:
-    """The path that a sync covers; None if that isn't known, or is not one path."""
+    """The path that an fsync or fdatasync covers; None if strace doesn't show it, and for other
+    syncs, which cover more."""
     return sync.descriptor().path if sync.name in ('fsync', 'fdatasync') else None
 
 

@@ -35,7 +35,8 @@ class Replayed(LastState):
         self.lines = lines
 
     def entries(self, trace: str) -> Entries:
-        """The entries at the end of a replay, without the root."""
+        """The entries at the end of a replay, without the root. ValueError for a trace that
+        `crashfs` would refuse."""
         if self.lines is not None:
             tree = replay(self.lines)
         else:
@@ -54,7 +55,8 @@ class ByProgram(LastState):
         self.program = program
 
     def entries(self, trace: str) -> Entries:
-        """The entries that the program writes, without the root; ProgramFault if it refuses."""
+        """The entries that the program writes of the last state, without the root; ProgramFault if
+        it refuses the trace."""
         return self.program.tree(trace, self.program.count_states(trace, holes=False) - 1)
 
 
@@ -98,7 +100,7 @@ def is_below(path: str, known: Set[str]) -> bool:
 
 
 def entry_differences(real: Entry, traced: Entry) -> List[str]:
-    """How an entry at the end differs from that of the trace; nothing if it doesn't."""
+    """How an entry at the end differs from that of the trace, in words; empty if it doesn't."""
     if kind_text(real) != kind_text(traced):
         return [f'it is {kind_text(real)} at the end, and {kind_text(traced)} in the trace']
     if real.link != traced.link:

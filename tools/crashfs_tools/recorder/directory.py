@@ -56,7 +56,8 @@ def permission_bits(status: os.stat_result) -> int:
 
 
 def scan_directory(top: str, ignored: Ignored, version: int = NEWEST) -> Scan:
-    """Reads what traces of a version can have of a directory; OSError if it can't be read."""
+    """What traces of a version can have of a directory, and what they can't. OSError if something
+    can't be read."""
     return Scanner(top, ignored, version).scan_all()
 
 
@@ -74,7 +75,7 @@ class Scanner:
         self.unseen: Dict[Tuple[int, int], int] = {}
 
     def scan_all(self) -> Scan:
-        """Scans the whole directory; notes files that also have a name outside it."""
+        """Scans the whole directory; of files that also have a name outside it, that is noted."""
         self.scan_below('')
         for inode, path in self.firsts.items():
             if self.unseen[inode] > 0:
@@ -121,7 +122,7 @@ class Scanner:
         return f'a file of more than {most} bytes' if status.st_size > most else ''
 
     def note_link(self, path: str, status: os.stat_result) -> None:
-        """Notes a path of a file that has several: its first, or a link to that."""
+        """Notes a path of a file that has several: as its first path, or as a link to that."""
         inode = status.st_dev, status.st_ino
         first = self.firsts.setdefault(inode, path)
         self.unseen[inode] = self.unseen.get(inode, status.st_nlink) - 1
@@ -158,8 +159,8 @@ def target_fault(target: str) -> str:
 
 
 def scanned_entry(top: str, path: str, status: os.stat_result) -> ScannedEntry:
-    """A file, directory or symbolic link as the start line that a trace has for it, with its
-    bytes."""
+    """A file, directory or symbolic link as a start line of a trace, with all its bytes. OSError if
+    it can't be read."""
     owner, group = user_name(status.st_uid), group_name(status.st_gid)
     if stat.S_ISLNK(status.st_mode):
         return StartSymlink(path, owner, group, os.readlink(top + path))

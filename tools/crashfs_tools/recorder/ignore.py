@@ -64,8 +64,9 @@ def regex_of(glob: str) -> str:
 
 
 def read_piece(glob: str, place: int) -> Tuple[str, int]:
-    """What begins at a place of a pattern as a regular expression, and the place after it. `?` and
-    sets match no slash; a backslash makes the next letter an ordinary one."""
+    """What begins at a place of a pattern, as a regular expression, and the place after it. `?` and
+    sets match no slash; a backslash makes the next letter an ordinary one. ValueError for a
+    backslash at the end, and as read_set raises it."""
     if glob[place] == '*':
         return read_stars(glob, place)
     if glob[place] == '[':
@@ -90,7 +91,8 @@ def read_stars(glob: str, place: int) -> Tuple[str, int]:
 
 
 def read_set(glob: str, place: int) -> Tuple[str, int]:
-    """A set of letters in the form of read_piece. A `]` that is its first letter belongs to it."""
+    """A set of letters in the form of read_piece. A `]` that is its first letter belongs to it.
+    ValueError for a set without an end, or with an unknown class."""
     start = place + 1
     is_negative = glob[start : start + 1] in ('!', '^')
     start += is_negative
@@ -105,8 +107,8 @@ def read_set(glob: str, place: int) -> Tuple[str, int]:
 
 
 def regex_of_item(glob: str, item: re.Match[str]) -> str:
-    """An item of a set in a regular expression's set. Of letters in the wrong order, as in `z-a`,
-    it has the first."""
+    """An item of a set, in a regular expression's set. Of a range in the wrong order, as `z-a`, git
+    takes the first letter only. ValueError for an unknown class."""
     if item['name'] is not None:
         if item['name'] not in CLASSES:
             raise ValueError(f'{glob}: {item[0]} is no class of letters')
@@ -130,12 +132,12 @@ class Ignore:
             return False
         if path not in self.known:
             parent = path.rpartition('/')[0]
-            self.known[path] = bool(parent) and self(parent) or self.matches(path)
+            self.known[path] = bool(parent) and self(parent) or self.leaves_out(path)
         return self.known[path]
 
-    def matches(self, path: str) -> bool:
-        """Whether the last pattern that matches a path leaves it out. No pattern matches the root,
-        whose syncs count."""
+    def leaves_out(self, path: str) -> bool:
+        """Whether the last pattern that matches a path leaves it out, whatever holds above it. No
+        pattern matches the root, whose syncs count."""
         name, ignored = path.strip('/'), False
         for rule in self.rules if name else []:
             may_match = not rule.directories or not self.is_file(path)

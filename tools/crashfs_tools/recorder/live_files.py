@@ -41,7 +41,7 @@ STANDARD_NAMES = {'/dev/stdin': 0, '/dev/stdout': 1, '/dev/stderr': 2}
 
 
 def no_target(_: str) -> None:
-    """The target of a link outside the directory, for a log from elsewhere: none is known."""
+    """None: of a log from elsewhere no target of a link outside the directory is known."""
 
 
 @dataclass(frozen=True)
@@ -78,7 +78,8 @@ class LiveFiles:
         self.add_scan(scan)
 
     def add_scan(self, scan: Scan) -> None:
-        """Makes what the directory has at the start the trace's start tree."""
+        """Makes what the directory has at the start the trace's start tree, and reports what a
+        trace can't have."""
         for entry in scan.entries[: limits.RECORDS - 1]:
             source = scan.links.get(entry.path)
             if source is None:
@@ -235,7 +236,8 @@ class LiveFiles:
     # Changes
 
     def add_new(self, path: str, node: Node) -> None:
-        """Adds a new file, directory or symbolic link; to the trace too, if that has its parent."""
+        """Adds a new file, directory or symbolic link at a free path; to the trace too, if that has
+        its parent and may have the operation."""
         self.tree.add_name(path, node)
         parent = self.tree.node_at(parent_of(path))
         if parent is None or parent.traced_path is None:
@@ -308,7 +310,8 @@ class LiveFiles:
     # Syncs
 
     def sync_file(self, node: Node) -> None:
-        """Adds a sync of a file or directory, with its mode and owner."""
+        """Adds to the trace a sync of a file or directory, with its mode and owner, if the trace
+        has it, and notes that it was synced."""
         node.was_synced, node.has_new_rights = True, False
         if node.traced_path is not None:
             self.recording.add_operation(Fsync(node.traced_path))
@@ -328,7 +331,8 @@ class LiveFiles:
         self.sync_file(node)
 
     def sync_range(self, node: Node, offset: int, length: int) -> None:
-        """Adds a sync of a part of a file's bytes."""
+        """Adds to the trace a sync of a part of a file's bytes, if the trace has the file, and
+        notes that the file was synced."""
         node.was_synced = True
         if node.traced_path is not None:
             self.recording.add_operation(FsyncRange(node.traced_path, offset, length))

@@ -88,11 +88,12 @@ class Node:
 
     @property
     def path_of_traced_bytes(self) -> Optional[str]:
-        """The path in the trace, if it has all bytes of the file up to now; else None."""
+        """The first path of the file in the trace, if its bytes are followed; None if they aren't,
+        or the trace has no path of it."""
         return None if self.data is None else self.traced_path
 
     def drop_bytes(self) -> None:
-        """Follows the bytes no longer; the size is still kept."""
+        """Stops following the bytes; the size is still kept."""
         self.data = None
 
     def write(self, offset: int, data: bytes) -> None:
@@ -135,7 +136,7 @@ class LiveTree:
         node.names.add(path)
 
     def remove_name(self, path: str) -> Node:
-        """Removes a name, and returns the node that had it."""
+        """Removes a name, which must be there, and returns the node that had it."""
         node = self.nodes.pop(path)
         node.names.discard(path)
         return node
@@ -145,7 +146,7 @@ class LiveTree:
         return [other for other in self.nodes if other.startswith(path + '/')]
 
     def move_node(self, source: str, target: str) -> None:
-        """Moves a node, and what is below it."""
+        """Moves the node at a path, and all that is below it, to a free path."""
         below = self.paths_below(source)
         self.add_name(target, self.remove_name(source))
         for path in below:

@@ -65,7 +65,8 @@ class LogFilter:
         return False
 
     def note_result(self, name: str, line: str) -> None:
-        """Notes what a whole call made that was read: a needed descriptor, or a mapping."""
+        """Notes what a whole call made that was read: a needed descriptor by its number, or a
+        mapping."""
         if name in MAPPERS:
             self.has_mapped |= self.top in line
         elif name in MAKERS:
@@ -83,6 +84,6 @@ class LogFilter:
         return any(path in line for path in OF_DESCRIPTORS)
 
     def has_needed_descriptor(self, line: str) -> bool:
-        """Whether a line's first argument is a needed descriptor."""
+        """Whether a line's first argument is the number of a needed descriptor."""
         match = HEAD.match(line)
         return match is not None and match[2] is not None and int(match[2], 0) in self.descriptors

@@ -61,7 +61,8 @@ class LogStream:
         self.thread.start()
 
     def finish(self) -> Log:
-        """Waits for strace's end, and returns the log; LogError if it isn't strace's."""
+        """Waits for the thread that reads the pipe, and returns the log. LogError if the log isn't
+        strace's."""
         self.release_reader()
         self.thread.join()
         if self.log_error is not None:
@@ -98,8 +99,8 @@ class LogStream:
         self.close_kept()
 
     def add_line(self, line: str) -> Optional[int]:
-        """Takes a line into the log, and returns the thread that it reports as stopped by a
-        signal, or None."""
+        """Adds a line to the log and to the kept file. Returns the thread that it reports as
+        stopped by a signal, or None."""
         self.line_number += 1
         self.keep_line(line)
         self.parse_line(line.rstrip('\n'))
@@ -109,8 +110,8 @@ class LogStream:
         return int(stopped[1]) if stopped else None
 
     def parse_line(self, line: str) -> None:
-        """Reads what a line says. After one that isn't strace's no other is read, and COMMAND runs
-        on."""
+        """Adds what a line says to the log. After a line that isn't strace's, `log_error` is set,
+        and no further line is read: COMMAND runs on."""
         try:
             if self.log_error is None:
                 self.reader.read_line(self.line_number, line)
@@ -155,7 +156,8 @@ class LogStream:
         return later
 
     def keep_line(self, line: str) -> None:
-        """Keeps a line. After one that can't be kept no other is tried, and COMMAND runs on."""
+        """Writes a line into the kept file. After one that can't be written, `keep_fault` is set,
+        and no further one is tried: COMMAND runs on."""
         try:
             if self.kept is not None and self.keep_fault is None:
                 self.kept.write(line)

@@ -56,13 +56,13 @@ class RecordedRun:
     log_fault: str = ''
 
 
-def run_command(options: RecordOptions, guard: Guard) -> RecordedRun:
-    """Runs COMMAND under strace, and ends all that it leaves. Refused if there is no log of it, or
-    not a whole one."""
+def run_under_strace(options: RecordOptions, guard: Guard) -> RecordedRun:
+    """Runs COMMAND under strace, and ends all that it leaves. Refused if there is no strace, or no
+    log of a whole run; LogError if the log isn't strace's."""
     strace = strace_run.find_strace()
     mapped = MappedFiles(options.directory, options.ignored) if options.mapped else None
     # Copies of mapped files are placed by all calls, also those on other files.
-    line_filter = None if options.mapped else log_filter(options, options.directory)
+    line_filter = None if options.mapped else filter_for(options, options.directory)
     stream = LogStream(guard.directory, options.keep_log, mapped, line_filter)
     line = strace_run.strace_command(strace, stream.pipe, options)
     running = strace_run.StraceRun(line, options, stream, guard)
@@ -84,7 +84,7 @@ def run_command(options: RecordOptions, guard: Guard) -> RecordedRun:
 
 
 def refuse_incomplete_log(log: Log, program: str) -> None:
-    """Refuses a log that isn't of a whole run of a program."""
+    """Refused if a log isn't of a whole run of a program."""
     if log.first is None:
         raise Refused('strace recorded nothing (it may not trace here: see its message)')
     if not log.is_whole:
@@ -93,14 +93,16 @@ def refuse_incomplete_log(log: Log, program: str) -> None:
         raise Refused(f'{program} could not be started (strace prints why)')
 
 
-def log_filter(options: RecordOptions, top: str) -> LogFilter:
-    """The filter of the log's lines for a directory, by the path that the calls have for it."""
+def filter_for(options: RecordOptions, top: str) -> LogFilter:
+    """The filter that keeps the log's lines on a directory, named by the path that the calls have
+    for it, and on the descriptors of --say-fd."""
     numbers = [int(number) for number in options.acknowledged if number.isdecimal()]
     return LogFilter(os.fsencode(top), numbers)
 
 
 def load_log(path: str, line_filter: LogFilter) -> Log:
-    """Reads a log from a file; Refused if no process called anything."""
+    """Reads a log from a file. Refused if no process called anything, LogError if strace didn't
+    write it, OSError if it can't be read."""
     with open(path, encoding='ascii', errors='replace') as lines:
         log = read_log(lines, line_filter)
     if log.first is None:
@@ -136,8 +138,9 @@ def target_on_disk(path: str) -> Optional[str]:
 
 
 def record(options: RecordOptions) -> int:
-    """Records a session, writes the trace, prints the summary, and returns the status. Refused, or
-    LogError, before the trace is written; later errors give the status NOT_WHOLE."""
+    """Records a session, writes the trace, prints the summary, and returns the status. Refused,
+    LogError or an OSError come before the trace is written; of later errors a line is printed, and
+    the status is NOT_WHOLE."""
     prepare_options(options)
     Crashfs.find(options.crashfs)
     before = scan_directory(options.directory, options.ignored, options.version or NEWEST)
@@ -167,19 +170,20 @@ def trace_settings(options: RecordOptions) -> TraceSettings:
 
 
 def recorded_run(options: RecordOptions, files: LiveFiles) -> RecordedRun:
-    """The run of COMMAND, or that of a log which was kept."""
+    """Runs COMMAND and returns its run, or the run of the log that --from-log names. Refused and
+    LogError as of these."""
     if options.from_log is None:
         with Guard(NAME) as guard:
-            return run_command(options, guard)
-    run = RecordedRun(load_log(options.from_log, log_filter(options, files.conditions.top)))
+            return run_under_strace(options, guard)
+    run = RecordedRun(load_log(options.from_log, filter_for(options, files.conditions.top)))
     if not run.log.is_whole:
         files.recording.report('the log ends before the program did', '/')
     return run
 
 
 def write_trace(options: RecordOptions, recording: Recording) -> None:
-    """Writes the trace to OUT; only its owner may read it if not everybody may read all its
-    files."""
+    """Writes the trace to OUT, as a whole. Only its owner may read it if some file of it isn't
+    readable by everybody."""
     mode = 0o600 if is_private(recording.trace) else 0o666
     write_whole(options.out, (line + '\n' for line in recording.trace.lines()), mode)
 
@@ -187,7 +191,8 @@ def write_trace(options: RecordOptions, recording: Recording) -> None:
 def report_recording(
     options: RecordOptions, recording: Recording, before: Scan, run: RecordedRun
 ) -> int:
-    """Compares the trace, which is written, prints what it doesn't have, and returns the status."""
+    """Compares the directory with the written trace, prints what the trace doesn't have, and the
+    summary; returns the status."""
     found = summary.final_report(
         recording, options, summary.failure_of_command(run.status, run.stops)
     )
@@ -209,7 +214,8 @@ def print_text(text: str) -> None:
 
 
 def translate(options: RecordOptions, files: LiveFiles, run: RecordedRun) -> None:
-    """Translates the log into the recording's operations."""
+    """Translates the log into the recording's operations, and reports what it can't. Refused if a
+    log from elsewhere changes nothing, LogError for a line that isn't strace's."""
     recording = files.recording
     report_faults_of_log(options, recording, run)
     recording.streams.set_standard_output(run.output)

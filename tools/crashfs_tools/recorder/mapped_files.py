@@ -89,8 +89,8 @@ class MappedFiles:
         self.last: Dict[int, Bytes] = {}
 
     def note_mapping(self, line: str, number: int) -> None:
-        """Looks for a mapping in a line of strace's. Its file is held open from then on, since
-        it may be renamed or unlinked later."""
+        """If a line of strace's shows a mapping of a followed file, holds the file open from then
+        on: it may be renamed or unlinked later. One that can't be opened is noted as missed."""
         match = MAPPED.match(line)
         path = arguments.shown_path(match[3]) if match else None
         if match is None or path is None or not path.startswith(self.top.rstrip('/') + '/'):

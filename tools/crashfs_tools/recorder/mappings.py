@@ -72,5 +72,5 @@ class Memory:
 
 
 def in_whole_pages(length: int) -> int:
-    """A length in whole pages of 4,096 bytes."""
+    """The least length in whole pages, of 4,096 bytes, that isn't below a length."""
     return -(-length // 4_096) * 4_096

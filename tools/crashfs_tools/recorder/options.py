@@ -230,8 +230,8 @@ def read_options(arguments: List[str]) -> RecordOptions:
 
 
 def prepare_options(options: RecordOptions) -> None:
-    """Gives the options the real path of the directory and the whole path of COMMAND's program.
-    Refused, before anything runs, if they can't work."""
+    """Replaces the directory in the options by its real path, and COMMAND's program by its whole
+    path. Refused, before anything runs, if something of them can't work."""
     if not os.path.isdir(options.directory):
         raise Refused(f'{options.directory} is no directory')
     options.directory = os.path.realpath(options.directory)

@@ -131,14 +131,15 @@ class OutputStreams:
             self.by_text.setdefault(text, self.standard[1])
 
     def add_connection(self, text: Optional[str]) -> None:
-        """Adds a connection that COMMAND accepted, if connections are asked for."""
+        """Makes a connection that COMMAND accepted a stream, if --say-fd asks for connections."""
         if SOCKETS in self.acknowledged and text is not None:
             each = SayEach.LINE if text in self.with_lines else SayEach.WRITE
             self.by_text[text] = OutputStream('a socket', True, self.each or each)
 
     def find_stream(self, number: int, text: Optional[str]) -> Optional[OutputStream]:
-        """The stream of a descriptor, by what strace shows for it; a new one if --say-fd names it,
-        and None for any other. Two descriptors of a device may be two streams."""
+        """The stream of a descriptor, by what strace shows for it. One that isn't known is made if
+        --say-fd names the descriptor; None for any other. Two descriptors of a device may be two
+        streams."""
         if text is None:
             return None
         known = self.by_text.get(text)

@@ -46,7 +46,8 @@ class PipeLines:
         self.add_bytes(piece)
 
     def add_bytes(self, piece: bytes) -> None:
-        """Adds bytes of the pipe to the lines; an empty piece is the pipe's end."""
+        """Splits bytes of the pipe into lines, with what was left of the last one; an empty piece
+        is the pipe's end."""
         self.rest.append(piece)
         if b'\n' in piece:
             *lines, rest = b''.join(self.rest).split(b'\n')

@@ -70,7 +70,7 @@ class PathContext:
     umask: int
 
     def copy(self) -> PathContext:
-        """That of a forked process, which changes it by itself."""
+        """The same directory and umask, to be changed apart."""
         return PathContext(self.directory, self.umask)
 
 
@@ -91,9 +91,3 @@ class Process:
             self.paths if 'CLONE_FS' in flags else self.paths.copy(),
             self.memory if shares_memory else self.memory.copy(),
         )
-
-    def exec(self) -> None:
-        """Runs another program: some files are closed, and nothing is mapped any more."""
-        self.descriptors = self.descriptors.after_exec()
-        self.paths = self.paths.copy()
-        self.memory = Memory()

@@ -137,20 +137,20 @@ class Recording:
         self.troubles.add(what, where, None if self.call is None else line, is_note)
 
     def report_note(self, what: str, where: str) -> None:
-        """Reports what no trace has, and what decides about no crash state."""
+        """Reports what no trace has, but what decides about no crash state."""
         self.report(what, where, is_note=True)
 
     def raise_version_for(self, what: str) -> bool:
         """Gives the trace the newest version, for this reason, unless --trace-version names one.
-        Returns whether it has the newest now."""
+        Returns whether it has the newest version afterwards."""
         if self.trace.version < NEWEST and self.settings.version is None:
             self.trace.version = self.tree.version = NEWEST
             self.new_version = what
         return self.trace.version >= NEWEST
 
     def add_operation(self, operation: Operation) -> bool:
-        """Adds an operation to the trace, and returns whether it could: one that `crashfs` would
-        refuse is reported."""
+        """Adds an operation to the trace and its tree. Returns False if it couldn't: what `crashfs`
+        would refuse is reported instead."""
         if not self.has_line_for(operation):
             return self.add_in_older_version(operation)
         if limits.FILE_BYTES < end_of_change(operation) <= limits.LARGE_FILE_BYTES:
@@ -198,7 +198,7 @@ class Recording:
         self.on_acknowledged(said)
 
     def end_streams(self) -> None:
-        """Ends the last line of each stream, if it has no end: it counts then."""
+        """Counts, at the end, the last line of each stream that has no end."""
         for stream in self.streams.all_streams():
             if stream.pieces:
                 self.add_output(stream, b'\n')

@@ -72,7 +72,7 @@ class Log:
 
     @property
     def has_begun(self) -> bool:
-        """Whether the first process became the program that strace was to start."""
+        """Whether an exec succeeded: strace's first process became a program."""
         return any(call.name == 'execve' and call.result == 0 for call in self.calls)
 
 
@@ -107,7 +107,8 @@ class LogReader:
         return self.log
 
     def read_line(self, number: int, line: str) -> None:
-        """Reads the line with this number: a call, a part of one, a frame, or an event."""
+        """Reads the line with this number: a call, a part of one, a frame, or an event. LogError if
+        it isn't as strace writes it."""
         if self.filter is not None and self.filter.is_needless(line):
             self.shown = None
             return

@@ -125,7 +125,7 @@ class StraceRun:
                 signal.signal(number, handler)
 
     def progress(self) -> ContextManager[object]:
-        """What is used by `with` while COMMAND runs: a terminal gets lines on its progress."""
+        """A context for the time while COMMAND runs: on a terminal, lines on its progress."""
         if not sys.stderr.isatty():
             return nullcontext()
         return CallProgress(NAME, lambda: len(self.stream.reader.log.calls))
@@ -161,7 +161,8 @@ class StraceRun:
                 self.send_noted_signal()
 
     def note_stop(self, number: int, _: object) -> None:
-        """Notes a signal. The first one is passed to COMMAND, unless the terminal sent it there."""
+        """The handler of a signal: notes it. The first one is passed to COMMAND, unless the
+        terminal sent it there too."""
         if self.stops and time.monotonic() < self.first_stop + SAME_STOP:
             return
         self.stops.append(number)

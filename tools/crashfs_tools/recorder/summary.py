@@ -50,8 +50,8 @@ class FinalReport:
 def final_report(
     recording: Recording, options: RecordOptions, ending: Optional[str]
 ) -> FinalReport:
-    """What the trace doesn't have, and how COMMAND failed (`ending`, or None); the comparison is
-    added later."""
+    """What the trace doesn't have, and how COMMAND failed: `ending`, or None. compare_directory()
+    adds differences later."""
     found = FinalReport()
     troubles = list(recording.troubles)
     found.lines = [f'not in the trace: {trouble}' for trouble in troubles if not trouble.is_note]
@@ -143,8 +143,8 @@ def held_line_faults(stream: OutputStream) -> List[str]:
 def compare_directory(
     options: RecordOptions, recording: Recording, before: Scan, found: FinalReport
 ) -> str:
-    """Compares the directory with the trace's last state, adds to `found` what differs, and returns
-    the result in words."""
+    """Compares the directory with the trace's last state, adds a line to `found` for each
+    difference, and returns in words how it was compared."""
     try:
         now = scan_directory(options.directory, options.ignored, options.version or NEWEST)
     except OSError as error:

@@ -68,7 +68,8 @@ class Translator:
         self.add_rest()
 
     def translate_calls(self) -> None:
-        """Translates all calls in the order of their operations."""
+        """Translates all calls in the order of their operations. LogError, with the line's number,
+        if an argument isn't as strace writes it."""
         if SOCKETS in self.recording.streams.acknowledged:
             self.recording.streams.with_lines = connections_with_lines(self.log.calls)
         ordered = call_order.calls_in_order(self.log.calls)
@@ -176,8 +177,8 @@ class Translator:
                 mapped_stores.add_stores(self.files, node, data, copy.is_sure(number))
 
     def take_as_newest(self, copy: FileCopy, number: int) -> bool:
-        """Makes a copy the newest of a file, and returns whether it is that: a newer one may be in
-        the trace already."""
+        """Makes a copy the newest one of a file, unless a newer one may be in the trace already:
+        then it returns False."""
         newest = self.newest.setdefault(number, copy)
         if self.places[id(newest)] > self.places[id(copy)]:
             return False
@@ -185,8 +186,8 @@ class Translator:
         return True
 
     def process_of(self, number: int, moment: int) -> Process:
-        """The process with this number, which calls at the line `moment`; it is made if it is new.
-        A child may call before its parent's fork has returned."""
+        """The process with this number, which calls at the line `moment`. It is made if it is new:
+        a child may call before its parent's fork has returned."""
         known = self.files.processes
         if number not in known:
             if number == self.log.first:

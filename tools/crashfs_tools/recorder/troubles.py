@@ -30,8 +30,8 @@ class Troubles:
     known: Dict[Tuple[str, str], Trouble] = field(default_factory=dict)
 
     def add(self, what: str, where: str, line: Optional[int], is_note: bool) -> None:
-        """Adds a trouble after a line of the trace (None: after no line), or this line to the one
-        that is known."""
+        """Adds a trouble after a line of the trace (None: after no line); of one that is known it
+        adds only the line."""
         trouble = self.known.setdefault((what, where), Trouble(what, where, is_note))
         if line is not None:
             trouble.lines.append(line)

@@ -35,7 +35,7 @@ class AcceptedFailure(NamedTuple):
 
     @property
     def name(self) -> str:
-        """The cause and the operations, as a report names the entry."""
+        """The cause and the two operations, as a report names an accepted failure."""
         operations = ', then '.join(filter(None, (self.lost, self.kept)))
         return f'{self.cause} ({operations})' if operations else self.cause
 
@@ -50,7 +50,8 @@ class AcceptedFailures:
 
     @staticmethod
     def read(path: str) -> AcceptedFailures:
-        """Reads a file; Refused if it isn't one of accepted failures."""
+        """The entries of a file. Refused if it can't be read, or isn't a file of accepted
+        failures."""
         try:
             with open(path, encoding='utf-8') as file:
                 values = json.load(file)
@@ -64,15 +65,16 @@ class AcceptedFailures:
         return AcceptedFailures(path, entries, datetime.date.today())
 
     def entry_for(self, failure: AcceptedFailure) -> Optional[AcceptedFailure]:
-        """The entry that a failure is, also if its day has passed; None if none is."""
+        """The entry with the same key as a failure, also if its last day has passed; None if there
+        is none."""
         return self.entries.get(failure.key)
 
     def is_over(self, entry: AcceptedFailure) -> bool:
         """Whether the last day of an entry has passed."""
         return entry.until is not None and self.today > entry.until
 
-    def not_among(self, failures: Iterable[AcceptedFailure]) -> List[AcceptedFailure]:
-        """The entries that none of the failures is."""
+    def entries_not_among(self, failures: Iterable[AcceptedFailure]) -> List[AcceptedFailure]:
+        """The entries whose key none of the failures has."""
         seen = {failure.key for failure in failures}
         return [entry for key, entry in self.entries.items() if key not in seen]
 

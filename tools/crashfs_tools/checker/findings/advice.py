@@ -47,7 +47,7 @@ class Tried:
         return self.after < self.before
 
     def text(self, syncs: int) -> str:
-        """The result, for an advice of so many syncs."""
+        """The result as a sentence, for an advice of so many syncs that is right."""
         that = 'that sync' if syncs == 1 else f'those {syncs:,} syncs'
         these = 'this state' if self.total == 1 else f'these {self.total:,} states'
         line = f'tried: with {that} {self.left:,} of {these} are left'
@@ -63,8 +63,8 @@ class Tried:
             f'fail{"" if self.others > 1 else "s"}'
         )
 
-    def wrong_text(self, remedy: str) -> str:
-        """The result, for an advice that isn't right."""
+    def not_enough_text(self, remedy: str) -> str:
+        """The result as a sentence, for an advice after which no fewer states fail."""
         return (
             f'tried, and not enough alone: {remedy} ({self.after:,} '
             f'state{" fails" if self.after == 1 else "s fail"} then, {self.before:,} before)'
@@ -87,7 +87,7 @@ class Advice:
         if self.tried is None:
             return self.text + ([self.remedy] if self.remedy else [])
         if not self.tried.is_right:
-            return [*self.text, self.tried.wrong_text(self.remedy)]
+            return [*self.text, self.tried.not_enough_text(self.remedy)]
         return [*self.text, self.remedy, self.tried.text(len(self.syncs))]
 
 
@@ -121,7 +121,7 @@ def kept_text(kept: TraceLine) -> str:
 
 
 def torn_advice(line: TraceLine, parts: str) -> Advice:
-    """The advice for a line of which a crash kept a part; parts says which."""
+    """The advice for a line of which a crash kept a part; parts says which, in words."""
     return Advice(
         [f'line {line.number} ({line.text}) was torn: a crash kept {parts}'],
         f'no sync helps: a record that recovery may drop needs a checksum; for all else, {ATOMIC}',

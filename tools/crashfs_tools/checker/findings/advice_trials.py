@@ -34,7 +34,8 @@ class SyncedCopy(NamedTuple):
 
 
 def add_details(trials: Trials, planner: Planner, findings: Findings) -> None:
-    """Adds to the groups how files differ, and the results of their advice."""
+    """Adds to the findings how files differ, and tries the advice of the largest groups: their
+    syncs, and for groups that lose nothing another order."""
     find_differences(trials, findings)
     spans = [group for group in findings.groups if group.is_swappable]
     if spans:
@@ -57,7 +58,7 @@ class AdviceTrials:
         self.known: Dict[int, Outcome] = {
             self.kept[state]: one for state, one in findings.by_state.items()
         }
-        self.before = count_failing(findings.plan, self.known)
+        self.before = count_failing_sets(findings.plan, self.known)
         every = findings.plan.all_states
         self.equal = EqualSets(trials.planned, findings) if every else None
         # Only of all crash states it is known what each allowed set leaves.
@@ -65,41 +66,45 @@ class AdviceTrials:
         self.equal_of_all = self.equal if has_all else None
 
     def run(self) -> None:
-        """Tries the groups' advice, the largest group first, and sets what was found; a group whose
-        states another advice removes is covered, and needs none."""
+        """Tries the groups' advice, the largest group first, and sets each group's result, and the
+        union of the findings. A group whose states other syncs remove is covered: its own are not
+        tried."""
         copies: List[SyncedCopy] = []
         tried = 0
         for group in self.findings.groups[:COVERED]:
             if group.advice.syncs:
                 group.is_covered = self.is_covered(group, copies)
                 if not group.is_covered:
-                    copy = self.copy_with(points_of([group]))
+                    copy = self.make_copy(points_of([group]))
                     copies.append(copy)
                     if tried < TRIED:
                         group.advice.tried = self.result_of(copy, group)
                         tried += 1
-        self.findings.union = self.union()
+        self.findings.union = self.try_union()
 
     def is_covered(self, group: Group, copies: List[SyncedCopy]) -> bool:
-        """Whether each state of a group is one that some copy doesn't leave."""
-        left = {self.key(self.kept[state.number]): state for state in group.states}
+        """Whether for each state of a group some copy can't leave it."""
+        left = {self.state_key(self.kept[state.number]): state for state in group.states}
         return all(
             any(not self.is_left_by(copy, self.kept[state.number]) for copy in copies)
             for state in left.values()
         )
 
-    def key(self, kept: int) -> object:
-        """Equal for sets that leave equal states, if all crash states were tried; else the set."""
+    def state_key(self, kept: int) -> object:
+        """What a set leaves, in a form that is equal for equal states, if the tree of each allowed
+        set is known; else the set itself. is_left_by, make_copy and count_others compare by it."""
         return kept if self.equal_of_all is None else self.equal_of_all.tree_and_says(kept)
 
     def is_left_by(self, copy: SyncedCopy, kept: int) -> bool:
-        """Whether a crash of a copy may result in what a set of the trace results in."""
+        """Whether a crash of a copy may leave what a set of the trace leaves: by the copy's keys,
+        or by its rules if it has no keys."""
         if self.equal_of_all is not None:
-            return self.key(kept) in copy.keys
+            return self.state_key(kept) in copy.keys
         return copy.planned.plan.needs.is_allowed(kept)
 
-    def union(self) -> Union:
-        """All advised syncs, and the result of trying them at once."""
+    def try_union(self) -> Union:
+        """Tries all advised syncs at once, and returns them with the result. Of a single group that
+        was tried already the result is known."""
         advised = [group for group in self.findings.groups if group.advice.syncs]
         points = points_of(advised)
         if not points:
@@ -107,13 +112,14 @@ class AdviceTrials:
         if len(advised) == 1 and advised[0].advice.tried is not None:
             tried = advised[0].advice.tried
             return Union(points, Totals(tried.before, tried.after))
-        planned = self.copy_with(points).planned
+        planned = self.make_copy(points).planned
         self.try_states(planned)
-        return Union(points, Totals(self.before, count_failing(planned.plan, self.known)))
+        return Union(points, Totals(self.before, count_failing_sets(planned.plan, self.known)))
 
-    def copy_with(self, points: Points) -> SyncedCopy:
-        """Makes a copy of the trace that has these syncs, and its plan; its file replaces that of
-        the last copy."""
+    def make_copy(self, points: Points) -> SyncedCopy:
+        """Writes a copy of the trace that has these syncs, and plans it. All copies have the same
+        path: the file of the last copy is replaced, and only its plan stays. Refused if the program
+        refuses the copy."""
         planned = self.trials.planned
         with open(planned.trace, **TEXT) as file:
             text = file.read()
@@ -128,24 +134,26 @@ class AdviceTrials:
         copy = self.planner.plan(path, Offsets(says=planned.offsets.says))
         plan = copy.plan
         keys = (
-            {self.key(plan.kept[one.number]) for one in plan.states} if self.equal_of_all else set()
+            {self.state_key(plan.kept[one.number]) for one in plan.states}
+            if self.equal_of_all
+            else set()
         )
         return SyncedCopy(copy, keys)
 
     def result_of(self, copy: SyncedCopy, group: Group) -> Tried:
-        """Tries a copy, and returns the result of a group's advice."""
+        """Tries the states of a copy, and returns what its syncs do for a group."""
         planned = copy.planned
         self.try_states(planned)
         left = {
             state.trial for state in group.states if self.is_left_by(copy, self.kept[state.number])
         }
         others, still = self.count_others(planned.plan, group)
-        after = count_failing(planned.plan, self.known)
+        after = count_failing_sets(planned.plan, self.known)
         return Tried(len(left), group.count, others, still, self.before, after)
 
     def try_states(self, planned: Planned) -> None:
-        """Tries the states of a copy whose outcomes aren't known; `known` has the outcome of each
-        of its sets afterwards."""
+        """Tries the states of a copy whose outcomes aren't known; afterwards `known` has the
+        outcome of each of its sets, but of those that a stop left untried."""
         copy = Trials(self.trials.workplace, planned)
         plan = planned.plan
         found: Dict[Trial, Outcome] = {}
@@ -174,13 +182,13 @@ class AdviceTrials:
     def count_others(self, plan: Plan, group: Group) -> Tuple[int, int]:
         """How many different states of a copy's plan fail that aren't the group's, and how many of
         them failed before."""
-        mine = {self.key(self.kept[state.number]) for state in group.states}
-        before = {self.key(self.kept[state]) for state in self.findings.by_state}
+        mine = {self.state_key(self.kept[state.number]) for state in group.states}
+        before = {self.state_key(self.kept[state]) for state in self.findings.by_state}
         others: Dict[Trial, bool] = {}
         for state in plan.states:
             kept, trial = plan.kept[state.number], state.trial
-            if fails(self.known, kept) and self.key(kept) not in mine:
-                others[trial] = others.get(trial, False) or self.key(kept) in before
+            if is_failing(self.known, kept) and self.state_key(kept) not in mine:
+                others[trial] = others.get(trial, False) or self.state_key(kept) in before
         return len(others), sum(others.values())
 
 
@@ -189,12 +197,12 @@ def points_of(groups: Iterable[Group]) -> Points:
     return frozenset(point for group in groups for point in group.advice.syncs.items())
 
 
-def count_failing(plan: Plan, known: Dict[int, Outcome]) -> int:
-    """How many different states of a plan aren't good, by the outcomes of sets."""
-    return len({state.trial for state in plan.states if fails(known, plan.kept[state.number])})
+def count_failing_sets(plan: Plan, known: Dict[int, Outcome]) -> int:
+    """How many different states of a plan aren't good, by the outcomes of their sets."""
+    return len({state.trial for state in plan.states if is_failing(known, plan.kept[state.number])})
 
 
-def fails(known: Dict[int, Outcome], kept: int) -> bool:
+def is_failing(known: Dict[int, Outcome], kept: int) -> bool:
     """Whether a set was tried and isn't good."""
     outcome = known.get(kept)
     return outcome is not None and outcome.result != GOOD

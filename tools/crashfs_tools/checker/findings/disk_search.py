@@ -71,7 +71,7 @@ def process_count(trials: Trials) -> int:
 
 
 def has_room(folder: str, size: int) -> bool:
-    """Whether files of so many bytes can be made in a folder."""
+    """Whether the file system of a folder has room for so many bytes."""
     try:
         room = os.statvfs(folder)
     except OSError:
@@ -87,22 +87,22 @@ class DiskSearch:
         self.trials = trials
         self.by_state = by_state
         self.trace = trace
-        self.checker = trials.checker()
+        self.checker = trials.new_checker()
 
     def run(self, pool: DiskPool, on_step: Callable[[int, int], None]) -> Sightings:
-        """Makes the disks, and returns what was seen. on_step is called with how many of a
-        session's moments were tried, and how many there are."""
+        """Makes the disks, and returns what was seen on them. on_step is called with the number of
+        moments that were tried, and that of all moments."""
         disks = pool.disks(process_count(self.trials), on_step)
         found = Sightings(list(disks))
         for name, different in disks.items():
             found.crashes[name] = sum(len(one.crashes) for one in different)
             found.trees[name] = len(different)
-        self.judge(all_trees(disks), found)
+        self.add_outcomes(all_trees(disks), found)
         return found
 
-    def judge(self, trees: List[DiskTree], found: Sightings) -> None:
-        """Finds the outcome of each tree, and adds to `found` what was seen of states and
-        failures."""
+    def add_outcomes(self, trees: List[DiskTree], found: Sightings) -> None:
+        """Adds to `found`, for each tree, the states that have it, or runs COMMAND in one that no
+        tried state has, and adds the failures."""
         states = self.states_by_tree()
         failing: Dict[str, Set[str]] = {name: set() for name in found.names}
         unlisted: List[Tuple[DiskTree, Outcome]] = []
@@ -175,7 +175,7 @@ def members_of(tree: Entries) -> Iterator[Member]:
 def failures_of(trace: bytes, unlisted: List[Tuple[DiskTree, Outcome]]) -> List[DiskFailure]:
     """The failures that no tried state has, each tree and cause once, with why they are listed."""
     wanted = {(one.digest, one.says) for one, _ in unlisted}
-    result = search(trace, wanted) if wanted else SearchResult(set(), 0, True)
+    result = search_trees(trace, wanted) if wanted else SearchResult(set(), 0, True)
     failures: Dict[Tuple[str, str, str], DiskFailure] = {}
     for one, outcome in unlisted:
         why = result.explanation((one.digest, one.says))
@@ -201,8 +201,9 @@ class SearchResult(NamedTuple):
         return Explanation(OUTSIDE) if self.is_whole else Explanation(UNKNOWN, self.searched)
 
 
-def search(trace: bytes, wanted: Set[TreeAndCount]) -> SearchResult:
-    """Looks for trees among the different crash states, by the second reading."""
+def search_trees(trace: bytes, wanted: Set[TreeAndCount]) -> SearchResult:
+    """Looks for trees among the different crash states, by the second reading, until all are found,
+    MOST_STATES were looked at, or MOST_SECONDS have passed."""
     reading = read(trace)
     states = States(reading)
     found: Set[TreeAndCount] = set()

@@ -104,7 +104,7 @@ class Group:
 
     @property
     def count(self) -> int:
-        """How many different states it has."""
+        """How many different states it has; 1 if the window before had them all."""
         return max(1, len(self.tried))
 
     @property
@@ -119,12 +119,13 @@ class Group:
 
     @property
     def is_torn(self) -> bool:
-        """Whether a crash kept a part of one line: no sync comes between."""
+        """Whether a crash kept a part of one line: no sync can come between its parts."""
         return self.kept is not None and self.kept == self.lost
 
     @property
     def is_span(self) -> bool:
-        """Whether nothing is lost: the states fail from one line on, until a later one."""
+        """Whether the states lose nothing: they fail from the kept line on, or from the beginning,
+        until the line in `lost` repairs them, or to the end."""
         if self.is_torn:
             return False
         return self.pair.lost is None or (self.pair.kept or 0) <= self.pair.lost
@@ -137,8 +138,8 @@ class Group:
 
     @property
     def key(self) -> Tuple[object, ...]:
-        """Equal for groups that are one entry: if the example isn't reproducible, by the cause
-        alone."""
+        """Equal for groups that are one entry of a report. Of an example that isn't reproducible
+        only the cause counts."""
         kinds = [line.statement if line else '' for line in (self.kept, self.lost)]
         if not self.is_reproducible:
             return without_numbers(self.cause), self.outcome.result
@@ -151,7 +152,8 @@ class Group:
         )
 
     def add_group(self, other: Group) -> None:
-        """Adds the states and pairs of a group with the same key."""
+        """Adds the states, pairs and results of another group with the same key. The example
+        stays."""
         self.states.extend(other.states)
         self.tried |= other.tried
         self.explained |= other.explained
@@ -164,8 +166,8 @@ class Group:
         self.advice.tried = mine + others if mine and others else None
 
     def set_advice(self, lines: Dict[int, TraceLine], more_places: Places = ()) -> None:
-        """Sets the advice, also for other pairs of lines that the same advice is for. What was
-        found by trying the advice stays."""
+        """Sets the advice for the pairs of lines, and for more pairs that the same syncs serve. The
+        result of trying the advice stays."""
         tried = self.advice.tried
         if not self.is_reproducible:
             self.advice = Advice(list(NOT_REPRODUCIBLE))
@@ -222,7 +224,8 @@ class Findings:
         ]
 
     def groups_of_failures(self) -> List[Group]:
-        """The groups of the states that aren't good, the largest first; without advice."""
+        """The groups of the states that aren't good, the largest first, without advice:
+        set_reruns() adds it."""
         failing = [state for state in self.results.own if self.is_failure(state)]
         groups = merged_groups(map(self.group_of_state, sorted(failing, key=self.lost_count)))
         for group in groups:
@@ -265,7 +268,8 @@ class Findings:
         return outcome.cause_without_numbers != self.ignored.cause_without_numbers
 
     def lost_count(self, state: State) -> Tuple[int, int]:
-        """How many micro-operations a state lacks, and its number: an order of states."""
+        """How many micro-operations a state lacks, then its number: states that lack less come
+        first."""
         return size_of(self.plan.set_lost_by(state)), state.number
 
     def group_of_state(self, state: State) -> Group:
@@ -296,9 +300,9 @@ class Findings:
         return lacks and pair.kept is not None and bool(kept >> pair.kept & 1)
 
     def tried_numbers(self, state: State) -> FrozenSet[Tuple[int, ...]]:
-        """The number of the state that was tried for a state in this window, as a row of one: the
-        groups of second crashes have that of the first crash before it. None if the window before
-        had it."""
+        """The number of the state that was tried for a state, as a set of rows of one number; empty
+        if the window before tried it. In the groups of second crashes the rows have the number of
+        the first crash's state before it."""
         number = self.results.tried_for[state.trial]
         return frozenset() if number in self.results.known else frozenset([(number,)])
 
@@ -333,8 +337,8 @@ class Findings:
         return sorted(lines - {self.plan.operations[lost].line})
 
     def other_syncs(self, group: Group) -> List[TraceLine]:
-        """The syncs between a group's two lines that seem to make the lost one durable, and don't:
-        they are of the same file, or of its directory."""
+        """The syncs between a group's two lines that are of the same file or of its directory, and
+        nevertheless don't make the lost line durable. None for a group that loses nothing."""
         if group.kept is None or group.lost is None or group.is_span:
             return []
         names = [path for path in (group.lost.path, group.lost.target) if path]
@@ -350,7 +354,7 @@ class Findings:
 
 def set_all_advice(groups: List[Group], lines: Dict[int, TraceLine]) -> None:
     """Sets the advice of all groups. If a directory is never synced, the first group whose advice
-    is to sync it has the places of the others too."""
+    is to sync it gets the places of the other ones too."""
     of_directory: Dict[str, List[Group]] = {}
     for group in groups:
         group.set_advice(lines)
@@ -363,7 +367,8 @@ def set_all_advice(groups: List[Group], lines: Dict[int, TraceLine]) -> None:
 
 
 def merged_groups(groups: Iterable[Group]) -> List[Group]:
-    """One group for each key, with the first one's example; the largest first."""
+    """The groups, in which those with one key are one: the first of them, to which the others are
+    added. The largest comes first."""
     found: Dict[Tuple[object, ...], Group] = {}
     for group in groups:
         first = found.setdefault(group.key, group)

@@ -42,9 +42,9 @@ def sets_by_line(plan: Plan, lacking: int) -> List[int]:
 
 
 def find_losses(trials: Trials, planner: Planner, findings: Findings) -> None:
-    """Finds the smallest loss of each group's example whose pair is a guess, and adds it to the
-    findings. Other states that lack the same and keep the same get the same pair. The planner makes
-    plans of the sets to try."""
+    """Finds the smallest losses of groups' examples whose pair is a guess, and adds them to the
+    findings, which make their groups again: of SEARCHED examples at most, or of more if all states
+    were tried. The planner makes plans of the sets to try."""
     searched = 0
     equal = EqualSets(trials.planned, findings) if findings.plan.all_states else None
     every = findings.plan.all_states
@@ -88,11 +88,11 @@ class Searches:
         self.found: Dict[int, Loss] = {}
 
     def run(self, states: List[State]) -> Dict[int, Loss]:
-        """The smallest losses of failing states, by the states' numbers; of a search that takes
-        more than RUNS runs the smallest so far."""
+        """The smallest losses of failing states, by their numbers. A search that takes more than
+        RUNS turns ends with the smallest loss so far."""
         for state in states:
-            self.searches[state.number] = search(self.findings.plan, state)
-            self.advance(state.number, None)
+            self.searches[state.number] = loss_search(self.findings.plan, state)
+            self.send_answer(state.number, None)
         for _ in range(RUNS + 1):
             self.answer_known()
             if not self.wanted:
@@ -111,7 +111,7 @@ class Searches:
                 if outcome is None:
                     break
                 failing = self.findings.by_state[number]
-                self.advance(number, self.findings.pairs.is_same_failure(failing, outcome))
+                self.send_answer(number, self.findings.pairs.is_same_failure(failing, outcome))
 
     def outcome_of_set(self, kept: int) -> Optional[Outcome]:
         """The outcome of a set; None if neither it nor an equal one was tried."""
@@ -119,9 +119,9 @@ class Searches:
             return self.equal.outcome(kept)
         return self.known.get(kept)
 
-    def advance(self, number: int, answer: Optional[bool]) -> None:
-        """Sends the search for a state whether the set that it wanted fails alike, or None to begin
-        it; notes what it wants next, or the loss that it has found."""
+    def send_answer(self, number: int, answer: Optional[bool]) -> None:
+        """Answers the search for a state: whether the set that it wanted fails alike, or None to
+        begin it. Notes what it wants next in `wanted`, or the loss in `found`."""
         self.wanted.pop(number, None)
         one = self.searches[number]
         try:
@@ -145,11 +145,11 @@ class Searches:
 
 
 class EndSearch(Exception):
-    """Ends a search: it returns the smallest loss so far."""
+    """Thrown into a search to end it: it returns its smallest loss so far."""
 
 
 def smallest_so_far(one: Search) -> Loss:
-    """Ends a search that waits for an answer; returns the smallest loss that it has found."""
+    """Ends a search that waits for an answer, by EndSearch; returns its smallest loss so far."""
     try:
         one.throw(EndSearch())
     except StopIteration as end:
@@ -158,9 +158,10 @@ def smallest_so_far(one: Search) -> Loss:
     raise AssertionError('a search goes on after its end')
 
 
-def search(plan: Plan, state: State) -> Search:
-    """Searches for the smallest loss of a failing state: first it puts back lines of what the state
-    lacks, then it makes the state shorter."""
+def loss_search(plan: Plan, state: State) -> Search:
+    """A search for the smallest loss of a failing state. It yields sets, and must be sent whether
+    each fails alike; it returns the loss. First it puts back lines of what the state lacks, then it
+    makes the state shorter."""
     kept = plan.kept[state.number]
     try:
         parts = 2
@@ -179,15 +180,15 @@ def search(plan: Plan, state: State) -> Search:
                 break
             else:
                 parts = min(2 * parts, len(lines))
-        kept = yield from shortest(kept)
+        kept = yield from shortest_beginning(kept)
     except EndSearch:
         pass
     return loss_of(kept)
 
 
-def shortest(kept: int) -> Generator[int, bool, int]:
-    """The shortest beginning of a set that lacks the same and still fails alike, by binary search;
-    the set must lack something."""
+def shortest_beginning(kept: int) -> Generator[int, bool, int]:
+    """A search, as loss_search is one, for the shortest beginning of a set that lacks the same and
+    still fails alike: a binary search. The set must lack something."""
     members = [place for place in places_of(kept) if place > first_lacking(kept)]
     low, high = 0, len(members) - 1
     try:

@@ -46,7 +46,7 @@ class RecoveryRecorder:
         the session."""
         folder = os.path.join(self.guard.directory, f'recovery-{state.number}')
         os.mkdir(folder)
-        ((_, directory),) = self.trials.archive(folder).states({state.number})
+        ((_, directory),) = self.trials.archive_layout(folder).states({state.number})
         trace = os.path.join(folder, f'recovery-{state.number}.trace')
         self.record(state, directory, trace)
         remove_tree(directory)
@@ -62,7 +62,7 @@ class RecoveryRecorder:
     def record(self, state: State, directory: str, trace: str) -> None:
         """Records COMMAND in a directory that has a state's tree, into the file of a trace; Refused
         if none is written."""
-        checker = self.trials.checker()
+        checker = self.trials.new_checker()
         line = [
             sys.executable,
             '-S',
@@ -106,7 +106,8 @@ class Nested:
         self.seen: Set[Tuple[str, str]] = set()
 
     def run(self, trials: Trials, findings: Findings) -> Iterator[Recovery]:
-        """Tries the recoveries of some states of a window, and yields what was found in each."""
+        """Chooses states of a window, records the recovery of each, and yields what second crashes
+        of it leave. `left` counts down."""
         for state in self.chosen_states(findings):
             self.left -= 1
             try:
@@ -146,14 +147,14 @@ class Nested:
             best = max(
                 left,
                 key=lambda one: (
-                    len(self.features(findings, one) - self.seen),
+                    len(self.features_of(findings, one) - self.seen),
                     one.says,
                     -one.number,
                 ),
             )
-            if not self.features(findings, best) - self.seen:
+            if not self.features_of(findings, best) - self.seen:
                 break
-            self.seen |= self.features(findings, best)
+            self.seen |= self.features_of(findings, best)
             left.remove(best)
             chosen.append(best)
         more = wanted - len(chosen)
@@ -162,7 +163,7 @@ class Nested:
         return iter(chosen)
 
     @staticmethod
-    def features(findings: Findings, state: State) -> Set[Tuple[str, str]]:
+    def features_of(findings: Findings, state: State) -> Set[Tuple[str, str]]:
         """What a chosen state covers: its cause, and the kind of the last operation that it has."""
         kept = findings.plan.kept[state.number]
         last = findings.plan.operations[kept.bit_length() - 1] if kept else None

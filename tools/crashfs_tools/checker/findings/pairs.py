@@ -79,8 +79,9 @@ class Pairs:
         self.causes = Counter(one.cause_without_numbers for one in failing)
 
     def pair_of(self, state: State) -> Pair:
-        """The pair of a state that was tried and isn't good, by the rules."""
-        compare = self.comparer(self.outcomes[state.number])
+        """The pair of a state that was tried and isn't good, by rules 1, 2, 3 and 6. KeyError for a
+        state without an outcome."""
+        compare = self.comparison_with(self.outcomes[state.number])
         if state.family == 'prefix':
             return self.prefix_pair(state.numbers[0], compare)
         equal = self.equal_prefixes.get(state.trial)
@@ -90,8 +91,9 @@ class Pairs:
             return self.hole_pair(state, compare)
         return self.pick_pair(state, compare)
 
-    def comparer(self, outcome: Outcome) -> Compare:
-        """The function that compares states with a failing one of this outcome."""
+    def comparison_with(self, outcome: Outcome) -> Compare:
+        """A function that says of the state of a number how it compares with a failing state of
+        this outcome."""
 
         def compare(number: int) -> Comparison:
             other = self.outcomes.get(number)
@@ -160,5 +162,5 @@ class Pairs:
 
 
 def is_failing_alike(number: Optional[int], compare: Compare) -> bool:
-    """Whether there is a state of a number, and it fails alike; a number that is None has none."""
+    """Whether there is such a state (number isn't None), and it fails alike."""
     return number is not None and compare(number) is Comparison.FAILS_ALIKE

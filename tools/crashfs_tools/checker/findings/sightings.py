@@ -55,7 +55,7 @@ class DiskFailure:
         ]
 
     def fields(self) -> Dict[str, Any]:
-        """What the JSON has of it."""
+        """The failure as the JSON has it."""
         return {
             'cause': self.outcome.cause,
             'where': self.explanation.where,

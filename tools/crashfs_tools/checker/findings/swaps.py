@@ -27,7 +27,7 @@ def add_swaps(trials: Trials, planner: Planner, findings: Findings, spans: List[
     first line overwrites what is in use, and sets their advice."""
     for group in spans[:ENTRIES]:
         group.swap = Swap(trials, planner, findings, group).run()
-        group.overwrites = overwrites(trials, findings, group)
+        group.overwrites = is_overwriting(trials, findings, group)
         group.set_advice(findings.head.lines)
 
 
@@ -43,18 +43,19 @@ class Swap:
         self.kept, self.lost = group.kept, group.lost
 
     def run(self) -> Optional[Totals]:
-        """How many states fail in the other order; None if there is no such order."""
+        """How many states fail before and after the change of the order; None if the lines can't
+        change places, or the copy has too many states."""
         moved = moved_lines(self.kept, self.lost, self.findings.head.lines)
         planned = self.planned_copy(moved) if moved else None
         if planned is None or len(planned.plan.states) > MOST_STATES:
             return None
         outcomes = self.outcomes_of(planned)
-        before = count_failing(self.findings.plan, self.findings.by_state)
-        return Totals(before, count_failing(planned.plan, outcomes))
+        before = count_failing_states(self.findings.plan, self.findings.by_state)
+        return Totals(before, count_failing_states(planned.plan, outcomes))
 
     def planned_copy(self, moved: List[int]) -> Optional[Planned]:
-        """Makes the copy, in which the lines of these numbers are moved; returns its plan, or None
-        if no program can do the lines in that order."""
+        """Writes the copy, in which the lines of these numbers are moved, and plans it. None if the
+        trace lacks one of the lines, or the program refuses them in this order."""
         before = self.trials.planned.offsets
         with open(self.trials.planned.trace, **TEXT) as file:
             text = file.read().rstrip('\n').split('\n')
@@ -105,23 +106,23 @@ def moved_lines(kept: TraceLine, lost: TraceLine, lines: Dict[int, TraceLine]) -
     moved = [lost]
     for number in range(lost.number - 1, kept.number, -1):
         line = lines.get(number)
-        if line is not None and belongs_to(line, moved):
+        if line is not None and moves_with(line, moved):
             moved.insert(0, line)
     are_apart = all(kept.is_apart_from(line) for line in moved if line.word not in SYNCS)
     return [line.number for line in moved] if are_apart else []
 
 
-def belongs_to(line: TraceLine, moved: Iterable[TraceLine]) -> bool:
-    """Whether a line has a path in common with one of the moved lines; a sync only if it is of that
-    file."""
+def moves_with(line: TraceLine, moved: Iterable[TraceLine]) -> bool:
+    """Whether a line must be moved together with the moved ones: it has a path in common with one
+    of them. A sync is moved only with a line of its own file."""
     if line.word in SYNCS:
         return any(line.path in (one.path, one.target) for one in moved)
     return not all(line.is_apart_from(one) for one in moved if one.word not in SYNCS)
 
 
 def same_operations(plan: Plan, other: Plan) -> Dict[int, int]:
-    """The place in a plan of each micro-operation that another plan has too, with its place there:
-    of the same line and kind, and the same one of these."""
+    """The place in a plan of each micro-operation that another plan has too, with its place there.
+    Micro-operations of one line and kind are matched in their order."""
 
     def turns(of: Plan) -> Dict[Tuple[int, str, int], int]:
         """The places by line, kind, and how many such ones come before."""
@@ -147,9 +148,9 @@ def set_in_places(kept: int, places: Dict[int, int]) -> int:
     return found
 
 
-def count_failing(plan: Plan, by_state: Dict[int, Outcome]) -> int:
-    """How many different states of a plan aren't good, by the outcomes of its states; those without
-    one don't count."""
+def count_failing_states(plan: Plan, by_state: Dict[int, Outcome]) -> int:
+    """How many different states of a plan aren't good, by the outcomes of the states' numbers;
+    those without an outcome don't count."""
     return len(
         {
             state.trial
@@ -159,8 +160,9 @@ def count_failing(plan: Plan, by_state: Dict[int, Outcome]) -> int:
     )
 
 
-def overwrites(trials: Trials, findings: Findings, group: Group) -> bool:
-    """Whether the kept line of a group overwrites bytes that aren't zeros with others."""
+def is_overwriting(trials: Trials, findings: Findings, group: Group) -> bool:
+    """Whether the kept micro-operation of a group is a write that replaces bytes that aren't zeros
+    by others."""
     plan, place = findings.plan, group.pair.kept
     if place is None or plan.operations[place].kind != 'write_block':
         return False
@@ -170,10 +172,10 @@ def overwrites(trials: Trials, findings: Findings, group: Group) -> bool:
     before, after = (tree.get(path) for tree in trees)
     if before is None or after is None or before.data is None or after.data is None:
         return False
-    return replaces_bytes(SparseBytes.copy_of(before.data), SparseBytes.copy_of(after.data))
+    return has_replaced_bytes(SparseBytes.copy_of(before.data), SparseBytes.copy_of(after.data))
 
 
-def replaces_bytes(before: SparseBytes, after: SparseBytes) -> bool:
+def has_replaced_bytes(before: SparseBytes, after: SparseBytes) -> bool:
     """Whether some bytes of a file that aren't zeros have others in their place."""
     for number, page in before.data_pages():
         new = after.read(number * PAGE_BYTES, PAGE_BYTES)

@@ -19,7 +19,8 @@ SHOWN_BYTES = 8
 
 
 def find_differences(trials: Trials, findings: Findings) -> None:
-    """Compares the examples of the largest groups with their nearest good states."""
+    """Compares the examples of the largest groups with their nearest good states, and sets the
+    groups' differences."""
     for group in findings.groups[:ENTRIES]:
         good = nearest_good(findings, group)
         if good is not None:
@@ -95,8 +96,8 @@ def rights_text(entry: Entry) -> str:
 
 
 def first_difference(one: Entry, other: Entry) -> str:
-    """Where two files' bytes begin to differ, and the bytes there; an empty text if one isn't a
-    file."""
+    """The offset at which two files' bytes begin to differ, and the bytes there; an empty text if
+    they don't, or one isn't a file."""
     if one.data is None or other.data is None:
         return ''
     place = sparse.first_difference(one.data, other.data)

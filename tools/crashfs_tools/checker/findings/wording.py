@@ -6,7 +6,8 @@ from typing import Sequence
 
 
 def joined_by(word: str, names: Sequence[str]) -> str:
-    """Names with commas, and a word before the last one; `none` if there is none."""
+    """Names with commas, and a word such as `and` before the last one; `none` if there are no
+    names."""
     *others, last = names or ['none']
     return f'{", ".join(others)} {word} {last}' if others else last
 
@@ -18,5 +19,5 @@ def number_of(count: int, noun: str, plural: str = '') -> str:
 
 
 def fails(count: int) -> str:
-    """The verb for so many states."""
+    """The verb after a count: `fails` for 1, else `fail`."""
     return 'fails' if count == 1 else 'fail'

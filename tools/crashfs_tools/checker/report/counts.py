@@ -51,7 +51,7 @@ class StateCounts:
     words: Counts[str] = field(default_factory=Counter)
 
     def add(self, findings: Findings) -> None:
-        """Adds a window's states."""
+        """Adds the states of a window."""
         results, shard = findings.results, findings.head.shard
         outcomes = [
             results.outcomes[number]
@@ -64,7 +64,7 @@ class StateCounts:
         self.operations = findings.plan.first_place + len(findings.plan.operations)
         self.states += len(results.own)
         self.different += len(results.trials)
-        self.wanted += sum(map(shard.has, range(len(results.wanted))))
+        self.wanted += sum(map(shard.has_place, range(len(results.wanted))))
         self.is_part = self.is_part or results.is_part
         self.seconds = results.seconds or self.seconds
         drawn = results.plan.all_states.drawn if results.plan.all_states else ()
@@ -87,7 +87,7 @@ class StateCounts:
 
     @property
     def left(self) -> int:
-        """How many different states should have been tried, and weren't."""
+        """How many different states of this shard should have been tried, and weren't."""
         return self.wanted - self.tried
 
     @property
@@ -97,12 +97,12 @@ class StateCounts:
 
     @property
     def are_read(self) -> bool:
-        """Whether the second reading found what all crash states are."""
+        """Whether the second reading, not the program, found which crash states there are."""
         return any(one is not None and one.are_read for one in self.every)
 
     @property
     def sets(self) -> Optional[int]:
-        """How many sets the rules allow; None if that isn't known."""
+        """How many sets the rules allow; None if that isn't known, or of a session in windows."""
         only = self.every[0] if len(self.every) == 1 else None
         return only.sets if only is not None else None
 
@@ -115,7 +115,8 @@ class StateCounts:
 
     @property
     def total(self) -> str:
-        """How many crash states there are, or sets if the states are too many to be listed."""
+        """How many crash states there are, as text; if they are too many to be listed, how many
+        sets, or that they are more than so many."""
         if self.has_every:
             return f'{self.different:,}'
         if len(self.every) > 1:
@@ -123,7 +124,8 @@ class StateCounts:
         return f'{self.sets:,}' if self.sets is not None else f'more than {LEAST_OF_MANY:,}'
 
     def is_whole(self, head: Head) -> bool:
-        """Whether all was tried."""
+        """Whether all states that were to be tried were: the check is no shard, and nothing is
+        left."""
         return head.shard.parts == 1 and not self.left and not head.has_rest
 
 

@@ -11,14 +11,14 @@ SURROGATE = re.compile('[\ud800-\udfff]')
 
 
 def packed(text: str) -> bytes:
-    """A text in few bytes."""
+    """A text, compressed: unpacked() gives it back."""
     import zlib
 
     return zlib.compress(text.encode('utf-8', 'surrogateescape'))
 
 
 def unpacked(packed_text: bytes) -> str:
-    """The text that was packed."""
+    """The text that packed() was given."""
     import zlib
 
     return zlib.decompress(packed_text).decode('utf-8', 'surrogateescape')

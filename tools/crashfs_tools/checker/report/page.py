@@ -148,6 +148,6 @@ def line_row(line: TraceLine, mark: str) -> str:
 
 
 def script_data(report: CheckReport) -> str:
-    """What the page's script draws, with no `<` that could end the script."""
+    """The drawings as a value of the page's script, without a `<` that could end the script."""
     shown = as_json(report.drawings[:DRAWN], **COMPACT)
     return shown.replace('<', '\\u003c')

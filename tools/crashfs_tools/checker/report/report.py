@@ -107,7 +107,8 @@ class CheckReport:
         return found
 
     def mark(self, group: Group) -> None:
-        """Marks a group that is an accepted failure. One without an answer never is."""
+        """Sets whether a group is an accepted failure, or one whose last day has passed. A group
+        without an answer never is."""
         if self.accept_list is None or group.outcome.result != BAD:
             return
         entry = self.accept_list.entry_for(group.as_accepted)
@@ -129,15 +130,15 @@ class CheckReport:
         return found
 
     def accepted_not_found(self) -> List[AcceptedFailure]:
-        """The accepted failures that no group is."""
+        """The accepted failures that no group is, those of second crashes included."""
         if self.accept_list is None:
             return []
         groups = [*self.groups(), *(group for group, _ in self.recovery_groups())]
-        return self.accept_list.not_among(group.as_accepted for group in groups)
+        return self.accept_list.entries_not_among(group.as_accepted for group in groups)
 
     def union(self) -> Optional[Union]:
-        """All advised syncs of all windows, and their results; None if there are none, or a window
-        didn't try its own."""
+        """All advised syncs of all windows with failures, and their results added up; None if there
+        are none, or a window's were not tried."""
         failing = zip(self.groups_of_windows, self.unions)
         unions = [union for groups, union in failing if groups]
         whole = [union for union in unions if union is not None]
@@ -154,7 +155,8 @@ class CheckReport:
 
     @property
     def status(self) -> int:
-        """The exit status; accepted failures don't count."""
+        """The exit status: 3 if a state has no answer, else 1 if something fails that isn't
+        accepted, else 3 if something is left, else 0."""
         if self.counts.results[NO_ANSWER]:
             return NOT_ALL_TRIED
         further = self.disk_failures()

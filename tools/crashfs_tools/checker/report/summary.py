@@ -20,7 +20,8 @@ CONFIDENCE = 0.95
 
 
 class Summary:
-    """The line for what was counted of a check; accepted are the states of accepted failures."""
+    """The first line of a report, for what was counted of a check; accepted are the states of
+    accepted failures."""
 
     def __init__(self, head: Head, counts: StateCounts, accepted: AcceptedStates) -> None:
         self.head = head
@@ -31,7 +32,7 @@ class Summary:
 
     @property
     def line(self) -> str:
-        """The whole line."""
+        """What was checked, how many states there are, and the verdict."""
         counts, trace = self.counts, printable(self.head.trace)
         if not counts.windows:
             return f'{trace}: nothing was tried{self.stop_text}'
@@ -64,7 +65,8 @@ class Summary:
 
     @property
     def verdict(self) -> str:
-        """How many fail; `none fails` is only said of a whole check."""
+        """How many states fail, gave no answer or were not tried; `none fails` is only said of a
+        whole check."""
         counts = self.counts
         if not counts.tried:
             return f'nothing was tried{self.stop_text}'
@@ -104,14 +106,14 @@ class Summary:
 
     @property
     def none_text(self) -> str:
-        """That none fails; of a part of the states that none of these does."""
+        """That no state fails; if not all were tried, that none of the tried ones does."""
         if self.counts.is_part:
             return 'none of these fails'
         return 'none fails' if self.is_whole else f'none{self.of_tried} fails'
 
     @property
     def of_tried(self) -> str:
-        """Of how many states something is said if not all were tried."""
+        """The words ` of the N tried`, with the shard if there are several."""
         shard = self.head.shard
         by_shard = f' by shard {shard.part}/{shard.parts}' if shard.parts > 1 else ''
         return f' of the {self.counts.tried:,} tried{by_shard}'
@@ -146,7 +148,8 @@ def time_text(counts: StateCounts, states: int, at_least: str = '') -> str:
 
 
 def drawn_text(counts: StateCounts) -> str:
-    """What the sets that were drawn say of all sets."""
+    """How many of the sets that were drawn at random fail; if none does, how few of all sets
+    can."""
     drawn, fail = len(counts.drawn), sum(counts.drawn)
     if fail:
         return f'{fail:,} of {drawn:,} drawn at random {fails(fail)}'

@@ -40,7 +40,7 @@ def tap_lines(report: CheckReport) -> Iterator[str]:
     points = [entry_point(text, group) for group in report.groups()]
     points += [second_crash_point(text, *found) for found in report.recovery_groups()]
     points += [
-        failing(f'{one.outcome.cause} ({one.explanation.where})', one.lines())
+        failed_point(f'{one.outcome.cause} ({one.explanation.where})', one.lines())
         for one in report.disk_failures()
     ]
     points.append(others_point(text))
@@ -54,7 +54,7 @@ def entry_point(text: ReportText, group: Group) -> TestPoint:
     if group.accepted is not None:
         return TestPoint(group.cause, reason=accepted_text(group.accepted))
     example = f'state {group.example.number} of {text.head.trace}'
-    return failing(group.cause, [*text.details(group), example])
+    return failed_point(group.cause, [*text.details(group), example])
 
 
 def second_crash_point(text: ReportText, group: Group, second: SecondCrash) -> TestPoint:
@@ -62,7 +62,7 @@ def second_crash_point(text: ReportText, group: Group, second: SecondCrash) -> T
     if group.accepted is not None:
         return TestPoint(group.cause, reason=accepted_text(group.accepted))
     example = f'state {second.state}/{group.example.number} of {text.head.trace}'
-    return failing(group.cause, [*text.second_crash_details(group, second), example])
+    return failed_point(group.cause, [*text.second_crash_details(group, second), example])
 
 
 def others_point(text: ReportText) -> TestPoint:
@@ -73,8 +73,9 @@ def others_point(text: ReportText) -> TestPoint:
     return TestPoint(name, [text.summary(), *text.not_tried_lines()])
 
 
-def failing(cause: str, details: List[str]) -> TestPoint:
-    """A test that failed with a cause."""
+def failed_point(cause: str, details: List[str]) -> TestPoint:
+    """The test point of a test that failed: its name is the cause, which its lines have with the
+    details."""
     return TestPoint(cause, [cause, *(f'  {line}' for line in details)])
 
 

@@ -67,7 +67,7 @@ class ReportText:
         ]
 
     def entry_lines(self, shown: List[Group]) -> List[str]:
-        """The largest entries, and how many more there are."""
+        """The lines of the first SHOWN_GROUPS entries, and how many more there are."""
         lines = [line for group in shown[:SHOWN_GROUPS] for line in self.group_lines(group)]
         others = shown[SHOWN_GROUPS:]
         if others:
@@ -88,8 +88,8 @@ class ReportText:
         return lines + ([f'  and {more:,} more that are accepted'] if more > 0 else [])
 
     def not_found_lines(self) -> List[str]:
-        """The accepted failures that were not found. They are gone if all crash states were
-        tried."""
+        """The accepted failures that were not found: they are gone if all crash states were tried,
+        else not seen."""
         counts = self.counts
         is_all = counts.has_every and not counts.is_part and counts.is_whole(self.head)
         how = 'gone' if is_all else 'not seen'
@@ -123,7 +123,7 @@ class ReportText:
         return lines
 
     def first_lines(self) -> List[str]:
-        """The first line, after one that says what isn't proved, if something isn't."""
+        """The summary, after a line that says what isn't proved, if something isn't."""
         how = HOW_TO_BUILD if can_be_built() else ''
         if self.head.refused_version:
             return [VERSION_UNPROVED.format(self.head.refused_version), self.summary()]
@@ -137,7 +137,8 @@ class ReportText:
         return [f'  {number_of(count, "outcome")} from earlier checks (--cache)'] if count else []
 
     def cut_off_lines(self) -> List[str]:
-        """Lines that were still pending where their last window ended."""
+        """A line for the lines that were still pending where their last window ended; none if none
+        was."""
         if not self.head.cut_off:
             return []
         number, tried = self.head.cut_off[0]
@@ -213,8 +214,8 @@ class ReportText:
 
     @staticmethod
     def states_text(group: Group, first: str = '') -> str:
-        """How many states an entry has, and its example; first is the state of a first crash with a
-        slash, or empty."""
+        """How many states an entry has, and its example. first comes before the example's number:
+        for a second crash the first one's state and a slash."""
         example = f'--state {first}{group.example.number}'
         if group.count == 1:
             return f'1 state: {example}'
@@ -280,7 +281,8 @@ def shown_profile(name: str) -> str:
 
 
 def folded(lines: Iterable[str], indent: str) -> List[str]:
-    """Lines with an indent; of one that is longer than WIDTH further lines, indented more."""
+    """Lines with an indent, printable, and wrapped at WIDTH; further lines of one have a larger
+    indent."""
     from textwrap import wrap
 
     return [
@@ -303,5 +305,5 @@ def accepted_text(entry: AcceptedFailure) -> str:
 
 
 def cut(text: str, width: int = WIDTH) -> str:
-    """A text of at most so many letters: a longer one ends in two points."""
+    """A text of at most `width` letters: the end of a longer one becomes two points."""
     return text if len(text) <= width else text[: width - 2] + '..'

@@ -40,7 +40,8 @@ class OutcomeCache:
         self.hits = 0
 
     def outcome(self, key: str) -> Optional[Outcome]:
-        """What COMMAND made of a state before; None if that isn't known."""
+        """What COMMAND made of the state with a key, now or in an earlier check; None if that isn't
+        known. Counts a hit, and keeps the outcome for later checks."""
         found = self.used.get(key) or self.earlier.get(key)
         if found is None or len(found) != 3 or found[0] not in (GOOD, BAD):
             return None
@@ -59,8 +60,8 @@ class OutcomeCache:
         self.earlier.pop(key, None)
 
     def save(self) -> None:
-        """Writes the outcomes, those of this check last: MOST_OUTCOMES of them, without the oldest.
-        An OSError if they can't be written."""
+        """Writes the outcomes, those of this check last; of more than MOST_OUTCOMES the oldest ones
+        are dropped. An OSError if they can't be written."""
         kept = {key: one for key, one in self.earlier.items() if key not in self.used}
         room = max(0, MOST_OUTCOMES - len(self.used))
         oldest = dict(list(kept.items())[len(kept) - min(room, len(kept)) :])

@@ -32,9 +32,9 @@ RunInState = Callable[[List[str], int], Tuple[Outcome, str]]
 
 
 def command_name(folder: str, words: List[str], states: List[int], run: RunInState) -> str:
-    """A name for a command: equal for commands that have equal words and open equal files. The
-    files are those that strace showed in some states, by their numbers, when the command was first
-    run with the cache of a folder; they are looked for again if one of them has changed."""
+    """A name for a command: equal for commands with equal words that open equal files. The list of
+    files is kept in a cache's folder: it is made by runs under strace in some states, by their
+    numbers, and made again if one of the files has changed. Refused as opened_files is."""
     path = os.path.join(folder, f'command-{digest_of_text(json.dumps(words))}.json')
     known: Dict[str, str] = read_checked(path)
     if not known or any(digest_of_file(name) != digest for name, digest in known.items()):

@@ -27,8 +27,8 @@ class FirstTrials:
         self.is_command = trials.options.function is None
 
     def run(self) -> None:
-        """Refused if COMMAND fails in one. An outcome is added to the results if its state is one
-        of those that are tried."""
+        """Tries the two trees. Refused if COMMAND fails in one of them. An outcome is added to the
+        results if its state is one of those that are tried anyway."""
         prefixes = [state for state in self.trials.plan.states if state.family == 'prefix']
         if self.end is None:
             self.try_state(prefixes[-1], "the tree at the session's end")
@@ -43,7 +43,8 @@ class FirstTrials:
         self.try_state(prefixes[0], 'the start tree')
 
     def try_state(self, state: State, tree: str) -> None:
-        """Tries a state of which a text says what its tree is; Refused if COMMAND fails in it."""
+        """Tries a state, unless the results have its outcome; `tree` says in words what it has.
+        Refused if COMMAND fails in it."""
         number = self.results.tried_for[state.trial]
         outcomes: Dict[int, Outcome] = self.results.outcomes
         first = self.trials.plan.state(number)
@@ -60,7 +61,8 @@ class FirstTrials:
         )
 
     def refuse_bad(self, outcome: Outcome, tree: str, more: List[str]) -> None:
-        """Refused if an outcome is bad: tree says of what, more what else to look at."""
+        """Refused if an outcome is BAD: tree says in which tree, more what else to look at. No
+        answer is no verdict, and passes."""
         if outcome.result == BAD:
             name = 'COMMAND' if self.is_command else 'the recovery'
             raise Refused(

@@ -20,15 +20,15 @@ class Output:
         self.count = 0
 
     def read(self) -> bool:
-        """Takes some of what is printed; returns False if nothing more will come. BlockingIOError
-        if nothing is there yet."""
+        """Reads a piece of what is printed into `end`; returns False at the end of the pipe.
+        BlockingIOError if nothing is there yet."""
         piece = os.read(self.reading, TAIL_BYTES)
         self.count += len(piece)
         self.end = (self.end + piece)[-TAIL_BYTES:]
         return bool(piece)
 
     def read_tail(self) -> bytes:
-        """Takes all that is printed by now, up to a flood; returns its last bytes."""
+        """Reads all that is printed by now, up to a flood; returns the last TAIL_BYTES bytes."""
         try:
             while self.count <= MOST_BYTES and self.read():
                 pass

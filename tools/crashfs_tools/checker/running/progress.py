@@ -46,14 +46,14 @@ class Progress:
             return
         if self.is_terminal and self.clock() - self.reported >= TERMINAL_SECONDS:
             self.reported = self.clock()
-            print(f'\r{self.line()}\033[K', end='', file=self.stream, flush=True)
+            print(f'\r{self.progress_text()}\033[K', end='', file=self.stream, flush=True)
         elif not self.is_terminal and self.clock() - self.reported >= EVERY_SECONDS:
             self.reported = self.clock()
-            print(f'{NAME}: {self.line()}', file=self.stream, flush=True)
+            print(f'{NAME}: {self.progress_text()}', file=self.stream, flush=True)
 
-    def line(self) -> str:
-        """How far the part is. The estimate takes the states that are left for as slow as those
-        that were tried; one was."""
+    def progress_text(self) -> str:
+        """How far the part is, as a line shows it. The states that are left are taken to be as slow
+        as those that were tried; at least one must have been."""
         seconds = (self.clock() - self.begun) / self.tried * (self.total - self.tried)
         return (
             f'{self.name}{self.tried:,} of {self.total:,} tried, {self.failed:,} fail, '
@@ -87,13 +87,14 @@ class Pace:
         self.begin(0)
 
     def begin(self, total: int) -> None:
-        """Begins to measure so many states."""
+        """Begins to measure: so many states will be tried."""
         self.total = total
         self.tried = 0
         self.begun = self.clock()
 
     def note_tried(self) -> None:
-        """Counts one more state as tried. TooSlow, once, if all will take too long."""
+        """Counts one more state as tried. After MEASURED states it raises TooSlow if all would take
+        longer than they may, and never again."""
         self.tried += 1
         if self.tried == MEASURED and self.seconds * self.total > self.most:
             self.most = float('inf')

@@ -31,7 +31,7 @@ Value = TypeVar('Value')
 
 
 def read_json(path: str) -> AllResults:
-    """The results of a file of --json; Refused for any other file."""
+    """The results that a file of --json has. Refused if it can't be read, or isn't such a file."""
     try:
         with open(path, encoding='utf-8', errors='surrogateescape') as file:
             fields = json.load(file)
@@ -86,7 +86,8 @@ def results_of(fields: Dict[str, Any]) -> Results:
 
 
 def chosen_of(plan: Plan, value: Any) -> Optional[FrozenSet[int]]:
-    """The numbers of the states that are tried if not all are; None if all are."""
+    """The numbers of the states to try if not all are; None if all are. ValueError for anything
+    else."""
     chosen = None if value is None else frozenset(map(integer, items(value)))
     if chosen is not None and not all(map(plan.has_state, chosen)):
         raise ValueError('no state of the plan')
@@ -94,14 +95,15 @@ def chosen_of(plan: Plan, value: Any) -> Optional[FrozenSet[int]]:
 
 
 def seconds(value: Any) -> float:
-    """A duration, which isn't negative."""
+    """A duration: a finite number from 0 on. ValueError for anything else."""
     if type(value) not in (int, float) or not 0 <= value < MOST:
         raise ValueError('no number')
     return float(value)
 
 
 def plan_of(fields: Dict[str, Any]) -> Plan:
-    """The plan of a window."""
+    """The plan of a window, whose states have the numbers that their places give. ValueError or
+    KeyError for anything else."""
     operations = [
         MicroOperation(*row(one, integer, text, text, text, integer))
         for one in items(fields['operations'])
@@ -127,7 +129,7 @@ def plan_of(fields: Dict[str, Any]) -> Plan:
 
 
 def set_profiles_of(value: Any, count: int) -> SetProfiles:
-    """The profiles of so many listed states."""
+    """The profiles of so many listed states. ValueError for anything else."""
     names, of_sets, wanted = row(value, items, items, text)
     names = tuple(map(text, names))
     allowed = tuple(integer(one, (1 << len(names)) - 1) for one in of_sets)
@@ -137,7 +139,8 @@ def set_profiles_of(value: Any, count: int) -> SetProfiles:
 
 
 def all_states_of(value: Any, has_state: Callable[[int], bool]) -> AllStates:
-    """What is known of all crash states; has_state says which numbers of states there are."""
+    """What is known of all crash states; has_state says which numbers a state of the plan has.
+    ValueError for anything else."""
     sets, are_listed, are_read, most, families, drawn = row(
         value, count_or_none, boolean, boolean, integer, integer, items
     )
@@ -147,14 +150,15 @@ def all_states_of(value: Any, has_state: Callable[[int], bool]) -> AllStates:
 
 
 def count_or_none(value: Any) -> Optional[int]:
-    """A number of any size, or None."""
+    """A whole number of any size, or None. ValueError for anything else."""
     if value is not None and (type(value) is not int or value < 0):
         raise ValueError('no number')
     return value
 
 
 def state(value: Any, number: int, count: int) -> State:
-    """A state of a plan that has so many micro-operations; it must have this number."""
+    """A state of a plan that has so many micro-operations; it must have this number. ValueError for
+    anything else."""
     own, family, numbers, says, same = row(value, integer, text, items, integer, integer)
     places = [integer(place, count) for place in numbers]
     wanted = NUMBERS.get(family, len(places) if family == 'pick' else -1)
@@ -164,7 +168,7 @@ def state(value: Any, number: int, count: int) -> State:
 
 
 def outcome(value: Any) -> Outcome:
-    """What COMMAND found in a state."""
+    """The outcome of a state, with a known result. ValueError for anything else."""
     result, cause, output = row(value, text, text, text)
     if result not in (GOOD, BAD, NO_ANSWER):
         raise ValueError('no result of a command')
@@ -172,7 +176,8 @@ def outcome(value: Any) -> Outcome:
 
 
 def by_state(plan: Plan, values: Dict[str, Any], read: Callable[[Any], Value]) -> Dict[int, Value]:
-    """Values by the numbers of states of a plan; each is read by a function."""
+    """Values by the numbers of states of a plan, each read by a function. ValueError for other
+    keys."""
     found = {int(number): read(value) for number, value in values.items()}
     if not all(map(plan.has_state, found)):
         raise ValueError('no state of the plan')
@@ -180,21 +185,22 @@ def by_state(plan: Plan, values: Dict[str, Any], read: Callable[[Any], Value]) -
 
 
 def row(values: Any, *reads: Read) -> Tuple[Any, ...]:
-    """The items of a list, each read by the function at its place; they must be as many."""
+    """The items of a list, each read by the function at its place. ValueError if they aren't as
+    many."""
     if len(items(values)) != len(reads):
         raise ValueError('a list of another length')
     return tuple(read(value) for read, value in zip(reads, values))
 
 
 def items(value: Any) -> List[Any]:
-    """The items of a list, of any types."""
+    """The items of a list, of any types. ValueError for what is no list."""
     if type(value) is not list:
         raise ValueError('no list')
     return value
 
 
 def integer(value: Any, most: int = MOST) -> int:
-    """A number from 0 to the most that it may be."""
+    """A whole number from 0 to `most`. ValueError for anything else."""
     if type(value) is not int or not 0 <= value <= most:
         raise ValueError('no number')
     return value
@@ -209,7 +215,7 @@ def text(value: Any) -> str:
 
 
 def boolean(value: Any) -> bool:
-    """True or false."""
+    """True or false. ValueError for anything else."""
     if type(value) is not bool:
         raise ValueError('neither true nor false')
     return value

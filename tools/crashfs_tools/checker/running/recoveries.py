@@ -46,7 +46,8 @@ class CommandRecovery:
     words: List[str]
 
     def start(self, environment: Dict[bytes, bytes], streams: StandardStreams) -> int:
-        """Refused if the program can't be started; an OSError if there is no room for a process."""
+        """Starts the program, and returns the number of its process. Refused if it can't be
+        started, but an OSError if there is no room for a process."""
         try:
             return os.posix_spawn(
                 self.words[0],
@@ -79,7 +80,8 @@ class FunctionRecovery:
         return [f'{self.function.__module__}.{self.function.__qualname__}']
 
     def start(self, environment: Dict[bytes, bytes], streams: StandardStreams) -> int:
-        """An OSError if there is no room for a process."""
+        """Forks this process, calls the function in the fork, and returns the number of its
+        process. An OSError if there is no room for one."""
         process = os.fork()
         if process == 0:
             try:
@@ -92,8 +94,9 @@ class FunctionRecovery:
         return process
 
     def become_child(self, environment: Dict[bytes, bytes], streams: StandardStreams) -> None:
-        """Gives this new process the streams and variables of a command, with the token by which a
-        guard ends what it starts; it is killed if its parent ends."""
+        """Makes this fork what a command would be: in a session of its own, with the streams, usual
+        signals, and the three variables that differ for each state. It is killed if its parent
+        ends."""
         die_with_parent()
         os.setsid()
         for stop in STOPS:

@@ -38,7 +38,7 @@ class Head:
     refused_version: int = 0
 
     def identity(self) -> Tuple[object, ...]:
-        """What two reports of one check have the same."""
+        """Equal for two reports of one check: the trace's digest, COMMAND and the shard."""
         return self.digest, self.command, self.shard
 
     def fields(self) -> Dict[str, Any]:
@@ -87,8 +87,8 @@ class Results:
         self.trials = {trial: number for trial, number in first.items() if number not in self.known}
 
     def outcomes_by_state(self, before: Dict[int, Outcome]) -> Dict[int, Outcome]:
-        """The outcomes of all states that are equal to one that was tried, here or in the window
-        before, of which these are the outcomes."""
+        """The outcome of each state, by its number, that is equal to one that was tried here, or in
+        the window before, whose outcomes are `before`."""
         found = {}
         for state in self.plan.states:
             number = self.tried_for[state.trial]
@@ -116,17 +116,19 @@ class Results:
 
     @property
     def wanted(self) -> List[int]:
-        """The numbers of the states to try."""
+        """The numbers of the states to try: of equal states one, and if some are chosen only
+        these."""
         numbers = self.trials.values()
         return [one for one in numbers if self.chosen is None or one in self.chosen]
 
     def choose(self, turns: Iterable[Set[int]]) -> None:
-        """Sets the states to try: those of some turns, and those that were tried."""
+        """Lets only some states be tried: those of some turns, and those that were tried
+        already."""
         self.chosen = frozenset(self.outcomes).union(*turns)
 
     def take_earlier(self, earlier: Results) -> None:
-        """Takes the outcomes of an earlier check of the same plan, but for those without an
-        answer."""
+        """Takes the outcomes and the choice of an earlier check of the same plan. States without an
+        answer are tried again."""
         self.chosen, self.seconds = earlier.chosen, earlier.seconds
         self.outcomes.update(
             {state: one for state, one in earlier.outcomes.items() if one.result != NO_ANSWER}
@@ -138,7 +140,8 @@ class Results:
         return all(number in self.outcomes for number in self.wanted)
 
     def identity(self) -> Tuple[object, ...]:
-        """What two reports of one window have the same."""
+        """Equal for two results of one window of a trace: its micro-operations, states and
+        needs."""
         return self.plan.operations, self.plan.listed, self.plan.needs.masks
 
     def fields(self) -> Dict[str, Any]:
@@ -168,7 +171,7 @@ class AllResults:
 
 def known_states(before: Plan, plan: Plan) -> Dict[int, int]:
     """The states of a window's plan that the plan before it has too, by their numbers, with the
-    numbers there: they keep the same, and all that comes before the window."""
+    numbers there. Both keep the same, if all before the window is kept."""
     lead = plan.first_place - before.first_place
     earlier = {before.kept[state.number]: state.number for state in reversed(before.states)}
     shared = {}
@@ -199,8 +202,9 @@ def refuse_other_commands(commands: List[List[str]]) -> None:
 
 
 def merged_shards(parts: List[AllResults]) -> AllResults:
-    """The shards of one check together; Refused if they aren't all shards of one. Of a check that
-    was stopped some windows may be missing. It changes the results of the longest one."""
+    """The results of the shards of one check as one. Refused if they aren't all shards of one
+    check. Of a check that was stopped some may lack windows: the results with most windows are
+    changed, and used."""
     first = max(parts, key=lambda one: len(one.windows))
     for one in parts:
         refuse_other_check(first, one)

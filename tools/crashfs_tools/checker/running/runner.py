@@ -66,7 +66,8 @@ class AcknowledgedLines:
         self.sizes = [0, *accumulate(len(text.encode('utf-8')) + 1 for text in texts)]
 
     def path(self, count: int) -> str:
-        """The file, which has the first so many lines until another number is asked for."""
+        """The path of this process's file, after the file was given the first so many lines. A
+        later call changes the file."""
         file = os.path.join(self.folder, f'says-{os.getpid()}')
         if self.file != file:
             self.file, self.count = file, 0
@@ -80,7 +81,7 @@ class AcknowledgedLines:
         return file
 
     def text(self, count: int, first: int = 0) -> str:
-        """The first so many lines as one text, without those before a number."""
+        """The lines from the place `first` to before `count` as one text, each with its end."""
         return ''.join(f'{text}\n' for text in self.texts[first:count])
 
 
@@ -99,7 +100,7 @@ class End(Enum):
 
 
 def do_nothing() -> None:
-    """What is called if nobody wants to know."""
+    """Does nothing: the callback of those that need none."""
 
 
 @dataclass
@@ -143,9 +144,9 @@ class Checker:
         return MountTable()
 
     def run(self, state: int, says: int, directory: str) -> Outcome:
-        """Runs the command in a state's directory with so many acknowledged lines, and ends all
-        that it leaves running or mounted. If a process can't be ended, neither this state nor a
-        later one has an answer. CheckEnded if the check ends before the command."""
+        """Runs the recovery in a state's directory with the first so many acknowledged lines, ends
+        what it leaves running, and unmounts what it leaves mounted. Once a process can't be ended,
+        neither this state nor a later one has an answer. CheckEnded if the check ends meanwhile."""
         if self.left and self.end_left(descendants.children() - set(self.left)):
             return self.outcome_of_left()
         before, mounted = descendants.children(), self.mounts.below(directory)
@@ -178,8 +179,8 @@ class Checker:
             output.close()
 
     def end_left(self, before: Set[int], seconds: float = 0) -> Dict[int, str]:
-        """Ends the children that weren't there before; returns those that can't be ended in so many
-        seconds, with the names of their programs."""
+        """Kills the children that weren't there before, and waits so many seconds for them. Sets
+        `left` to those that still run, with the names of their programs, and returns it."""
         self.end_bearers()
         self.left = descendants.end_children(before, seconds)
         return self.left
@@ -268,8 +269,8 @@ class Waiting:
             poll.register(one, select.POLLIN)
 
     def wait(self, seconds: float) -> Set[Optional[int]]:
-        """The descriptors that are ready after at most so many seconds, maybe none; what is printed
-        is read."""
+        """Waits at most so many seconds; returns the descriptors that are ready, maybe none. What
+        is printed is read meanwhile."""
         if self.descriptor is None:
             seconds = min(seconds, LOOK_SECONDS)
         ready: Set[Optional[int]] = {one for one, _ in self.poll.poll(seconds * 1000)}
@@ -305,8 +306,8 @@ def opened_process(process: int) -> Optional[int]:
 
 
 def keep_descriptors() -> None:
-    """Sees to it that commands get the first three descriptors of this process only, and that these
-    are open."""
+    """Lets commands inherit the descriptors 0 to 2 only, and opens those of them that are
+    closed."""
     while True:
         descriptor = os.open(os.devnull, os.O_RDWR | os.O_CLOEXEC)
         if descriptor > 2:

@@ -22,7 +22,7 @@ class Saver:
         self.saved = clock()
 
     def save_if_due(self) -> None:
-        """Calls `write` if it is time."""
+        """Calls `write` if the last call, or the beginning, is so many seconds ago."""
         if self.clock() - self.saved < self.seconds:
             return
         try:

@@ -70,20 +70,20 @@ class Trials:
         """The same for all states of a recovery, whose trees a program makes."""
         return Trials(replace(self.workplace, program=program), planned, keeps_trees=True)
 
-    def checker(self) -> Checker:
-        """What runs COMMAND, or the function in its place, in a state that is laid out."""
+    def new_checker(self) -> Checker:
+        """A checker for COMMAND, or for the function in its place."""
         recovery: StateRecovery = CommandRecovery(self.options.command)
         if self.options.function is not None:
             recovery = FunctionRecovery(self.options.function)
         return Checker(recovery, self.options.timeout, self.guard.environment, self.says)
 
-    def archive(self, folder: str) -> Archive:
-        """A layout of states below a folder that also has states that stay."""
+    def archive_layout(self, folder: str) -> Archive:
+        """A layout of states below a folder, in which each keeps a directory of its own."""
         return Archive(self.program, self.planned, folder, self.guard.environment, self.kept_trees)
 
-    def layout(self, many: bool = False) -> Layout:
-        """Where states are tried; it is removed when the guard ends. many says whether so many are
-        tried that it keeps what they have in common."""
+    def new_layout(self, many: bool = False) -> Layout:
+        """A new layout, below the guard's directory or on the server of --serve. many says that so
+        many states are tried that a layout pays which keeps large trees from state to state."""
         if self.options.serve is None:
             if many and self.are_trees_large and self.program.has_changes:
                 from crashfs_tools.checker.states.kept_layout import KeptLayout
@@ -91,7 +91,7 @@ class Trials:
                 return KeptLayout(
                     self.program, self.planned, self.guard.directory, self.guard.environment
                 )
-            return self.archive(self.guard.directory)
+            return self.archive_layout(self.guard.directory)
         from crashfs_tools.checker.states.mounts import Mounts
 
         with open(self.planned.trace, **TEXT) as file:
@@ -100,12 +100,13 @@ class Trials:
 
     @cached_property
     def are_trees_large(self) -> bool:
-        """Whether processes keep a tree from state to state."""
+        """Whether the trace has so many files or bytes that trees are kept from state to state."""
         return has_large_trees(self.planned.trace)
 
     @cached_property
     def kept_trees(self) -> Optional[TreesByState]:
-        """All trees of the plan; None if they aren't kept."""
+        """All trees of the plan in memory; None if they aren't kept, since they are large, too
+        many, or not asked for. Made once."""
         if not self.keeps_trees or self.are_trees_large:
             return None
         return trees_of_small_plan(self.program, self.planned, self.guard.environment)
@@ -115,7 +116,8 @@ class Trials:
         return self.trees([number])[0]
 
     def trees(self, numbers: Sequence[int]) -> List[Entries]:
-        """The trees of the states of these numbers, in their order, without the roots."""
+        """The trees of the states of these numbers, in their order, without the roots.
+        ProgramFault, or KeyError for a number, if the program lacks one."""
         kept = self.kept_trees
         if kept is not None:
             firsts = [self.plan.state(number).same for number in numbers]
@@ -128,25 +130,26 @@ class Trials:
         return [found[number] for number in numbers]
 
     def try_one(self, state: State, attempt: int = 0) -> Outcome:
-        """The outcome of a state; that of another run for each number of an attempt below
-        ATTEMPTS."""
+        """The outcome of a state. Each number of an attempt, below ATTEMPTS, has a run of its own,
+        also in the cache."""
         found: Dict[int, Outcome] = {}
-        self.try_uncached(self.layout, {state.number}, found.__setitem__, attempt)
+        self.find_outcomes(self.new_layout, {state.number}, found.__setitem__, attempt)
         return found[state.number]
 
     def run_words(self, words: List[str], number: int) -> Tuple[Outcome, str]:
-        """Runs other words in the place of COMMAND in a state; returns their outcome, and the path
-        that the state's directory had."""
-        checker = replace(self.checker(), recovery=CommandRecovery(words))
-        layout = self.layout()
+        """Runs other words than COMMAND in a state; returns their outcome, and the path that the
+        state's directory had: it is gone by then."""
+        checker = replace(self.new_checker(), recovery=CommandRecovery(words))
+        layout = self.new_layout()
         ((own, directory),) = layout.states({number})
         with layout.laid_out(own, directory):
             outcome = checker.run(own, self.plan.state(own).says, directory)
         return outcome, directory
 
     def try_states(self, turns: Sequence[Set[int]], on_outcome: OnOutcome) -> None:
-        """Tries states, turn by turn, with their progress shown; on_outcome is called with each. A
-        stop may come meanwhile."""
+        """Tries states, turn by turn, with their progress shown; on_outcome is called with each
+        number and outcome. Stopped, TimeUp or TooSlow may come in between: earlier outcomes were
+        given."""
         progress = self.workplace.progress
         progress.begin_part(sum(map(len, turns)), self.planned.part_text())
 
@@ -156,11 +159,11 @@ class Trials:
 
         @lru_cache(None)
         def layout() -> Layout:
-            return self.layout(many=True)
+            return self.new_layout(many=True)
 
         try:
             for turn in turns:
-                self.try_uncached(layout, turn, note)
+                self.find_outcomes(layout, turn, note)
         finally:
             progress.end_part()
 
@@ -169,15 +172,15 @@ class Trials:
         """The keys of this plan's states in the cache."""
         return StateKeys(self.planned.trace, self.plan, self.says.texts)
 
-    def try_uncached(
+    def find_outcomes(
         self,
         layout: Callable[[], Layout],
         wanted: Set[int],
         on_outcome: OnOutcome,
         attempt: int = 0,
     ) -> None:
-        """Takes the outcomes of states from the cache, if there is one, and runs COMMAND in the
-        others. The layout is only made for these."""
+        """Gives on_outcome the outcome of each wanted state: from the cache, if that has it, else
+        by a run of COMMAND, which the cache gets. The layout is only made if COMMAND runs."""
         cache, left = self.workplace.cache, set(wanted)
         if cache is None:
             self.run_workers(layout(), left, on_outcome)
@@ -197,7 +200,8 @@ class Trials:
             self.run_workers(layout(), left, keep)
 
     def drop_from_cache(self, numbers: Iterable[int]) -> None:
-        """Drops the outcomes of states from the cache: they may be others the next time."""
+        """Drops the outcomes of states, of all attempts, from the cache: they may be others the
+        next time."""
         cache = self.workplace.cache
         if cache is not None:
             for number in numbers:
@@ -205,9 +209,12 @@ class Trials:
                     cache.drop(self.state_keys.key(number, attempt))
 
     def run_workers(self, layout: Layout, wanted: Set[int], on_outcome: OnOutcome) -> None:
-        """Runs COMMAND in other processes: nothing of it is left if this one is killed."""
+        """Runs COMMAND in some states, by processes that end with this one, and gives on_outcome
+        each outcome. Refused or an OSError if a process has a fault."""
         options = self.options
-        workers = StateWorkers(self.checker(), layout, options.jobs, on_outcome, options.fail_fast)
+        workers = StateWorkers(
+            self.new_checker(), layout, options.jobs, on_outcome, options.fail_fast
+        )
         try:
             workers.run(wanted, {state.number: state.says for state in self.plan.listed})
         finally:
@@ -215,10 +222,10 @@ class Trials:
             self.guard.end_processes()
 
     def wanted_states(self, results: Results) -> Set[int]:
-        """The numbers of the states that are tried: of the shard, one for each different state.
-        Refused if a server has no room for so many."""
+        """The numbers of the states of this shard to try, one of equal ones. Refused if a server
+        has too few runs for them."""
         shard = self.options.shard
-        firsts = {state for place, state in enumerate(results.wanted) if shard.has(place)}
+        firsts = {state for place, state in enumerate(results.wanted) if shard.has_place(place)}
         if self.options.serve is not None and len(firsts) > RUNS:
             raise Refused(
                 f'{len(firsts):,} states are more than the {RUNS:,} runs of one server: '
@@ -227,8 +234,9 @@ class Trials:
         return firsts
 
     def try_all(self, results: Results, after_each: Callable[[], None] = do_nothing) -> bool:
-        """Tries each different state of the shard that has no outcome yet, and adds the outcomes;
-        returns whether it tried all. If that would take too long it tries those of the families."""
+        """Tries the states of the shard that have no outcome yet, and writes the outcomes into the
+        results, calling after_each. If all would take too long, only those of the families are
+        chosen. Returns whether all chosen ones have an outcome."""
         every = results.plan.all_states
         if every is not None and not every.are_listed:
             results.choose(states_in_turns(results, are_all=False))
@@ -251,7 +259,8 @@ class Trials:
                 results.seconds = pace.seconds or results.seconds
 
     def turns_of(self, results: Results, left: Set[int]) -> List[Set[int]]:
-        """The states that are left, turn by turn: in one turn if all are tried."""
+        """The states that are left, turn by turn, so that an early end finds most. In one turn if
+        all will be tried anyway."""
         every = results.plan.all_states
         is_whole = every is not None and every.are_listed and results.chosen is None
         is_limited = self.options.time_limit is not None or self.options.fail_fast

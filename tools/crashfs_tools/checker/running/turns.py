@@ -30,9 +30,10 @@ def states_tried_for(results: Results, sets: Iterable[int]) -> Set[int]:
 
 
 def family_turns(plan: Plan) -> Iterator[List[int]]:
-    """The sets of each turn: first prefixes that end at an acknowledged line, sets of one operation
-    and what it needs, whole operations that are lost, what else is lost at acknowledged lines. A
-    turn may have sets of an earlier one, or sets that the plan doesn't list."""
+    """The sets of eight turns, those first that find most: prefixes that end at an acknowledged
+    line; each micro-operation with what it needs; whole operations that are lost; holes that end at
+    an acknowledged line; picks; prefixes; some blocks of torn writes that are lost; holes. A turn
+    may have sets of an earlier one, or sets that the plan doesn't list."""
     says = {place + 1 for place, one in enumerate(plan.operations) if one.kind == 'say'}
     prefixes = {
         one.numbers[0]: plan.kept[one.number] for one in plan.listed if one.family == 'prefix'
@@ -61,8 +62,8 @@ def torn_places(plan: Plan) -> Dict[int, List[int]]:
 
 
 def sample_places(torn: Dict[int, List[int]]) -> List[int]:
-    """Of what torn_places returns: the places of the first, the middle and the last block of each
-    write."""
+    """The places of the first, the middle and the last block of each torn write, from what
+    torn_places returns."""
     writes = {places[0]: places for places in torn.values()}
     return [
         place

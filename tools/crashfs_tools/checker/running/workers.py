@@ -39,8 +39,8 @@ class Worker:
     pipe: int
     rest: bytes = b''
 
-    def lines(self) -> Optional[List[bytes]]:
-        """The whole lines that it has written since, maybe none; None if it writes no more.
+    def new_lines(self) -> Optional[List[bytes]]:
+        """The whole lines that it has written since the last call, maybe none; None at its end.
         BlockingIOError if the pipe doesn't block and nothing is there."""
         piece = os.read(self.pipe, PIECE_BYTES)
         *lines, self.rest = (self.rest + piece).split(b'\n')
@@ -57,7 +57,7 @@ class Outbox:
         self.sent = time.monotonic()
 
     def add_outcome(self, number: int, outcome: Outcome) -> None:
-        """Adds the outcome of a state, and sends all if the last time is long ago."""
+        """Adds the outcome of a state, and sends all lines if the last time is SENT_SECONDS ago."""
         if outcome.result == GOOD:
             self.lines.append(f'{number}\n')
         else:
@@ -102,8 +102,9 @@ class StateWorkers:
         self.life, self.alive = os.pipe()
 
     def run(self, wanted: Set[int], says_of: Dict[int, int]) -> None:
-        """Runs the command in each wanted state, with so many acknowledged lines by its number. The
-        first fault of a process is raised."""
+        """Runs the command in each wanted state; says_of has the number of acknowledged lines for
+        each. Returns at the end of all, or at the first failure with fail_fast. The first fault of
+        a process is raised."""
         ordered = sorted(wanted)
         jobs = min(self.jobs, len(ordered))
         for place in range(jobs):
@@ -117,17 +118,18 @@ class StateWorkers:
             for pipe, _ in poll.poll(TURN_SECONDS * 1000):
                 if not self.read_outcomes(left[pipe]):
                     poll.unregister(pipe)
-                    self.reap(left.pop(pipe))
+                    self.reap_worker(left.pop(pipe))
 
     def read_outcomes(self, worker: Worker) -> bool:
-        """Takes the outcomes that a process has written; returns False if it writes no more."""
-        lines = worker.lines()
+        """Reads what a process has written, and takes its lines; returns False at its end. The
+        fault of a process is raised."""
+        lines = worker.new_lines()
         for line in lines or []:
             self.take_line(line)
         return lines is not None
 
     def start_worker(self, share: List[int], says_of: Dict[int, int]) -> None:
-        """Starts a process for some states."""
+        """Forks a process for a share of the states."""
         reading, writing = os.pipe()
         # A signal waits meanwhile: the new process takes none as this one does.
         with stops_blocked() as before:
@@ -173,7 +175,8 @@ class StateWorkers:
         return checker
 
     def take_line(self, line: bytes) -> None:
-        """Takes the outcome of a line; raises the fault of one."""
+        """Gives on_outcome the outcome of a line of an Outbox. If the line has a fault, that is
+        raised. With fail_fast the first failure ends the run."""
         if line.isdigit():
             self.on_outcome(int(line), GOOD_OUTCOME)
             return
@@ -188,8 +191,8 @@ class StateWorkers:
         self.has_failed = self.has_failed or is_last
         self.ending = self.ending or is_last
 
-    def reap(self, worker: Worker) -> None:
-        """Waits for a process that writes no more; Refused if it was killed or had a fault."""
+    def reap_worker(self, worker: Worker) -> None:
+        """Waits for a process that writes no more; Refused if it didn't end with status 0."""
         status = os.waitstatus_to_exitcode(os.waitpid(worker.process, 0)[1])
         self.workers.remove(worker)
         os.close(worker.pipe)

@@ -44,14 +44,16 @@ class AllSets(Protocol):
 
 
 def all_sets(program: Crashfs, environment: Dict[str, str], read: ReadSets) -> AllSets:
-    """By the program if it lists them in time; read has the same by the second reading."""
+    """The sets by the program, if it lists them in time, else by the second reading of the same
+    trace, which is `read`."""
     if program.unproved or not is_for_program(read.reading):
         return read
     return ProgramSets(program, environment, read)
 
 
 def is_for_program(reading: Reading) -> bool:
-    """Whether the program finds the sets that a check wants, in time."""
+    """Whether the program finds the sets that a check wants, and in time: the bytes with which
+    files are made are at most START_BYTES, and the version has ACKNOWLEDGED_FIRST."""
     is_small = sum(data.length for data in reading.made_data.values()) <= START_BYTES
     return is_small and reading.version >= ACKNOWLEDGED_FIRST
 
@@ -97,12 +99,13 @@ class ProgramSets:
 
     def printed_sets(self, options: List[str]) -> Optional[List[int]]:
         """The sets that `picks` prints for some options; None if it says that they are too many.
-        PlanError for a line that is no set."""
+        PlanError for a line that is no set, and a ProgramFault as printed_lines raises it."""
         lines = self.printed_lines(options)
         return None if lines is None else [set_of_line(line) for line in lines]
 
     def printed_lines(self, options: List[str]) -> Optional[List[str]]:
-        """What `picks` prints for some options; None if it says that the sets are too many."""
+        """The lines that `picks` prints for some options; None if it says that the sets are too
+        many. ProgramFault if it fails otherwise, also if it doesn't know an option."""
         words = ['picks', '--trace', self.read.trace, *options]
         try:
             return self.program.output_of(words, self.environment).splitlines()
@@ -113,7 +116,8 @@ class ProgramSets:
 
 
 def set_of_line(line: str) -> int:
-    """The set of a line of a picks file; PlanError if the line isn't one."""
+    """The set of a line of a picks file, which is an array of places; PlanError for any other
+    line."""
     try:
         return set_of(json.loads(line))
     except (ValueError, TypeError) as error:
@@ -146,14 +150,15 @@ class ReadSets:
 
     @cached_property
     def plan(self) -> StateList:
-        """What the micro-operations need, without a state."""
+        """The order and the trees of the trace, in a plan without states. Its order is the trace's
+        own, also where `orders` put acknowledged lines first."""
         from crashfs_tools.reading import StateList
 
         return StateList(self.reading)
 
     @cached_property
     def needs(self) -> Needs:
-        """What each micro-operation needs, as `list` prints it."""
+        """What each micro-operation needs, itself included, as `list --json` prints it."""
         return Needs([mask | 1 << place for place, mask in enumerate(self.plan.order.needs)])
 
     def has_pending(self, count: int) -> bool:
@@ -162,14 +167,15 @@ class ReadSets:
         return self.plan.order.pending(count) & ~self.plan.trees.says != 0
 
     def profile_bits_of(self, sets: Iterable[int]) -> List[int]:
-        """Of each set the profiles that allow it, as bits of a number, in the order of orders."""
+        """For each set the profiles that allow it, as bits: bit k is the k-th name of `orders`."""
         from crashfs_tools.reading.order import Profiles
 
         profiles, names = Profiles(self.reading), list(self.orders)
         return [set_of(map(names.index, profiles.names(kept))) for kept in sets]
 
     def order(self, profile: str = '') -> Order:
-        """The order of a profile, or of the trace's own."""
+        """The order of a profile, or that of the trace's own profile; KeyError for a profile that
+        the trace hasn't."""
         return self.orders[profile or self.reading.profile]
 
     def count_sets(self) -> Optional[int]:
@@ -192,11 +198,12 @@ class ReadSets:
         return found if len(found) <= most else None
 
     def drawn_sets(self, count: int, seed: int) -> Optional[List[int]]:
-        """None if all are too many to count."""
-        from crashfs_tools.reading.every import sample
+        """So many sets, drawn at random, the same ones for each seed; None if all are too many to
+        count."""
+        from crashfs_tools.reading.every import drawn_sets
         from crashfs_tools.reading.faults import ReadingFault
 
         try:
-            return list(sample(self.order(), count, seed))
+            return list(drawn_sets(self.order(), count, seed))
         except ReadingFault:
             return None

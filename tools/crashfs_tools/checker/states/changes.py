@@ -19,7 +19,8 @@ class Changes(NamedTuple):
     entries: Entries
 
     def applied(self, start: Entries) -> Entries:
-        """The state's tree. A missing path that the start tree doesn't have is a KeyError."""
+        """The state's tree, as a new map: the start tree with the changes. KeyError if the start
+        tree lacks a path that is missing in the state."""
         tree = dict(start)
         for path in self.missing:
             del tree[path]

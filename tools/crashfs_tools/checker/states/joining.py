@@ -8,8 +8,8 @@ from .plan import Plan, State
 
 
 def joined_states(trace: str, plan: Plan) -> List[State]:
-    """The listed states of a plan, each with the first equal one of all parts, by the second
-    reading; trace is the path of the plan's trace."""
+    """The listed states of a plan in which `same` is the first equal state of all parts, found by
+    the second reading of the trace at a path."""
     from crashfs_tools.reading import read
     from crashfs_tools.reading.states import Digest, States
 

@@ -23,7 +23,7 @@ class KeptLayout(Archive):
     def __init__(
         self, program: Crashfs, planned: Planned, folder: str, environment: Dict[str, str]
     ) -> None:
-        """Asks the program for the start tree."""
+        """Asks the program for the start tree; ProgramFault if it fails."""
         super().__init__(program, planned, folder, environment)
         words = [*planned.parts[0].words, '--state', '0']
         with program.archive(words, environment) as members:
@@ -31,7 +31,8 @@ class KeptLayout(Archive):
         self.directory: Optional[KeptTree] = None
 
     def states(self, wanted: Set[int]) -> Iterator[Tuple[int, str]]:
-        """The directory is the same for each state; in the end it is removed."""
+        """Yields the same directory for each state, changed to its tree. In the end it is
+        removed."""
         own = self.directory = KeptTree(os.path.join(self.folder, f'kept-{os.getpid()}'))
         try:
             for number, tree in self.changed_trees(wanted):
@@ -42,7 +43,8 @@ class KeptLayout(Archive):
 
     @contextmanager
     def laid_out(self, number: int, directory: str) -> Iterator[None]:
-        """Notes when COMMAND may begin to change the directory."""
+        """Notes that COMMAND may change the directory from here on. It stays: the next state
+        changes it."""
         assert self.directory is not None
         self.directory.note_start()
         yield

@@ -51,8 +51,8 @@ class Unchangeable(Exception):
 
 
 class KeptTree:
-    """The directory of one process. Between two trees call note_start() before COMMAND starts: what
-    is younger counts as changed by COMMAND."""
+    """The directory of one process. Call change_to() for each tree, and note_start() before COMMAND
+    starts: files that are younger count as changed by COMMAND."""
 
     def __init__(self, directory: str) -> None:
         self.directory = directory
@@ -72,8 +72,8 @@ class KeptTree:
         self.attributes: List[str] = []
 
     def change_to(self, tree: Mapping[str, Entry]) -> None:
-        """Makes the directory have the tree, whose paths are relative, the root's empty: by
-        changes, or from scratch if there is something that can't be changed."""
+        """Gives the directory a tree, whose paths are relative, the root's empty: by changes or, if
+        something can't be changed, from scratch in a new directory."""
         if self.is_whole:
             try:
                 self.change(tree)
@@ -90,17 +90,19 @@ class KeptTree:
         time.sleep(TICK_SECONDS)
 
     def note_start(self) -> None:
-        """Notes that COMMAND starts after this."""
+        """Notes the time: COMMAND starts after this."""
         self.started = time.clock_gettime_ns(REALTIME_COARSE)
 
     def remove(self) -> None:
-        """Removes the directory; what stays of it is beside, and another one takes its place."""
+        """Removes the directory. If some of it stays, the next tree gets a directory with another
+        path."""
         if not remove_tree(self.directory):
             self.directory = unused_path(self.directory)
         self.is_whole, self.files = False, {}
 
     def change(self, tree: Mapping[str, Entry]) -> None:
-        """Changes what differs from the tree; Unchangeable, or an OSError, if it can't."""
+        """Changes what differs from the tree. Unchangeable, or an OSError, if something can't be
+        changed: the directory is then in between."""
         if self.mounts.below(self.directory):
             raise Unchangeable
         self.there, self.modes = {''}, {}
@@ -123,8 +125,9 @@ class KeptTree:
             os.umask(umask)
 
     def clear(self, at: int, path: str, tree: Mapping[str, Entry]) -> None:
-        """Removes what isn't in the tree, or isn't as it was, below an open directory of a path;
-        and every symbolic link. What stays is noted as there."""
+        """Removes what differs from the tree below a path, whose directory is open as `at`, and all
+        symbolic links. Files that stay are noted as there. Unchangeable if a directory has a mount
+        or extended attributes."""
         if attributes_of(at) != self.attributes:
             raise Unchangeable
         with os.scandir(at) as entries:
@@ -170,7 +173,8 @@ class KeptTree:
         self.modes[path] = mode
 
     def has_file(self, at: int, path: str, wanted: Entry, status: os.stat_result) -> bool:
-        """Whether a file is as it was written, and as it is wanted; at is its open directory."""
+        """Whether the file of a path is still as it was written, and is as wanted; `at` is its open
+        directory, status what lstat says of it."""
         laid = self.files.get(path)
         if laid is None or laid.entry != wanted or not self.is_as_laid(laid, status):
             return False
@@ -181,9 +185,9 @@ class KeptTree:
         return laid.signature == signature_of(status) and status.st_ctime_ns < self.started
 
     def change_bytes(self, at: int, path: str, wanted: Entry, status: os.stat_result) -> bool:
-        """Gives a large file the bytes that are wanted; returns False, and changes nothing, if it
-        must be made again, since COMMAND put another one in its place or changed more than its
-        bytes."""
+        """Gives a large file its wanted bytes in place; `at` is its open directory. Returns False,
+        and changes nothing, if it must be made again: COMMAND replaced it, or changed more than its
+        bytes, or it is small."""
         laid = self.files.get(path)
         if (
             not self.has_times
@@ -208,7 +212,8 @@ class KeptTree:
         return True
 
     def make_entry(self, at: int, path: str, one: Entry) -> None:
-        """Makes a file or directory below the open root; nothing for a symbolic link."""
+        """Makes the file or directory of a path below the open root, and notes what it made;
+        nothing for a symbolic link."""
         if one.data is None:
             if one.is_directory:
                 os.mkdir(path, FILLED_MODE, dir_fd=at)
@@ -238,7 +243,7 @@ def links_of(tree: Mapping[str, Entry]) -> Iterator[Tuple[str, str]]:
 
 
 def is_large(entry: Entry) -> bool:
-    """Whether a file is changed in place."""
+    """Whether a file is changed in place, not made again."""
     return len(entry.data or b'') >= LARGE_BYTES
 
 
@@ -257,7 +262,8 @@ def signature_of(status: os.stat_result) -> Signature:
 
 
 def bytes_of(at: int, name: str) -> Bytes:
-    """The bytes of a file of an open directory."""
+    """The bytes of the file of a name in an open directory, which isn't followed if it is a link
+    (OSError)."""
     file = os.open(name, os.O_RDONLY | os.O_NOFOLLOW | os.O_CLOEXEC, dir_fd=at)
     try:
         return file_bytes(file)
@@ -275,7 +281,8 @@ def attributes_of(file: Union[str, int]) -> List[str]:
 
 
 def file_system_of(path: str) -> str:
-    """The type of the file system that has a path, or nothing if it isn't found."""
+    """The type of the file system that has a path, as mountinfo names it; an empty text if it names
+    none."""
     device = os.stat(path).st_dev
     wanted = f'{os.major(device)}:{os.minor(device)}'
     try:

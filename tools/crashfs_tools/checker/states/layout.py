@@ -33,12 +33,13 @@ class Layout(ABC):
 
     @abstractmethod
     def states(self, wanted: Set[int]) -> Iterator[Tuple[int, str]]:
-        """Each wanted state with the path of its directory, in ascending order."""
+        """Yields each wanted state with the path of its directory, in ascending order. Within
+        laid_out() the directory has the tree. ProgramFault if the program lacks a state."""
 
     @abstractmethod
     def laid_out(self, number: int, directory: str) -> ContextManager[None]:
-        """Within this the directory of the state that came last has its tree; afterwards the
-        directory is gone. Several processes may lay out states at once."""
+        """Within this the directory of the state that states() yielded last has its tree;
+        afterwards it may be gone. Several processes may lay out states at once."""
 
 
 class Archive(Layout):
@@ -101,7 +102,7 @@ def archived_trees(
 
 
 def is_small(plan: Plan) -> bool:
-    """Whether a plan has few different trees."""
+    """Whether a plan has at most MOST_TREES different trees."""
     return len({state.same for state in plan.listed}) <= MOST_TREES
 
 
@@ -124,16 +125,16 @@ def trees_of_small_plan(
 
 
 def unused_path(path: str) -> str:
-    """A path where nothing is, the given one if it can be: what COMMAND left there may be something
-    that can't be removed."""
+    """The given path, with a `+` at its end for each path that is taken: what COMMAND left there
+    may be something that can't be removed."""
     return unused_path(f'{path}+') if os.path.lexists(path) else path
 
 
 def lay_out(directory: str, tree: Iterable[Member]) -> None:
-    """Makes a directory that has the tree, whose paths are relative, the root's empty; a directory
-    comes before what is in it. Symbolic links are made when all else is there, so that nothing is
-    made through one. Directories get their modes last, and inner ones before outer ones, since
-    modes may forbid what is done below."""
+    """Makes a directory with a tree. Paths are relative, the root's is empty, and a directory comes
+    before what is in it. Symbolic links are made after all else, so that nothing is made through
+    one; directories get their modes last, inner ones first, since modes may forbid what is done
+    below."""
     os.mkdir(directory, FILLED_MODE)
     umask = os.umask(0)
     try:
@@ -173,7 +174,8 @@ def make_links(links: Iterable[Tuple[str, str]], at: int) -> None:
 
 
 def write_file(path: str, mode: int, data: Bytes, at: int) -> None:
-    """Makes a file below an open directory; FileExistsError if there is one."""
+    """Makes a file of a path below an open directory, with its mode and bytes; FileExistsError if
+    something is there."""
     file = os.open(path, NEW_FILE, mode, dir_fd=at)
     try:
         write_all(file, data)
@@ -182,7 +184,8 @@ def write_file(path: str, mode: int, data: Bytes, at: int) -> None:
 
 
 def write_all(file: int, data: Bytes) -> None:
-    """Writes a new file's bytes; large runs of zeros become holes, as of a file that was grown."""
+    """Writes the bytes of a new, empty file. Large runs of zeros become holes, as in a file that
+    was grown."""
     if isinstance(data, SparseBytes):
         for place, run in data.page_runs():
             write_at(file, place, run)

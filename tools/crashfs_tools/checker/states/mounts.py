@@ -34,7 +34,7 @@ class Mounts(Layout):
         self.run = f'check-{os.urandom(8).hex()}'
 
     def states(self, wanted: Set[int]) -> Iterator[Tuple[int, str]]:
-        """The directories are below the folder, and not there yet."""
+        """Yields paths below the folder at which nothing is yet: laid_out() makes them."""
         os.makedirs(self.folder, exist_ok=True)
         for number in sorted(wanted):
             yield number, os.path.join(self.folder, str(number))
@@ -82,9 +82,9 @@ class Mounts(Layout):
 
 
 def fault_of(words: List[str], directory: str, environment: Dict[str, str]) -> str:
-    """Runs a command about a directory. Returns why it failed, in a line without their names; an
-    empty text if it did what it should. It has a session of its own, so that Ctrl-C doesn't end it
-    half-way."""
+    """Runs a command about a directory, in a session of its own, so that Ctrl-C doesn't end it
+    half-way. Returns an empty text if it succeeds, else a line that says why not, without the
+    directory's name."""
     try:
         ran = subprocess.run(
             words,

@@ -31,5 +31,5 @@ def size_of(members: int) -> int:
 
 
 def lacking_of(members: int) -> int:
-    """The set of the places that a set lacks below its last one."""
+    """The set of the places before a set's last member that aren't members."""
     return (1 << members.bit_length()) - 1 & ~members

@@ -17,8 +17,8 @@ class PlanError(Exception):
 
 
 class MicroOperation(NamedTuple):
-    """A micro-operation by its place in the session. path is that of its file, or of its entry;
-    rest has its details as text, and line is that of the session's trace."""
+    """A micro-operation by its place in the session. path is that of its file or entry; rest has
+    its details as text, and line is that of the session's trace."""
 
     place: int
     kind: str
@@ -53,7 +53,7 @@ class State(NamedTuple):
 
     @property
     def trial(self) -> Trial:
-        """What the state is tried by."""
+        """What the state is tried by: one run is enough for all states of a trial."""
         return Trial(self.same, self.says)
 
 
@@ -68,11 +68,11 @@ class Offsets(NamedTuple):
     lines: Tuple[int, ...] = ()
 
     def session_line(self, number: int) -> int:
-        """The session's line of a line of the plan's trace."""
+        """The line of the session that is a line of the plan's trace."""
         return self.lines[number - 1] if self.lines else number
 
     def by_own_lines(self, values: Dict[int, str]) -> Dict[int, str]:
-        """Values by lines of the session, by the last line of the plan's trace for each it has."""
+        """Values by the trace's own lines: by the last one for each line of the session."""
         if not self.lines:
             return values
         own = {line: number for number, line in enumerate(self.lines, 1)}
@@ -102,8 +102,8 @@ class Needs:
         self._needing: Dict[int, int] = {}
 
     def is_needed(self, earlier: int, by: int) -> bool:
-        """Whether the micro-operation at one place is needed by that at another; not by one past
-        the last place."""
+        """Whether the micro-operation at `by` needs an earlier one; False for a `by` past the
+        end."""
         return by < len(self.masks) and bool(self.masks[by] >> earlier & 1)
 
     def set_needing(self, place: int) -> int:
@@ -121,8 +121,7 @@ class Needs:
         return (1 << len(self.masks)) - 1
 
     def sets_without_lines(self, lines: Iterable[int]) -> List[int]:
-        """For each line of a trace the largest allowed set that has nothing of it. lines has the
-        line of each micro-operation, in their order."""
+        """The largest allowed set that has nothing of each line, which `lines` has by places."""
         lost: Dict[int, int] = {}
         for place, line in enumerate(lines):
             lost[line] = lost.get(line, 0) | self.set_needing(place)
@@ -135,7 +134,7 @@ class Needs:
         return sum(place + 1 - size_of(mask) for place, mask in enumerate(self.masks))
 
     def is_prefix_or_hole(self, kept: int) -> bool:
-        """Whether a set is a prefix, or one without a micro-operation and all that need it."""
+        """Whether a set is that of a prefix or of a hole."""
         lacking = lacking_of(kept)
         first = next(places_of(lacking), None)
         return first is None or lacking == self.set_needing(first) & (1 << kept.bit_length()) - 1
@@ -188,7 +187,7 @@ class Plan:
         ]
 
     def profiles_of_trials(self) -> Dict[Trial, int]:
-        """Of each trial the profiles that allow one of the sets that leave it, as bits."""
+        """For each trial, as bits, the profiles that allow one of the sets that leave it."""
         found: Dict[Trial, int] = {}
         for state, profiles in zip(self.listed, self.profiles.of_sets):
             found[state.trial] = found.get(state.trial, 0) | profiles
@@ -207,7 +206,7 @@ class Plan:
 
     @property
     def families(self) -> List[State]:
-        """The states that are listed as members of families."""
+        """The first listed states; all if only families were asked for."""
         return self.listed[: self.all_states.families] if self.all_states else self.listed
 
     @property
@@ -220,7 +219,7 @@ class Plan:
         return self.first <= number < self.first + len(self.listed)
 
     def state(self, number: int) -> State:
-        """The listed state of a number."""
+        """The listed state of a number; has_state() must hold."""
         return self.listed[number - self.first]
 
     def state_text(self, state: State) -> str:
@@ -239,14 +238,14 @@ class Plan:
         return (1 << end) - 1 & ~self.needs.set_needing(lost)
 
     def may_be_left(self, kept: int) -> bool:
-        """Whether a crash may leave a set: none keeps what the program did after it printed a line,
-        and lacks the line. From version 3 on traces have no other states."""
+        """Whether a crash may leave a set: no member comes after an acknowledged line that it
+        lacks. Traces of version 3 on have no other sets."""
         lost_says = self.say_places & ~kept
         first_lost = lost_says & -lost_says
         return first_lost == 0 or kept < first_lost
 
     def set_lost_by(self, state: State) -> int:
-        """The set that a state lacks of the session up to the last of its micro-operations."""
+        """The set of what a state lacks before its last micro-operation."""
         return lacking_of(self.kept[state.number])
 
 
@@ -315,9 +314,9 @@ def ranges_text(numbers: Iterable[int]) -> str:
 
 
 def read_plan(listed: str, offsets: Offsets = Offsets(), more: Sequence[str] = ()) -> Plan:
-    """The plan that `list --json` printed, with numbers, places and lines of the whole session.
-    more has what it printed of further parts, of which the picks are taken. PlanError for a line
-    that isn't known."""
+    """The plan that `list --json` printed, in numbers, places and lines of the session. more has
+    what it printed for further parts, of which only the picks are added. PlanError for a line that
+    it doesn't know."""
     read = Listed(offsets)
     for part in (listed, *more):
         read.begin_part()
@@ -346,12 +345,12 @@ class Listed:
         return SetProfiles(names, tuple(set_of(map(names.index, one)) for one in self.allowed))
 
     def begin_part(self) -> None:
-        """Begins the next part: the program numbers its picks from the same number on."""
+        """Begins the next part, in which the program numbers the picks from the same number on."""
         self.is_first = not self.states
         self.lead = 0 if self.is_first else len(self.states) - len(self.operations) - 1
 
     def add_line(self, fields: Dict[str, Any]) -> None:
-        """Adds the operation or the state of a line. The operations are the same in each part."""
+        """Adds the operation or the state of a line. Each part has the same operations."""
         if 'op' not in fields:
             self.add_state(fields)
         elif self.is_first:
@@ -359,7 +358,7 @@ class Listed:
             self.masks.append(set_of(fields['needs']))
 
     def add_state(self, fields: Dict[str, Any]) -> None:
-        """Adds the state of a line; of a further part only if it is a pick."""
+        """Adds the state of a line; of a further part only a pick, with a lead on its numbers."""
         if not self.is_first:
             if fields['kind'] != 'pick':
                 return
@@ -384,7 +383,8 @@ def operation_of(fields: Dict[str, Any], offsets: Offsets) -> MicroOperation:
 
 
 def state_of(fields: Dict[str, Any], offsets: Offsets) -> State:
-    """The state of a line of `list --json`, in numbers of the session."""
+    """The state of a line of `list --json`, in numbers of the session; KeyError for another
+    kind."""
     kind = fields['kind']
     if kind == 'pick':
         numbers = tuple(fields['places'])

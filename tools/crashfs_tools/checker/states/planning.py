@@ -42,8 +42,9 @@ class Planner:
         self.guard = guard
 
     def plan(self, trace: str, offsets: Offsets = Offsets()) -> Planned:
-        """The families that are asked for; and all crash states, if they are asked for and not too
-        many. TooLarge if the trace is too long for one plan."""
+        """The plan of a trace with the families that are asked for and, if asked for, all crash
+        states or drawn ones. TooLarge if the trace is too long for one plan; Refused also if the
+        program and the second reading differ about what micro-operations need."""
         options = self.options
         if not (options.has_lost or options.has_files or options.has_every):
             return self.plan_of_picks(trace, offsets, [])
@@ -61,19 +62,20 @@ class Planner:
         return planned
 
     def for_copies(self, plan: Plan) -> Planner:
-        """Who plans copies of the trace of a plan, with other lines: of a small one the second
-        reading, in less time than the program takes to start."""
+        """The planner for copies of a plan's trace with other lines. Those of a small plan are
+        planned by the second reading, in less time than the program takes to start."""
         if not is_small(plan):
             return self
         return Planner(self.options, Crashfs(READING, unproved=True), self.guard)
 
     def has_few_states(self, trace: str) -> bool:
-        """Whether no more crash states of a trace differ than are all tried."""
+        """Whether a trace has at most as many different crash states as are all tried."""
         sets = all_sets(self.program, self.guard.environment, self.read_sets(trace))
         return sets.different_sets(self.options.most_states) is not None
 
     def read_sets(self, trace: str) -> ReadSets:
-        """A trace by the second reading. What that refuses, the program refuses in its words."""
+        """The sets of a trace by the second reading. Refused for a trace with a fault, in the
+        program's words if it has some."""
         from crashfs_tools.reading import ReadingFault
 
         try:
@@ -85,12 +87,12 @@ class Planner:
     def plan_of_all(
         self, trace: str, offsets: Offsets, read: ReadSets, families: List[int]
     ) -> Planned:
-        """The plan of some families and of all crash states; if these are too many, of some that
-        are drawn."""
+        """The plan of some families, and of all crash states; if these are too many, of some that
+        are drawn at random. Its all_states says which."""
         needs = read.needs
         sets = all_sets(self.program, self.guard.environment, read)
         found = sets_of_all_states(sets, read, self.options.most_states)
-        drawn = [] if found is not None else sets.drawn_sets(self.options.draws, SEED) or []
+        drawn = [] if found is not None else sets.drawn_sets(self.options.draw_count, SEED) or []
         more = [one for one in (found or drawn) if not self.is_always_listed(needs, one)]
         picks = list(dict.fromkeys([*families, *more]))
         parts = picks_in_parts(picks, self.room_for_picks(needs), len(needs.masks))
@@ -129,8 +131,9 @@ class Planner:
     def plan_of_picks(
         self, trace: str, offsets: Offsets, picks: Sequence[Sequence[int]]
     ) -> Planned:
-        """A plan in as many parts as there are lists of sets; the first has the holes too. Without
-        a set it is one part."""
+        """A plan in as many parts as there are lists of sets, of which the first has the holes too;
+        of one part if there is no set. Equal states of several parts are found by the second
+        reading."""
         words = ['--trace', trace, *([] if self.options.prefixes else ['--holes'])]
         options_of_parts = [words] if not any(picks) else []
         for number, sets in enumerate(picks if any(picks) else []):
@@ -145,14 +148,16 @@ class Planner:
         return Planned(trace, parts, plan, offsets)
 
     def plan_of_sets(self, planned: Planned, sets: Iterable[int]) -> Planned:
-        """A plan of the same trace that has the prefixes and these sets of micro-operations."""
+        """A plan of the same trace that has the prefixes and these sets as picks. Refused or
+        TooLarge if the program refuses it."""
         path = self.write_picks(planned.trace, '.sets', dict.fromkeys(sets))
         words = ['--trace', planned.trace, '--picks', path]
         plan = read_plan(self.output_of(['list', *words, '--json']), planned.offsets)
         return Planned(planned.trace, parts_of(plan, [words], []), plan, planned.offsets)
 
     def prefix_plan(self, trace: str) -> Plan:
-        """The plan of the prefixes only: it has no limit but that of the micro-operations."""
+        """The plan of the prefixes only: of any trace with no more micro-operations than the
+        program takes. Refused or TooLarge for another one."""
         return read_plan(self.output_of(['list', '--trace', trace, '--json']))
 
     def family_sets(self, read: ReadSets) -> List[int]:
@@ -179,16 +184,16 @@ class Planner:
         return path
 
     def output_of(self, words: List[str]) -> str:
-        """What the program prints. Refused in its words; TooLarge if the plan would be too
-        large."""
+        """What the program prints for a command. If it refuses, Refused in its words, or TooLarge
+        if the plan would be too large."""
         try:
             return self.program.output_of(words, self.guard.environment)
         except ProgramFault as fault:
             raise self.refusal_of(words[0], fault) from fault
 
     def refusal_of(self, command: str, fault: ProgramFault) -> Refused:
-        """What is raised for a fault of one of the program's commands. An option that it lacks is
-        reported as such."""
+        """The Refused, or TooLarge, for a fault of a command of the program. An option that the
+        program doesn't know is reported as missing there."""
         if fault.is_unknown_option:
             need = {'list': '`list --json`', 'tar': '`tar --states`'}.get(command, f'`{command}`')
             return Refused(
@@ -201,8 +206,8 @@ class Planner:
 
 
 def sets_of_all_states(sets: AllSets, read: ReadSets, most: int) -> Optional[List[int]]:
-    """A set of each different state, and one for each profile that allows a set of it; None if they
-    are too many."""
+    """A set of each different state, and for profiles that don't allow all of these sets also one
+    that they allow; None if the states are more than `most`."""
     found = sets.different_sets(most)
     if found is None:
         return None
@@ -221,8 +226,8 @@ def picks_in_parts(picks: List[int], room: int, operations: int) -> List[List[in
 
 
 def parts_of(plan: Plan, options_of_parts: List[List[str]], sizes: List[int]) -> List[Part]:
-    """The parts of a plan, by their options: so many picks are in each, and all else in the first.
-    The program numbers the picks of each further part from the end of the prefixes on."""
+    """The parts of a plan, by their options. sizes has how many picks each part has; all other
+    states are in the first part."""
     end = plan.first + len(plan.listed)
     firsts = [plan.first]
     firsts += [end - sum(sizes[number:]) for number in range(1, len(options_of_parts))]

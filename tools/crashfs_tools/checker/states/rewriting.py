@@ -12,7 +12,8 @@ Bytes = Union[bytes, bytearray, SparseBytes]
 
 
 def rewrite(file: int, before: Bytes, wanted: Bytes) -> None:
-    """Makes an open file that has the bytes `before` have the wanted ones."""
+    """Changes an open file, which has the bytes `before`, to the wanted bytes. Only pieces that
+    differ are written."""
     for at in piece_offsets(before, wanted):
         piece = wanted[at : at + PIECE_BYTES]
         if before[at : at + PIECE_BYTES] != piece and (at < len(before) or has_bytes(piece)):

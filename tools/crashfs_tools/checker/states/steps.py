@@ -88,8 +88,8 @@ def parts_of_operation(operation: Operation, tree: Tree) -> Iterator[Operation]:
 
 
 def lengths_before_write(tree: Tree, path: str, end: int) -> Iterator[int]:
-    """The lengths that a write up to an offset gives a file before its blocks, one after the other:
-    in version 4 it grows to the end of its last page first. None if the file doesn't grow."""
+    """The sizes that a write up to the offset `end` gives a file before its blocks, in their order:
+    in version 4 first the end of its last page. None if the file doesn't grow."""
     size = len(tree.entries[path].data or b'')
     if tree.version >= 4 and grows_past_page(size, end):
         yield page_end(size)
@@ -109,8 +109,8 @@ class Steps:
         self.start = self.tree.entries.copy()
 
     def end_within(self, size: int) -> int:
-        """The last step before which a part may end: it has at most so many micro-operations, but
-        at least one step."""
+        """The last step before which a part may end that has at most so many micro-operations; at
+        least the step after the first one, even if that is larger."""
         places = self.session.places
         end = bisect.bisect_right(places, places[self.begin] + size) - 1
         return min(max(end, self.begin + 1), len(self.session.steps))
@@ -120,7 +120,8 @@ class Steps:
         return self.session.places[end] - self.session.places[self.begin]
 
     def go_to(self, step: int, start: Entries) -> None:
-        """Goes on to a later step; start is the tree there as the program gives it."""
+        """Goes on to a later step, by applying the operations before it. start is the tree there as
+        the program gives it."""
         for one in self.session.steps[self.begin : step]:
             self.says += isinstance(one.operation, Say)
             self.tree.apply(one.operation)

@@ -82,8 +82,8 @@ class Windows:
         yield window.planned
 
     def next_window(self, steps: Steps, last: PlannedWindow, states: int) -> PlannedWindow:
-        """The window after one, of which its first state has a number; if what still was pending
-        leaves it no room, it begins at the end of the one before."""
+        """The window after one, whose first state gets a number. It begins where next_begin says
+        or, if it wouldn't end later then, at the end of the last one. What is cut off is noted."""
         begin = self.next_begin(last)
         self.go_to(steps, last, begin)
         window = self.longest_window(steps, states)
@@ -95,7 +95,8 @@ class Windows:
         return window
 
     def longest_window(self, steps: Steps, states: int) -> PlannedWindow:
-        """The longest window from where the steps are; its first state has a number."""
+        """The longest window that begins where `steps` is, whose first state gets a number; it
+        writes the window's files. Refused for a trace with a fault."""
         path = os.path.join(self.planner.guard.directory, f'window-{states}.trace')
         end = steps.end_within(self.largest)
         longest: Sequence[int] = ()
@@ -163,9 +164,9 @@ class Windows:
         return has_few
 
     def needs_with_probe(self, path: str, text: str) -> Sequence[int]:
-        """What each micro-operation of a trace needs, and last what one more after them would, of a
-        file that nothing else changes: all that is durable then. The path is for a file that is
-        removed again."""
+        """What each micro-operation of a trace needs, and last what one more would that changes a
+        file of its own: that is all that is durable then. The file at `path` is made for the
+        question, and removed."""
         write_text(path, with_probe(text))
         needs = self.planner.prefix_plan(path).needs.masks
         os.unlink(path)
@@ -183,7 +184,8 @@ class Windows:
         return len(needs)
 
     def next_begin(self, last: PlannedWindow) -> int:
-        """The step of the first pending micro-operation, but no earlier than half a window on."""
+        """The step at which the next window begins: that of the first pending micro-operation, but
+        no earlier than half a window on; the end of the last window if it wouldn't end later."""
         places, plan = self.session.places, last.planned.plan
         begin = last.planned.offsets.operations
         half = begin + (len(plan.operations) + 1) // 2
@@ -253,6 +255,6 @@ def with_probe(text: str) -> str:
 
 
 def write_text(path: str, text: str) -> None:
-    """Writes the file of a trace."""
+    """Writes a text into a file of this path."""
     with open(path, 'w', **TEXT) as file:
         file.write(text)

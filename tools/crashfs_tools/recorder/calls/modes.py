@@ -35,7 +35,8 @@ def on_fchmodat(files: LiveFiles, process: Process, call: Call) -> None:
 
 def set_mode(files: LiveFiles, node: Optional[Node], word: str) -> None:
     # Some programs pass the kind of the file too, which the kernel ignores.
-    """Gives a file or directory the mode that a call names, if it has another."""
+    """Gives a file or directory the mode that a call names, in the trace too, if it has another;
+    nothing for None."""
     mode = octal(word) & 0o7777
     if node is not None:
         node.mode = mode & PERMISSIONS
@@ -70,7 +71,8 @@ def on_fchownat(files: LiveFiles, process: Process, call: Call) -> None:
 
 
 def set_owner(files: LiveFiles, node: Optional[Node], user: str, group: str) -> None:
-    """Gives a file or directory an owner and a group, each unless the call leaves it unchanged."""
+    """Gives a file or directory an owner and a group, in the trace too; each that the call leaves
+    unchanged stays. Nothing for None."""
     path = path_in_trace(node)
     if node is None or path is None:
         return

@@ -37,8 +37,8 @@ def on_unlinkat(files: LiveFiles, process: Process, call: Call) -> None:
 
 
 def remove_name(files: LiveFiles, path: Optional[str]) -> None:
-    """Removes a name. If the file keeps a name that the trace lacks, the trace renames it to
-    that."""
+    """Removes a name, in the trace too. If the file keeps a name that the trace lacks, the trace
+    renames it to that."""
     if path is None or path not in files.tree.nodes:
         return
     node = files.tree.remove_name(path)

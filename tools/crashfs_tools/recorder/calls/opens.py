@@ -117,7 +117,7 @@ def on_close(files: LiveFiles, process: Process, call: Call) -> None:
 
 
 def on_close_range(files: LiveFiles, process: Process, call: Call) -> None:
-    """Closes descriptors from one to another, or has exec close them."""
+    """Closes a range of descriptors, or has exec close them, as its flags say."""
     descriptors = process.descriptors
     if 'UNSHARE' in call.argument(2):
         descriptors = process.descriptors = descriptors.copy()

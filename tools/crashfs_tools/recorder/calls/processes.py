@@ -8,6 +8,7 @@ import os.path
 from crashfs_tools.recorder import arguments
 from crashfs_tools.recorder.processes import Process
 from crashfs_tools.recorder.live_files import LiveFiles
+from crashfs_tools.recorder.mappings import Memory
 from crashfs_tools.recorder.strace_log import Call
 
 
@@ -18,8 +19,11 @@ def on_clone(files: LiveFiles, process: Process, call: Call) -> None:
 
 
 def on_execve(files: LiveFiles, process: Process, call: Call) -> None:
-    """Starts another program in a process."""
-    process.exec()
+    """Starts another program in a process: some descriptors are closed, nothing is mapped any more,
+    and the working directory and the umask are no longer shared with threads."""
+    process.descriptors = process.descriptors.after_exec()
+    process.paths = process.paths.copy()
+    process.memory = Memory()
 
 
 def on_chdir(files: LiveFiles, process: Process, call: Call) -> None:

@@ -83,7 +83,8 @@ def on_mprotect(files: LiveFiles, process: Process, call: Call) -> None:
 
 
 def report_mapped(files: LiveFiles, process: Process, address: int, length: int) -> None:
-    """Reports files that are mapped for writing, unless copies show what is stored."""
+    """Reports the files of the trace that are mapped for writing in a range of addresses; nothing
+    if copies show what is stored there."""
     if files.has_copies:
         return
     for part, _ in process.memory.parts_in(address, length):
