@@ -45,9 +45,9 @@ pub nothing_leaves : (version : Version) (m : Made) → Leaves version m [] m
 nothing_leaves version m = record { legal = tt; made = refl }
 
 -- one that is legal and leaves all as it was
-record IsQuiet (version : Version) (m : Made) (o : MicroOp) : Type 0 where
-  legal : IsLegal version m o
-  made : made_after m o ≡ m
+pub record IsQuiet (version : Version) (m : Made) (o : MicroOp) : Type 0 where
+  pub legal : IsLegal version m o
+  pub made : made_after m o ≡ m
 
 quiet_leaves : (version : Version) (m : Made) (f : ℕ → MicroOp) (a n : ℕ) → ((k : ℕ) → a ≤ k → k < a + n → IsQuiet version m (f k))
     → Leaves version m (map f (range_with_len a n)) m
