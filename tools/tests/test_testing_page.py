@@ -111,10 +111,12 @@ class Languages(InFolder):
 
     def test_the_page_has_the_commands_of_each_readme(self) -> None:
         for helper, language in LANGUAGES.items():
-            (item,) = re.findall(rf'^- \*\*\[{re.escape(language)}\].*\n(?:  .*\n)*', PAGE, re.M)
-            words = re.findall('`([^`]*)`', item)
-            self.assertGreaterEqual(len(words), 2, item)
-            for command in words:
+            name = rf'\*\*{re.escape(language)}\*\*'
+            (item,) = re.findall(rf'^- {name}, .*\n(?:  .*\n)*', PAGE, re.M)
+            readme, *commands = re.findall('`([^`]*)`', item)
+            self.assertEqual(readme, f'helpers/{helper}/README.md')
+            self.assertGreaterEqual(len(commands), 2, item)
+            for command in commands:
                 self.assertIn(f'    {command}\n', readme_of(helper))
 
     @needed(shutil.which('prove') is not None, 'prove is not installed')
