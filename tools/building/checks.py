@@ -58,8 +58,9 @@ def memory_of_machine() -> int:
 
 
 def killed_text(name: str, check: Check, jobs: int, processors: int) -> str:
-    """A sentence on a check that the system has killed: how much memory it took with so many jobs,
-    how much there is, and what helps on so many processors."""
+    """Says that the system has killed a check: how much memory its largest process had with so many
+    jobs, how much the machine has, and what helps. processors are those on which checks ran side by
+    side: half of them is the advice, unless it was one."""
     advice = (
         f'run tools/build --processors {processors // 2}'
         if processors > 1

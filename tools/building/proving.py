@@ -70,7 +70,8 @@ def build_program(work: Work, begun: float) -> int:
     words = ['rt', 'run', '--jobs', '1', '--', '--help']
     check = run_check(words, TOP / 'crates' / PROGRAM)
     if check.status:
-        report_failure(PROGRAM, check, 1, work.processors)
+        # It runs alone, with one job: fewer processors would be no help.
+        report_failure(PROGRAM, check, jobs=1, processors=1)
         return 1
     minutes = (time.monotonic() - begun) / 60
     print(f'{minutes:5.1f} min: crates/{PROGRAM}/out/{PROGRAM} is built', flush=True)

@@ -117,7 +117,7 @@ def page_with(page: str, part: str) -> str:
     once, in this order."""
     between = re.compile(f'{re.escape(BEGIN)}.*{re.escape(END)}', re.DOTALL)
     made, count = between.subn(lambda _: f'{BEGIN}\n\n{part}\n\n{END}', page)
-    if count != 1:
+    if (count, page.count(BEGIN), page.count(END)) != (1, 1, 1):
         raise ValueError(f'a page has to have the marks once: {BEGIN} .. {END}')
     return made
 

@@ -47,6 +47,7 @@ def lines_of_pages() -> Iterator[Line]:
     """The lines of all pages, manual pages and examples, without those made from the sources."""
     pages = [TOP / name for name in ('README.md', 'CHANGELOG.md', 'SECURITY.md')]
     pages += sorted((TOP / 'docs').rglob('*.md')) + sorted((TOP / 'docs' / 'man').iterdir())
+    pages += sorted((TOP / 'helpers').glob('*/README.md'))
     pages += sorted(path for path in EXAMPLES.rglob('*') if path.suffix in EXAMPLES_PRINT)
     for page in pages:
         yield from numbered_lines(page, without_made(page.read_text('utf-8')))

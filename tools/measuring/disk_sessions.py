@@ -108,8 +108,10 @@ class SessionMaker:
         self.filesystem = filesystem
         self.folder = folder
 
-    def result(self, seed: int, trace: Trace) -> SessionResult:
-        """Makes a session, which has the seed, with all levers. Its images are removed."""
+    def compare_session(self, seed: int, trace: Trace) -> SessionResult:
+        """Crashes a session at each of its moments by all levers, and compares the disks with the
+        allowed sets. The seed is that from which the trace was made: the result only names it.
+        Refused if an image can't be made or mounted; the images are removed in any case."""
         maker = CrashMaker(self.filesystem, trace, self.folder)
         try:
             disks = different_disks(

@@ -85,7 +85,7 @@ class Measurement:
 
         def result_of(task: Task) -> SessionResult:
             name, seed = task
-            return makers[name].result(seed, session(seed, self.words.operations))
+            return makers[name].compare_session(seed, session(seed, self.words.operations))
 
         begin = partial(become_worker, os.getpid())
         with DiskWorkers(self.words.jobs, begin, result_of) as workers:

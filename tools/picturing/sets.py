@@ -20,12 +20,10 @@ def column_width(session: ModelledSession) -> float:
 
 
 def draw_row(picture: Picture, session: ModelledSession, row: Row, *, has_number: bool) -> None:
-    """Adds a micro-operation with a cell for each set, or a line that syncs. has_number: the number
-    of its line is shown."""
-    is_sync = row.place is None
-    colour = 'sync' if is_sync else 'ink'
-    words = f'{row.words} ' if is_sync else row.words
-    picture.add_line(words, f'code {colour}', WORDS)
+    """Adds the row of a micro-operation, with a cell for each set: faint if the set lacks it, else
+    in the colour of whether recovery fails. Or that of a line that syncs, with a rule. has_number:
+    the number of its line is shown."""
+    picture.add_line(row.words, f'code {"sync" if row.place is None else "ink"}', WORDS)
     if has_number:
         picture.add(text_element(NUMBER, picture.y, str(row.line.number), 'code end grey'))
     if row.place is None:

@@ -10,19 +10,24 @@ from .support import TOOLS
 
 TOP = TOOLS.parent
 PAGES = [TOP / name for name in ('README.md', 'SECURITY.md')]
-PAGES += sorted((TOP / 'docs').rglob('*.md'))
+PAGES += sorted((TOP / 'docs').rglob('*.md')) + sorted((TOP / 'helpers').glob('*/README.md'))
 BLOCK = re.compile(r'(?<=\n\n)(?:    .*\n|\n+(?=    ))+')
 FENCE = re.compile(r'^```.*?^```$', re.M | re.S)
 FIRST_WORD = re.compile(
-    r'(?:\$ )?(?:tools/[\w-]+|crashfs[\w-]*|rt|apt-get|array=\S+|cd|\(cd|git|ls|man|mkdir|mount|'
-    r'PATH=\S+|pip|pipx|python3|rm|sbatch|sleep|sqlite3|strace|sudo|tar|truncate|'
+    r'(?:\$ )?(?:tools/[\w-]+|crashfs[\w-]*|rt|apt-get|array=\S+|cargo|cd|\(cd|g\+\+|git|go|ls|man|'
+    r'mkdir|mount|PATH=\S+|pip|pipx|python3|rm|sbatch|sleep|sqlite3|strace|sudo|tar|truncate|'
     r'/usr/bin/time|#!/bin/sh)'
     r'(?=\s|$)'
 )
 # A synopsis, and not a command.
 SYNOPSIS = re.compile(r'\[OPTION\]|TRACE --|TRACE\]')
 # Pages whose commands other tests run, one after the other: see there.
-ELSEWHERE = {'docs/TUTORIAL.md': 'test_tutorial.py'}
+ELSEWHERE = {
+    'docs/TUTORIAL.md': 'test_tutorial.py',
+    'helpers/cpp/README.md': 'test_testing_page.py',
+    'helpers/go/README.md': 'test_testing_page.py',
+    'helpers/rust/README.md': 'test_testing_page.py',
+}
 # Commands that no test runs, with the reason. A key is the beginning of a command.
 NOT_RUN = {
     'README.md': {
@@ -61,9 +66,7 @@ NOT_RUN = {
     },
     'docs/how-to/testing.md': {
         'pip install': 'it needs a network; test_pytest_plugin.py uses the plugin of the clone',
-        'mkdir store': 'test_testing_page.py runs them, in their languages',
-        'cp ': 'the same',
-        '#!/bin/sh -e': 'the same',
+        '#!/bin/sh -e': 'test_testing_page.py runs it',
     },
     'docs/internals/BENCHMARKS.md': {
         'tools/measure': 'it needs programs that the toolchain builds; test_measure.py',

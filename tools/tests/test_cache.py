@@ -75,6 +75,16 @@ class Files(InFolder):
         self.assertEqual(later.outcome('b'), Outcome(BAD, 'cause', 'output'))
         self.assertEqual([later.outcome(key) for key in 'cd'], [None, None])
 
+    def test_each_outcome_of_an_earlier_check_counts_once(self) -> None:
+        cache = OutcomeCache(self.folder, 'n')
+        cache.add('a', Outcome(GOOD, '', ''))
+        self.assertEqual((cache.outcome('a'), cache.hits), (Outcome(GOOD, '', ''), 0))
+        cache.save()
+        later = OutcomeCache(self.folder, 'n')
+        for _ in range(2):
+            later.outcome('a')
+        self.assertEqual(later.hits, 1)
+
     def test_the_source_of_a_compiled_module_is_looked_at(self) -> None:
         os.mkdir(self.path('__pycache__'))
         compiled = self.write('__pycache__/judge.cpython-311.pyc', '')

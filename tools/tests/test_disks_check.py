@@ -93,14 +93,13 @@ class Explanations(unittest.TestCase):
     def test_a_search_that_was_cut_off_says_how_many_states_it_saw(self) -> None:
         trace = (CONFIG / 'config.trace').read_bytes()
         with mock.patch.object(disk_search, 'MOST_STATES', 3):
-            result = disk_search.search(trace, {('none', 0)})
+            result = disk_search.search_trees(trace, {('none', 0)})
         self.assertEqual(
             result.explanation(('none', 0)).text,
             'none of the 3 crash states that were looked through has this tree',
         )
-        self.assertEqual(
-            disk_search.search(trace, {('none', 0)}).explanation(('none', 0)), Explanation(OUTSIDE)
-        )
+        whole = disk_search.search_trees(trace, {('none', 0)})
+        self.assertEqual(whole.explanation(('none', 0)), Explanation(OUTSIDE))
 
 
 class NotDone(InStore):

@@ -103,8 +103,9 @@ class Inventories(unittest.TestCase):
     def test_a_part_is_put_between_its_marks_alone(self):
         page = page_with(f'head\n{BEGIN}\nold\n{END}\ntail\n', 'new')
         self.assertEqual(page, f'head\n{BEGIN}\n\nnew\n\n{END}\ntail\n')
-        with self.assertRaises(ValueError):
-            page_with('no marks', 'new')
+        for text in ('no marks', f'{END} {BEGIN}', f'{BEGIN} {END} not made {BEGIN} {END}'):
+            with self.assertRaises(ValueError):
+                page_with(text, 'new')
 
     def test_a_file_that_is_older_than_its_text_is_found(self):
         older, same = self.written('old'), self.written('same')

@@ -131,7 +131,7 @@ class Chosen(unittest.TestCase):
                 self.assertEqual(
                     nested.seen,
                     set().union(
-                        *(Nested.features(findings, plan.state(number)) for number in outcomes)
+                        *(Nested.features_of(findings, plan.state(number)) for number in outcomes)
                     ),
                 )
             if count == 1:

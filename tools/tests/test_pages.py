@@ -16,7 +16,8 @@ from .support import EXAMPLES, PATIENCE, TOOLS, InFolder, needs_strace
 
 TOP = TOOLS.parent
 DOCS = TOP / 'docs'
-PAGES = [TOP / 'README.md', *sorted(DOCS.rglob('*.md'))]
+READMES = sorted((TOP / 'helpers').glob('*/README.md'))
+PAGES = [TOP / 'README.md', *sorted(DOCS.rglob('*.md')), *READMES]
 README = (TOP / 'README.md').read_text('utf-8')
 MOST_LINES = 120
 BLOCK = re.compile(r'(?<=\n\n)(?:    .*\n|\n+(?=    ))+')

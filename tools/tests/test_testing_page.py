@@ -1,5 +1,5 @@
-"""The examples of docs/how-to/testing.md fail, each in its language, with the entry that the page
-prints."""
+"""The examples of docs/how-to/testing.md and of the packages' READMEs fail, each in its language,
+with the entry that the page prints."""
 
 from __future__ import annotations
 
@@ -8,12 +8,12 @@ import re
 import shutil
 import subprocess
 import unittest
-from typing import List
 
 from .support import PATIENCE, TOOLS, InFolder, needed, needs_strace
 
 PYTEST = shutil.which('pytest')
-PAGE = (TOOLS.parent / 'docs' / 'how-to' / 'testing.md').read_text('utf-8')
+TOP = TOOLS.parent
+PAGE = (TOP / 'docs' / 'how-to' / 'testing.md').read_text('utf-8')
 BLOCK = r'((?:    .*\n|\n+(?=    ))+)'
 
 # A session and a recovery as commands: a file whose directory is never synced.
@@ -26,12 +26,21 @@ RECOVERY = """\
 test "$CRASHFS_SAYS" = 0 || test -s config || { echo 'lost: the last version'; exit 1; }
 """
 
+# The folders of the packages, with the names that the page has for them.
+LANGUAGES = {'go': 'Go', 'rust': 'Rust', 'cpp': 'C++'}
+
 needs_pytest = needed(PYTEST is not None, 'pytest is not installed')
 
 
-def block_after(words: str) -> str:
-    """The block of the page that follows these words and a blank line, without its indentation."""
-    found = re.search(re.escape(words) + r'\n\n' + BLOCK, PAGE)
+def readme_of(helper: str) -> str:
+    """The README of a package, by the name of its folder."""
+    return (TOP / 'helpers' / helper / 'README.md').read_text('utf-8')
+
+
+def block_after(words: str, page: str = PAGE) -> str:
+    """The block of a page that follows a line with these words, which may go on, and a blank line;
+    without its indentation."""
+    found = re.search(re.escape(words) + r'.*\n\n' + BLOCK, page)
     assert found is not None, words
     return re.sub('^    ', '', found[1], flags=re.M)
 
@@ -62,11 +71,12 @@ class Languages(InFolder):
     """The examples in other languages, from an empty directory."""
 
     def run_lines(self, script: str, folder: str = '') -> str:
-        """Runs commands of the page, and returns what they print."""
+        """Runs commands of a page, and returns what they print."""
+        variables = self.environment(f'{TOOLS}:{os.environ["PATH"]}')
         ran = subprocess.run(
-            ['sh', '-c', script.replace('CLONE', str(TOOLS.parent))],
+            ['sh', '-c', script.replace('CLONE', str(TOP))],
             cwd=self.path(folder),
-            env={**os.environ, **self.environment(f'{TOOLS}:{os.environ["PATH"]}')},
+            env={**os.environ, **variables, 'CARGO_NET_OFFLINE': 'true'},
             text=True,
             stdout=subprocess.PIPE,
             stderr=subprocess.STDOUT,
@@ -75,33 +85,39 @@ class Languages(InFolder):
         )
         return ran.stdout
 
-    def run_example(self, language: str, name: str, test: str) -> str:
-        """Does what the page says of a language, with the example in the file of this name; returns
-        what the test prints, which is the entry of the page."""
-        made = self.run_lines(block_after(f'### {language}'))
+    def check_example(self, helper: str, name: str) -> None:
+        """Does what a package's README says, with the example in the file of this name; the test
+        prints the entry that the README has."""
+        page = readme_of(helper)
+        made = self.run_lines(block_after('In a new', page))
         self.assertTrue(os.path.isdir(self.path('store')), made)
-        self.write(f'store/{name}', block_after(f'`{name}`:'))
-        printed = self.run_lines(test, 'store')
-        for line in entry_in_go()[-2:]:
-            self.assertIn(line, printed)
-        return printed
+        self.write(f'store/{name}', block_after(f'`{name}`,', page))
+        printed = self.run_lines(block_after('un it:', page), 'store')
+        entry = without_numbers(block_after('of the report', page))
+        self.assertIn('the directory / is never synced', entry)
+        self.assertIn(entry, without_numbers(printed))
 
     @needed(shutil.which('go') is not None, 'go is not installed')
     def test_go(self) -> None:
-        printed = self.run_example('Go', 'store_test.go', 'go test')
-        for line in entry_in_go():
-            self.assertIn(without_numbers(line), without_numbers(printed))
+        self.check_example('go', 'store_test.go')
 
     @needed(shutil.which('cargo') is not None, 'cargo is not installed')
     def test_rust(self) -> None:
-        printed = self.run_example('Rust', 'tests/crash_states.rs', 'cargo test --offline')
-        self.assertIn('\nlost: the last version\n', printed)
+        self.check_example('rust', 'tests/crash_states.rs')
 
     @needed(os.path.exists('/usr/include/gtest/gtest.h'), 'googletest is not installed')
     def test_cpp(self) -> None:
-        command = block_after("(Debian's package is `libgtest-dev`):")
-        printed = self.run_example('C++', 'store_test.cpp', command)
-        self.assertIn('Failure\nFailed\nlost: the last version\n', printed)
+        self.check_example('cpp', 'store_test.cpp')
+
+    def test_the_page_has_the_commands_of_each_readme(self) -> None:
+        for helper, language in LANGUAGES.items():
+            name = rf'\*\*{re.escape(language)}\*\*'
+            (item,) = re.findall(rf'^- {name}, .*\n(?:  .*\n)*', PAGE, re.M)
+            readme, *commands = re.findall('`([^`]*)`', item)
+            self.assertEqual(readme, f'helpers/{helper}/README.md')
+            self.assertGreaterEqual(len(commands), 2, item)
+            for command in commands:
+                self.assertIn(f'    {command}\n', readme_of(helper))
 
     @needed(shutil.which('prove') is not None, 'prove is not installed')
     def test_any_language(self) -> None:
@@ -114,15 +130,11 @@ class Languages(InFolder):
         self.assertIn('Failed test:  1\n', printed)
 
 
-def entry_in_go() -> List[str]:
-    """The lines that the page has of a failing test in Go."""
-    block = block_after('Each entry of the report is a subtest, and known failures are skipped:')
-    return [line.strip() for line in block.splitlines()]
-
-
 def without_numbers(text: str) -> str:
-    """What a test in Go prints, without seconds and without the number of the line that failed."""
-    return re.sub(r'(?<=\.go):\d+', '', re.sub(r'\d+\.\d+s', 'Ns', text))
+    """What a test prints, without seconds, a thread's number and the number of the line that
+    failed."""
+    text = re.sub(r'\d+\.\d+s', 'Ns', text)
+    return re.sub(r'(?<=\.go|\.rs):\d+|(?<=\.cpp):\d+| \(\d+\)(?= panicked)', '', text)
 
 
 if __name__ == '__main__':

@@ -165,8 +165,9 @@ def add_course_options(parser: argparse.ArgumentParser) -> None:
     )
 
 
-def add_options_of_known(parser: argparse.ArgumentParser) -> None:
-    """Adds the options that say what is known: failures that are accepted, earlier outcomes."""
+def add_known_options(parser: argparse.ArgumentParser) -> None:
+    """Adds the options that name files of what is known before the check: failures that are
+    accepted, and the outcomes of earlier checks."""
     parser.add_argument(
         '--accept',
         metavar='FILE',
@@ -277,7 +278,7 @@ def make_parser() -> argparse.ArgumentParser:
     )
     add_state_options(parser)
     add_course_options(parser)
-    add_options_of_known(parser)
+    add_known_options(parser)
     add_output_options(parser)
     add_program_options(parser)
     add_other_ways(parser)

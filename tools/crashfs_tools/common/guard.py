@@ -41,6 +41,8 @@ class Guard:
         self.token = os.urandom(16).hex()
         self.directory = ''
         self.is_reaper = False
+        # The watcher, and the end of the pipe whose closing it waits for, once it is started.
+        self.watcher, self.alive = 0, -1
         # Processes that could not be ended, with the names of their programs.
         self.unended: Dict[int, str] = {}
 

@@ -30,7 +30,7 @@ UNKNOWN_OPTION = 2
 PIECE_BYTES = 1 << 16
 # So much of an archive is read at once.
 ARCHIVE_BYTES = 1 << 18
-# The first version that a program may refuse, and what it then says of a trace without lines.
+# The first version that a program may refuse, and what it then says of its header.
 NEW_VERSION, REFUSED = 4, 'Syntax'
 EMPTY_TRACE = (
     '{"trace":%d,"profile":"blocks","block":4096,"owner":"root","group":"root","mode":"755"}\n'
@@ -111,7 +111,8 @@ class Crashfs:
         return Crashfs.second_reading(refused_version=version)
 
     def reads_version(self, version: int) -> bool:
-        """Whether the program reads traces of a version: it is given one that has no lines."""
+        """Whether the program reads traces of a version: it is given one that is only a header. Any
+        fault but REFUSED counts as yes: the next command shows it."""
         with tempfile.NamedTemporaryFile('w', suffix='.trace') as file:
             file.write(EMPTY_TRACE % version)
             file.flush()

@@ -130,11 +130,15 @@ class MappedFiles:
         self.copies.taken.append(FileCopy(line, process, is_alone, changed, shared))
 
     def mapped_by(self, processes: Iterable[int]) -> Set[int]:
-        """The numbers of the followed files that these processes have mapped: a file counts by its
-        inode, whatever its device, so it may be too many."""
+        """The numbers of the followed files that these processes may have mapped: rather too many.
+        A file counts by its inode, whatever its device; all count if a process doesn't show what it
+        has mapped."""
         mapped: Set[str] = set()
         for process in processes:
-            mapped |= stopped_processes.inodes_mapped(process)
+            inodes = stopped_processes.inodes_mapped(process)
+            if inodes is None:
+                return set(self.inodes.values())
+            mapped |= inodes
         return {number for (_, inode), number in self.inodes.items() if str(inode) in mapped}
 
     def make_last_copy(self, line: int) -> None:

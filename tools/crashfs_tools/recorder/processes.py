@@ -57,7 +57,8 @@ class Descriptors:
         return Descriptors(dict(self.files), set(self.closed_by_exec))
 
     def after_exec(self) -> Descriptors:
-        """The table after exec, which closes some of the files."""
+        """The table after exec: a new one, which no thread shares, without the descriptors that
+        exec closes."""
         kept = {n: file for n, file in self.files.items() if n not in self.closed_by_exec}
         return Descriptors(kept)
 

@@ -100,7 +100,6 @@ class Recording:
 
     def __init__(self, header: Header, settings: TraceSettings) -> None:
         self.settings = settings
-        self.new_version = ''
         self.begin_trace(header)
         self.streams = OutputStreams(settings.acknowledged, settings.each)
         self.troubles = Troubles()
@@ -111,7 +110,9 @@ class Recording:
         self.changes = 0
 
     def begin_trace(self, header: Header) -> None:
-        """Begins the trace, in the oldest version that it may have."""
+        """Begins the trace, in the oldest version that it may have, and a tree of the root alone.
+        If it is begun again, all else of the recording stays, as the streams, the troubles, the
+        paths that differ and the count of changes."""
         profile, block = self.settings.profile, self.settings.block
         version = self.settings.version or WRITTEN_VERSION
         self.trace = Trace(header, version=version, profile=profile, block=block)
@@ -140,12 +141,13 @@ class Recording:
         """Reports what no trace has, but what decides about no crash state."""
         self.report(what, where, is_note=True)
 
-    def raise_version_for(self, what: str) -> bool:
-        """Gives the trace the newest version, for this reason, unless --trace-version names one.
-        Returns whether it has the newest version afterwards."""
+    def raise_version_for(self, reason: str) -> bool:
+        """Gives the trace the newest version, for the first such reason, unless --trace-version
+        names one. Returns whether it has the newest version afterwards. It keeps that version even
+        if the operation that needs it is left out after all."""
         if self.trace.version < NEWEST and self.settings.version is None:
             self.trace.version = self.tree.version = NEWEST
-            self.new_version = what
+            self.new_version = reason
         return self.trace.version >= NEWEST
 
     def add_operation(self, operation: Operation) -> bool:

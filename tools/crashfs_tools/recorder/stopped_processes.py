@@ -60,10 +60,13 @@ def wait_until_stopped(thread: int, process: int) -> Stop:
     return Stop.RESUMED
 
 
-def inodes_mapped(process: int) -> Set[str]:
-    """The inodes of the files that a process has mapped, as /proc prints them."""
+def inodes_mapped(process: int) -> Optional[Set[str]]:
+    """The inodes of the files that a process has mapped, as /proc prints them; none if it has
+    ended. None if it may not be seen, as of one that made itself undumpable."""
     try:
         with open(f'/proc/{process}/maps', encoding='utf-8', errors='replace') as lines:
             return {line.split()[4] for line in lines}
+    except PermissionError:
+        return None
     except OSError:
         return set()

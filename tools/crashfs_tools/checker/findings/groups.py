@@ -273,20 +273,21 @@ class Findings:
         return size_of(self.plan.set_lost_by(state)), state.number
 
     def group_of_state(self, state: State) -> Group:
-        """The group that a state alone would be."""
+        """A group of this failing state alone. What groups_of_failures() finds of merged groups,
+        such as their lost lines, and the advice aren't set yet."""
         loss = self.losses.get(state.number)
         pair = loss.pair if loss else self.pairs.pair_of(state)
         kept, lost = self.line_at(pair.kept), self.line_at(pair.lost)
         tried, allowed = self.tried_numbers(state), self.plan.profile_names_of(state)
         return Group(
-            self.by_state[state.number],
-            state,
-            pair,
-            kept,
-            lost,
-            [state],
-            tried,
-            [(lost.number, kept.number)] if kept and lost else [],
+            outcome=self.by_state[state.number],
+            example=state,
+            pair=pair,
+            kept=kept,
+            lost=lost,
+            states=[state],
+            tried=tried,
+            places=[(lost.number, kept.number)] if kept and lost else [],
             under={
                 name: tried if name in allowed else frozenset() for name in self.plan.profiles.names
             },

@@ -123,9 +123,9 @@ class StateCounts:
             return f'more than {max(one.most for one in self.every if one is not None):,}'
         return f'{self.sets:,}' if self.sets is not None else f'more than {LEAST_OF_MANY:,}'
 
-    def is_whole(self, head: Head) -> bool:
-        """Whether all states that were to be tried were: the check is no shard, and nothing is
-        left."""
+    def has_tried_all(self, head: Head) -> bool:
+        """Whether all states of the whole check that were to be tried were. Not so for a shard,
+        even if none of its own states is left, nor if the session goes on after the last window."""
         return head.shard.parts == 1 and not self.left and not head.has_rest
 
 

@@ -28,7 +28,7 @@ class Summary:
         self.counts = counts
         self.accepted = accepted
         self.failing = counts.failing - accepted.total
-        self.is_whole = counts.is_whole(head)
+        self.is_whole = counts.has_tried_all(head)
 
     @property
     def line(self) -> str:

@@ -91,7 +91,7 @@ class ReportText:
         """The accepted failures that were not found: they are gone if all crash states were tried,
         else not seen."""
         counts = self.counts
-        is_all = counts.has_every and not counts.is_part and counts.is_whole(self.head)
+        is_all = counts.has_every and not counts.is_part and counts.has_tried_all(self.head)
         how = 'gone' if is_all else 'not seen'
         not_found = self.report.accepted_not_found()
         return folded((f'accepted, and {how}: {entry.name}' for entry in not_found), '  ')
@@ -132,7 +132,7 @@ class ReportText:
         return [SETS_UNPROVED, self.summary()] if self.counts.are_read else [self.summary()]
 
     def cache_lines(self) -> List[str]:
-        """How much of the report is from earlier checks."""
+        """A line that counts the outcomes from earlier checks; none if there is none."""
         count = self.report.cached
         return [f'  {number_of(count, "outcome")} from earlier checks (--cache)'] if count else []
 

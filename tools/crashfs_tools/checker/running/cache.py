@@ -31,7 +31,7 @@ Digests = Dict[str, str]
 
 class OutcomeCache:
     """The outcomes of one COMMAND in a directory, by keys of states; name is a part of the name of
-    the file that has them. hits counts those that were taken from it."""
+    the file that has them. hits counts those of earlier checks that were used, each once."""
 
     def __init__(self, folder: str, name: str) -> None:
         self.path = os.path.join(folder, f'outcomes-{name}.json')
@@ -41,12 +41,12 @@ class OutcomeCache:
 
     def outcome(self, key: str) -> Optional[Outcome]:
         """What COMMAND made of the state with a key, now or in an earlier check; None if that isn't
-        known. Counts a hit, and keeps the outcome for later checks."""
+        known. Keeps the outcome for later checks, and counts a hit if it is of an earlier one."""
         found = self.used.get(key) or self.earlier.get(key)
         if found is None or len(found) != 3 or found[0] not in (GOOD, BAD):
             return None
+        self.hits += key not in self.used
         self.used[key] = found
-        self.hits += 1
         return Outcome(*found)
 
     def add(self, key: str, outcome: Outcome) -> None:

@@ -7,7 +7,18 @@ import os
 from abc import ABC, abstractmethod
 from contextlib import contextmanager
 from itertools import groupby
-from typing import ContextManager, Dict, Iterable, Iterator, List, Optional, Set, Tuple
+from typing import (
+    Callable,
+    ContextManager,
+    Dict,
+    Iterable,
+    Iterator,
+    List,
+    Optional,
+    Set,
+    Tuple,
+    TypeVar,
+)
 
 from crashfs_tools.common.archive import Member
 from crashfs_tools.common.entry import Entry
@@ -24,6 +35,8 @@ FILLED_MODE = 0o700
 # Of more trees, or more bytes of files, each process reads an archive of its own at the same time.
 MOST_TREES, MOST_BYTES = 256, 1 << 24
 
+# What is made of a tree while it is read.
+Taken = TypeVar('Taken')
 # The trees by the first state that has each; a path is below the state's directory.
 TreesByState = Dict[int, List[Member]]
 
@@ -69,26 +82,32 @@ class Archive(Layout):
     def states(self, wanted: Set[int]) -> Iterator[Tuple[int, str]]:
         """Each directory has its tree already: an archive is read as fast as states are taken.
         ProgramFault if the program lacks one."""
-        for number, tree in self.trees(wanted):
-            directory = unused_path(os.path.join(self.folder, str(number)))
-            lay_out(directory, tree)
-            yield number, directory
-
-    def trees(self, wanted: Set[int]) -> Iterator[Tuple[int, Iterable[Member]]]:
-        """The trees of the wanted states, by their numbers, as archived_trees has them."""
         if self.kept is None:
-            yield from archived_trees(self.program, self.planned, wanted, self.environment)
+            yield from read_trees(
+                self.program, self.planned, wanted, self.environment, self.make_directory
+            )
             return
         for number in sorted(wanted):
-            yield number, self.kept[self.planned.plan.state(number).same]
+            tree = self.kept[self.planned.plan.state(number).same]
+            yield number, self.make_directory(number, tree)
+
+    def make_directory(self, number: int, tree: Iterable[Member]) -> str:
+        """Makes the directory of a state, with its tree, and returns its path."""
+        directory = unused_path(os.path.join(self.folder, str(number)))
+        lay_out(directory, tree)
+        return directory
 
 
-def archived_trees(
-    program: Crashfs, planned: Planned, wanted: Set[int], environment: Dict[str, str]
-) -> Iterator[Tuple[int, Iterator[Member]]]:
-    """The trees of the wanted states of a plan, by the states' numbers, ascending. A tree is read
-    before the next one is asked for; its paths are below the state's directory. ProgramFault, at
-    the end, if the program lacks one."""
+def read_trees(
+    program: Crashfs,
+    planned: Planned,
+    wanted: Set[int],
+    environment: Dict[str, str],
+    take: Callable[[int, Iterable[Member]], Taken],
+) -> Iterator[Tuple[int, Taken]]:
+    """Yields each wanted state of a plan, ascending, with what `take` returns for its number and
+    tree; `take` reads the tree to its end. Paths are below the state's directory. ProgramFault, at
+    the end of an archive, if the program failed or lacks a state."""
     left = set(wanted)
     for request in planned.requests(wanted):
         with program.archive(request.words, environment) as members:
@@ -96,7 +115,8 @@ def archived_trees(
                 number = int(top) + request.lead
                 if number in left:
                     left.remove(number)
-                    yield number, ((path[len(top) + 1 :], entry) for path, entry in tree)
+                    below = ((path[len(top) + 1 :], entry) for path, entry in tree)
+                    yield number, take(number, below)
     if left:
         raise ProgramFault(0, f'crashfs tar wrote no state {min(left)}'.encode())
 
@@ -116,8 +136,9 @@ def trees_of_small_plan(
     trees: TreesByState = {}
     size = 0
     firsts = {state.same for state in planned.plan.listed}
-    for number, tree in archived_trees(program, planned, firsts, environment):
-        trees[number] = list(tree)
+    read = read_trees(program, planned, firsts, environment, lambda _, tree: list(tree))
+    for number, tree in read:
+        trees[number] = tree
         size += sum(len(entry.data or b'') for _, entry in trees[number])
         if size > MOST_BYTES:
             return None

@@ -129,8 +129,8 @@ class Steps:
         self.start = start
 
     def trace_until(self, end: int) -> Tuple[str, Tuple[int, ...]]:
-        """The text of the trace of the part before a step, and for each of its lines that of the
-        session; 0 for those of its start."""
+        """The text of the trace of the part before a step, and for each line of this text the
+        number of its line in the session: 0 for the header and the start lines."""
         part = self.session.steps[self.begin : end]
         whole = self.session.trace
         header, start = start_lines(self.start, self.tree.files)

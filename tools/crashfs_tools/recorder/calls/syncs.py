@@ -22,7 +22,7 @@ def on_fsync(files: LiveFiles, process: Process, call: Call) -> None:
 
 
 def on_fdatasync(files: LiveFiles, process: Process, call: Call) -> None:
-    """Syncs the bytes and the size of an open file."""
+    """Syncs the bytes and the size of an open file; an open directory as a whole."""
     file = files.open_file(process, call)
     if file is not None and file.node is not None:
         files.sync_data(file.node)
