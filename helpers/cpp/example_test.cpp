@@ -1,6 +1,8 @@
 // A small store, a file that is saved whole, and its test.
 #include <fcntl.h>
 
+#include <sstream>
+
 #include "crash_states.hpp"
 
 namespace {
@@ -44,15 +46,19 @@ void recovery(const crash_states::Path &directory, const std::vector<std::string
 
 }  // namespace
 
-TEST(Json, AReportIsRead) {
-    const auto found = crash_states::json::parse(R"({"a": [1, {"b": "x\n\u00e9\ud83d\ude00\""}]})");
-    EXPECT_EQ(found.at("a").list()[0].number(), 1);
-    EXPECT_EQ(found.at("a").list()[1].at("b").text(), "x\n\u00e9\U0001f600\"");
+TEST(Report, EachFailingTestIsAnEntry) {
+    std::istringstream report(
+        "TAP version 13\n1..4\nnot ok 1 - lost: \\#1\n# lost: #1\n#   line 5\n"
+        "ok 2 - old # SKIP why\nnot ok 3 - odd\n# odd\nok 4 - all other states (7)\n");
+    const std::vector<std::string> entries = {"lost: #1\n  line 5\n", "odd\n"};
+    EXPECT_EQ(crash_states::detail::entries_of(report), entries);
 }
 
-TEST(Json, WhatEndsEarlyIsNoReport) {
-    for (const char *text : {"{\"a\": 1", "[1", "\"x", "", "{} 1", "[1 2]", "{\"a\"}"})
-        EXPECT_ANY_THROW(crash_states::json::parse(text)) << text;
+TEST(Report, AnotherVersionIsRefused) {
+    for (const char *text : {"", "TAP version 14\n1..1\nok 1 - all other states (7)\n"}) {
+        std::istringstream report(text);
+        EXPECT_ANY_THROW(crash_states::detail::entries_of(report)) << text;
+    }
 }
 
 TEST(Store, EveryCrashState) {

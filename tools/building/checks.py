@@ -23,12 +23,13 @@ class Check(NamedTuple):
     most: int
 
     @property
-    def was_killed(self) -> bool:
+    def is_killed(self) -> bool:
+        """Whether the system has killed it."""
         return self.status in KILLED
 
 
 def run_check(words: List[str], folder: Path) -> Check:
-    """Runs a command of `rt` in the folder of a crate."""
+    """Runs a command of `rt` in the folder of a crate to its end, with both outputs in one."""
     with subprocess.Popen(
         words,
         cwd=folder,
@@ -43,7 +44,8 @@ def run_check(words: List[str], folder: Path) -> Check:
 
 
 def wait_for(process: int) -> Tuple[int, int]:
-    """The status of a process, and the most bytes that it or a process below it had."""
+    """Waits for a child; its status, negative for a signal, and the most bytes that one process,
+    the child or one below it that was waited for, had."""
     _, status, used = os.wait4(process, 0)
     return os.waitstatus_to_exitcode(status), used.ru_maxrss * 1024
 
@@ -55,8 +57,10 @@ def memory_of_machine() -> int:
     return int(fields['MemTotal'].split()[0]) * 1024
 
 
-def memory_text(name: str, check: Check, jobs: int, processors: int) -> str:
-    """What to say of a check that the system has killed."""
+def killed_text(name: str, check: Check, jobs: int, processors: int) -> str:
+    """Says that the system has killed a check: how much memory its largest process had with so many
+    jobs, how much the machine has, and what helps. processors are those on which checks ran side by
+    side: half of them is the advice, unless it was one."""
     advice = (
         f'run tools/build --processors {processors // 2}'
         if processors > 1

@@ -11,18 +11,18 @@ import threading
 import time
 from pathlib import Path
 
-from .order import TOP, Work, chains, libraries
+from .order import TOP, Work, chain_lengths, libraries
 from .proving import build_program, copy_to, prove_in
 
 DESCRIPTION = """\
 Proves all that crashfs uses, several crates side by side, and builds the program.
 
 `rt run` in crates/crashfs does the same, one crate after the other. Here as many copies of the
-repository as there are processors (4 at most) take a crate each, lowest first, and those with the
-longest chain of crates above them before others. The crate with the longest chain has two
-processors, and those that no other crate could use, unless it is above many crates. The copies
-are in a temporary folder that is removed at the end. A copy gets the libraries that it lacks from
-the copies that proved them.
+repository as there are processors (4 at most) take a crate each: the lowest crates first, and of
+these the one with the longest chain of crates above it. That crate has two processors, and also
+those that no other crate can use, unless it is above many crates. The copies are in a temporary
+folder that is removed at the end. A copy gets the libraries that it lacks from the copies that
+proved them.
 
 Status 0: the program is crates/crashfs/out/crashfs. Else a crate was not proved: what its check
 printed is printed, and the status is 1. If memory ran out, the last line says so."""
@@ -33,28 +33,30 @@ NO_RT = (
 
 
 def main() -> int:
-    words = argparse.ArgumentParser(
+    """Runs tools/build with the words of its command line, and returns its status."""
+    parser = argparse.ArgumentParser(
         description=DESCRIPTION, formatter_class=argparse.RawDescriptionHelpFormatter
     )
     most = min(MOST_PROCESSORS, os.cpu_count() or 1)
-    words.add_argument(
+    parser.add_argument(
         '--processors',
         type=int,
         default=most,
         metavar='N',
         help=f'how many processors it takes ({most})',
     )
-    given = words.parse_args()
+    given = parser.parse_args()
     if shutil.which('rt') is None:
         print(NO_RT, file=sys.stderr)
         return 1
-    return build(max(1, given.processors))
+    return build_all(max(1, given.processors))
 
 
-def build(processors: int) -> int:
-    """Proves the libraries, then the program, and returns the status."""
+def build_all(processors: int) -> int:
+    """Proves the libraries on so many processors, then the program, and returns the status: 0 if
+    all is proved and built."""
     below, begun = libraries(), time.monotonic()
-    work = Work(below, chains(below), processors)
+    work = Work(below, chain_lengths(below), processors)
     with tempfile.TemporaryDirectory(prefix='crashfs-build-') as room:
         copies = [TOP, *(copy_to(Path(room) / str(it)) for it in range(1, processors))]
         threads = [threading.Thread(target=prove_in, args=(it, work, begun)) for it in copies]

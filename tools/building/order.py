@@ -15,51 +15,64 @@ MOST_JOBS = 3
 MANY_BELOW = 16
 
 
-def crates_below(below: Dict[str, List[str]], name: str) -> Set[str]:
-    """The crates that a crate uses, directly or not."""
+def uses_by_crate(crates: str) -> Dict[str, List[str]]:
+    """Each crate that the text of crates.txt has a line for, in its order, with all that the line
+    names: crates of ours and of the kit."""
+    found: Dict[str, List[str]] = {}
+    for line in crates.splitlines():
+        head, colon, names = line.partition('#')[0].partition(':')
+        if colon:
+            found[head.split()[0]] = names.split()
+    return found
+
+
+def crates_below(uses: Dict[str, List[str]], name: str) -> Set[str]:
+    """The crates that a crate uses, directly or not; one without a line, as of the kit, uses
+    none."""
     found: Set[str] = set()
     left = [name]
     while left:
-        new = set(below[left.pop()]) - found
+        new = set(uses.get(left.pop(), ())) - found
         found |= new
         left.extend(new)
     return found
 
 
 def libraries() -> Dict[str, List[str]]:
-    """Each crate that the program uses, directly or not, with those that it uses directly."""
-    named: Dict[str, List[str]] = {}
-    for line in (TOP / 'crates.txt').read_text().splitlines():
-        head, colon, names = line.partition('#')[0].partition(':')
-        if colon:
-            named[head.split()[0]] = names.split()
-    below = {name: [it for it in its if it in named] for name, its in named.items()}
-    return {name: below[name] for name in crates_below(below, PROGRAM)}
+    """Each crate of ours that the program uses, directly or not, with those of ours that it uses
+    directly."""
+    uses = uses_by_crate((TOP / 'crates.txt').read_text())
+    own = {name: [it for it in its if it in uses] for name, its in uses.items()}
+    return {name: own[name] for name in crates_below(own, PROGRAM)}
 
 
 def line_count(name: str) -> int:
-    """How many lines the crate has: its check takes longer the more there are."""
+    """How many lines a crate has in the files that the prover reads: a check takes longer the more
+    there are."""
     files = (it for it in (TOP / 'crates' / name).rglob('*.[ra]*') if it.is_file())
     return sum(len(it.read_bytes().splitlines()) for it in files)
 
 
-def chains(below: Dict[str, List[str]]) -> Dict[str, int]:
-    """The lines of each crate and of the longest chain of crates above it."""
+def chain_lengths(below: Dict[str, List[str]]) -> Dict[str, int]:
+    """For each crate, the lines of the longest chain of crates that begins with it and in which
+    each uses the one before. `below` has what each crate uses."""
     above = {name: [it for it in below if name in below[it]] for name in below}
     found: Dict[str, int] = {}
 
-    def chain(name: str) -> int:
+    def length_from(name: str) -> int:
+        """The lines of the longest chain that begins with a crate."""
         if name not in found:
-            found[name] = line_count(name) + max((chain(it) for it in above[name]), default=0)
+            found[name] = line_count(name) + max((length_from(it) for it in above[name]), default=0)
         return found[name]
 
-    return {name: chain(name) for name in below}
+    return {name: length_from(name) for name in below}
 
 
 @dataclass
 class Work:
-    """What is left to prove, shared by the copies of the repository. places has the copy in which
-    each crate was proved, and failed is the first crate that was not proved."""
+    """What is left to prove, shared by threads, one for each copy of the repository. places has the
+    copy in which each crate was proved, jobs how many processors each running check has, and failed
+    is the first crate that was not proved."""
 
     below: Dict[str, List[str]]
     chains: Dict[str, int]
@@ -71,7 +84,8 @@ class Work:
     change: threading.Condition = field(default_factory=threading.Condition)
 
     def best_crate(self) -> Optional[Tuple[str, int]]:
-        """A crate whose libraries are proved, and how many processors it gets."""
+        """The crate to prove next, of those whose libraries are proved the one with the longest
+        chain, and how many processors it gets; None if none is ready, or no processor is idle."""
         ready = [
             it
             for it in self.below
@@ -87,7 +101,8 @@ class Work:
         return name, min(wanted, idle, most)
 
     def next_crate(self) -> Optional[Tuple[str, int]]:
-        """Waits for the next crate to prove; None if nothing is left."""
+        """Waits for the next crate to prove, and marks it as begun; None if nothing is left, or one
+        was not proved."""
         with self.change:
             while not self.failed and len(self.begun) < len(self.below):
                 chosen = self.best_crate()
@@ -100,7 +115,8 @@ class Work:
             return None
 
     def end_crate(self, name: str, place: Optional[Path]) -> None:
-        """Says that the check of a crate has ended: it is proved in a copy, or it isn't."""
+        """Notes that the check of a crate has ended: it is proved in the copy `place`, or it isn't
+        proved (None). The threads that wait go on."""
         with self.change:
             del self.jobs[name]
             if place:

@@ -7,13 +7,14 @@ import sys
 import time
 from pathlib import Path
 
-from .checks import Check, memory_text, run_check
+from .checks import Check, killed_text, run_check
 from .order import PROGRAM, TOP, Work, crates_below
 from .sharing import give_library
 
 
-def has_library(top: Path, name: str) -> bool:
-    """Whether the crate's library is newer than its text: `rt` then needs a second to look."""
+def is_library_current(top: Path, name: str) -> bool:
+    """Whether the library of a crate in a copy is newer than all texts of the crate: `rt` then only
+    needs a second to look."""
     crate = top / 'crates' / name
     library = crate / 'out' / 'rlib' / 'stamp'
     texts = (it for part in ('src', 'specs', 'proofs') for it in (crate / part).rglob('*'))
@@ -21,7 +22,7 @@ def has_library(top: Path, name: str) -> bool:
 
 
 def copy_to(folder: Path) -> Path:
-    """Copies what `rt` reads into the folder."""
+    """Copies what `rt` reads of the repository into a new folder, and returns that."""
     (folder / 'crates').mkdir(parents=True)
     for name in ('crates.txt', 'HANDLES'):
         shutil.copy2(TOP / name, folder / name)
@@ -31,21 +32,24 @@ def copy_to(folder: Path) -> Path:
 
 
 def report_failure(name: str, check: Check, jobs: int, processors: int) -> None:
-    """Prints what a check printed that has not ended well, and why, if the system killed it."""
+    """Prints what the check of a crate printed that has failed, and why, if the system killed
+    it."""
     sys.stderr.buffer.write(check.output)
     sys.stderr.buffer.flush()
-    if check.was_killed:
-        print(memory_text(name, check, jobs, processors), file=sys.stderr, flush=True)
+    if check.is_killed:
+        print(killed_text(name, check, jobs, processors), file=sys.stderr, flush=True)
 
 
 def prove_in(copy: Path, work: Work, begun: float) -> None:
-    """Proves one crate after the other in a copy of the repository, until nothing is left."""
+    """Proves one crate after the other in a copy of the repository, until nothing is left, and
+    prints a line for each with the minutes since `begun`. A crate whose library in the repository
+    itself is current is checked there, which takes a second."""
     while True:
         chosen = work.next_crate()
         if chosen is None:
             return
         name, jobs = chosen
-        top = TOP if has_library(TOP, name) else copy
+        top = TOP if is_library_current(TOP, name) else copy
         for library in crates_below(work.below, name):
             give_library(work.places[library], top, library)
         check = run_check(['rt', 'lib', '--jobs', str(jobs)], top / 'crates' / name)
@@ -59,13 +63,15 @@ def prove_in(copy: Path, work: Work, begun: float) -> None:
 
 
 def build_program(work: Work, begun: float) -> int:
-    """Builds the program over libraries that are proved, and returns the status."""
+    """Builds the program over libraries that are all proved, and returns the status: 0, or 1 if it
+    isn't built."""
     for name, place in work.places.items():
         give_library(place, TOP, name)
     words = ['rt', 'run', '--jobs', '1', '--', '--help']
     check = run_check(words, TOP / 'crates' / PROGRAM)
     if check.status:
-        report_failure(PROGRAM, check, 1, work.processors)
+        # It runs alone, with one job: fewer processors would be no help.
+        report_failure(PROGRAM, check, jobs=1, processors=1)
         return 1
     minutes = (time.monotonic() - begun) / 60
     print(f'{minutes:5.1f} min: crates/{PROGRAM}/out/{PROGRAM} is built', flush=True)

@@ -7,19 +7,20 @@ from pathlib import Path
 
 
 def library_of(top: Path, name: str) -> Path:
-    """The folder of a crate's library."""
+    """The folder of a crate's library in a copy of the repository."""
     return top / 'crates' / name / 'out' / 'rlib'
 
 
 def stamp_of(library: Path) -> bytes:
-    """What `rt` writes once the library is whole: a sum of all texts that it was made from."""
+    """What `rt` writes once a library is whole: a sum of all texts that it was made from. Empty if
+    there is no whole library."""
     stamp = library / 'stamp'
     return stamp.read_bytes() if stamp.is_file() else b''
 
 
 def give_library(source: Path, target: Path, name: str) -> None:
-    """Copies a proved library, so that `rt` doesn't prove it again in the target. It is never seen
-    half copied."""
+    """Copies the proved library of a crate from a copy of the repository to another, unless it is
+    there, so that `rt` doesn't prove it again. It is never seen half copied."""
     proved, library = library_of(source, name), library_of(target, name)
     if stamp_of(proved) == stamp_of(library):
         return

@@ -8,14 +8,14 @@ _crashfs_check() {
     done
     case $previous in
         --jobs | --shard | --every | --in | --nested | --state | --time-limit | --resume | \
-        --accept | --cache | --json | --junit | --html | --timeout | --crashfs | --serve | \
-        --uname | --disks | --merge) return ;;
+        --accept | --cache | --json | --junit | --tap | --html | --timeout | --crashfs | --serve \
+        | --uname | --disks | --merge) return ;;
         *)
             [[ $current == -* ]] && words='
                 -h --help --version --jobs --shard --every --families --prefixes --quick --in
                 --lost --files --nested --state --fail-fast --time-limit --resume --accept
-                --cache --json --junit --html --timeout --crashfs --unproved --serve --uname
-                --disks --merge'
+                --cache --json --junit --tap --html --timeout --crashfs --unproved --serve
+                --uname --disks --merge'
             ;;
     esac
     mapfile -t COMPREPLY < <(compgen -W "$words" -- "$current")

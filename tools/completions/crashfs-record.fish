@@ -5,7 +5,7 @@ complete -c crashfs-record -l mapped -d 'also record stores through shared mappi
 complete -c crashfs-record -l ignore -r -d 'leave out files that match, by the rules of .gitignore'
 complete -c crashfs-record -l say-fd -r -d 'take the acknowledged lines from COMMAND’s descriptor N, not from standard output'
 complete -c crashfs-record -l say-each -x -a 'line write' -d 'what acknowledges something'
-complete -c crashfs-record -l no-say -d 'do not warn if no line is acknowledged, if all are in one write, or if one is held for long'
+complete -c crashfs-record -l no-say -d 'do not warn if no line is acknowledged, if all are in one write, or if files change while one is written in parts'
 complete -c crashfs-record -l stacks -d 'note at each operation which of COMMAND’s functions made it'
 complete -c crashfs-record -l begin-after -r -d 'begin the trace after the acknowledged line with this number, or after the first that matches'
 complete -c crashfs-record -l profile -x -a 'blocks ordered journal' -d 'which directory operations the file system keeps in order'

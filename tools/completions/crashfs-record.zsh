@@ -7,7 +7,7 @@ _arguments -S \
     '--ignore[leave out files that match, by the rules of .gitignore]:GLOB:_files' \
     '--say-fd[take the acknowledged lines from COMMAND’s descriptor N, not from standard output]:N:_files' \
     '--say-each[what acknowledges something]:WHAT:(line write)' \
-    '--no-say[do not warn if no line is acknowledged, if all are in one write, or if one is held for long]' \
+    '--no-say[do not warn if no line is acknowledged, if all are in one write, or if files change while one is written in parts]' \
     '--stacks[note at each operation which of COMMAND’s functions made it]' \
     '--begin-after[begin the trace after the acknowledged line with this number, or after the first that matches]:LINE:_files' \
     '--profile[which directory operations the file system keeps in order]:PROFILE:(blocks ordered journal)' \

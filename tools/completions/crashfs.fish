@@ -18,7 +18,7 @@ complete -c crashfs -n '__fish_seen_subcommand_from tar' -l holes -d 'Adds the s
 complete -c crashfs -n '__fish_seen_subcommand_from tar' -l picks -r -d 'Adds the states of these sets, one JSON array of places a line'
 complete -c crashfs -n '__fish_seen_subcommand_from tar' -l trace -r -d 'The same as TRACE'
 complete -c crashfs -n __fish_use_subcommand -a picks -d 'Prints sets of micro-operations as a file for --picks'
-complete -c crashfs -n '__fish_seen_subcommand_from picks' -l lost -d 'For each operation the smallest disk that still has it'
+complete -c crashfs -n '__fish_seen_subcommand_from picks' -l lost -d 'For each operation the smallest set that still has it'
 complete -c crashfs -n '__fish_seen_subcommand_from picks' -l files -d 'For each prefix and each file, the disk without its changes that no sync covers'
 complete -c crashfs -n '__fish_seen_subcommand_from picks' -l sample -r -d 'Sets that are drawn one after the other, 1 to 16384'
 complete -c crashfs -n '__fish_seen_subcommand_from picks' -l seed -r -d 'The number by which they are drawn'

@@ -40,7 +40,7 @@ else
         picks)
             _arguments \
                 '(-h --help)'{-h,--help}'[Prints the help]' \
-                '--lost[For each operation the smallest disk that still has it]' \
+                '--lost[For each operation the smallest set that still has it]' \
                 '--files[For each prefix and each file, the disk without its changes that no sync covers]' \
                 '--sample[Sets that are drawn one after the other, 1 to 16384]:M:_files' \
                 '--seed[The number by which they are drawn]:S:_files' \

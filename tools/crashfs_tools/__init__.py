@@ -7,7 +7,7 @@
     for entry in report.entries:
         print(entry)
 
-docs/TESTING.md explains it.
+docs/how-to/testing.md explains it.
 """
 
 from __future__ import annotations

@@ -22,6 +22,7 @@ OTHERS = pytest.StashKey[List[str]]()
 
 
 def pytest_addoption(parser: pytest.Parser) -> None:
+    """Adds the options of this plugin, as pytest calls it."""
     group = parser.getgroup('crash states (crashfs)')
     group.addoption(
         '--crash-states',
@@ -71,10 +72,10 @@ class CrashStates:
             report = check(trace, recovery, accept=accept, **options)
         except Refused as refused:
             fail(str(refused))
-        self.judge(report, trace)
+        self.fail_if_bad(report, trace)
         return report
 
-    def judge(self, report: Report, trace: Path) -> None:
+    def fail_if_bad(self, report: Report, trace: Path) -> None:
         """Fails the test with the first entry, and keeps the others; or with the whole report if
         not all states have an answer."""
         texts = [failure_text(entry, trace) for entry in report.failures]
@@ -86,10 +87,12 @@ class CrashStates:
 
 
 def failure_text(entry: Entry, trace: Path) -> str:
+    """An entry as the text of a test's failure."""
     return f'{entry}\n  state {entry.example} of {trace}'
 
 
 def fail(*lines: str) -> None:
+    """Fails the test with some lines; it never returns."""
     pytest.fail('\n'.join(lines), pytrace=False)
 
 
@@ -111,7 +114,7 @@ def pytest_runtest_protocol(item: pytest.Item) -> Iterator[None]:
 
 
 def failure_report(item: pytest.Item, number: int, text: str) -> pytest.TestReport:
-    """A further failure of a test, with a name of its own."""
+    """The report of a further failure of a test, whose name has a number."""
     try:
         fail(text)
     except pytest.fail.Exception:

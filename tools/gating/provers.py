@@ -15,7 +15,8 @@ PROCESSES = Path('/proc')
 
 @dataclass(frozen=True)
 class Prover:
-    """A process that proves: times in seconds, memory in bytes."""
+    """A process that proves: when it began and how long it computed, in seconds, its memory in
+    bytes, its crate, and what it works on (kind_of_work)."""
 
     number: int
     begun: float
@@ -25,9 +26,9 @@ class Prover:
     kind: str
 
 
-def kind_of(words: List[str], folder: str) -> str:
-    """What a prover with these arguments works on. An edit is tried in a copy of its crate, which
-    isn't below a folder `crates`."""
+def kind_of_work(words: List[str], folder: str) -> str:
+    """What a prover with these arguments works on in a folder: tests, programs, edits or proof. An
+    edit is tried in a copy of its crate, which isn't below a folder `crates`."""
     if '--test' in words:
         return 'tests'
     if '--crate-checked' in words:
@@ -38,8 +39,10 @@ def kind_of(words: List[str], folder: str) -> str:
 
 
 def fields_of(process: Path) -> List[str]:
-    """The fields of proc(5)'s stat that follow the name: its field 3 and on."""
-    return (process / 'stat').read_text().rsplit(')', 1)[1].split()
+    """The fields of proc(5)'s stat of a process from field 3, its state, on: so the parent is at 1,
+    the times at 11 to 14, the begin at 19, the memory at 21. OSError if it has ended. Field 2, the
+    name, may have any bytes."""
+    return (process / 'stat').read_text('ascii', 'replace').rsplit(')', 1)[1].split()
 
 
 def parent_of(process: Path) -> int:
@@ -50,8 +53,8 @@ def parent_of(process: Path) -> int:
         return 0
 
 
-def prover_at(process: Path) -> Optional[Prover]:
-    """The process, if it proves a crate and hasn't ended."""
+def prover_of(process: Path) -> Optional[Prover]:
+    """What a process proves; None if it is no prover of a crate, or has ended."""
     try:
         words = (process / 'cmdline').read_bytes().decode(errors='replace').split('\0')
         if not words[0].endswith('/rattle') or '--crate-name' not in words:
@@ -67,7 +70,7 @@ def prover_at(process: Path) -> Optional[Prover]:
         seconds=sum(int(field) for field in stat[11:15]) / TICKS,
         memory=int(stat[21]) * PAGE,
         crate=words[words.index('--crate-name') + 1],
-        kind=kind_of(words, folder),
+        kind=kind_of_work(words, folder),
     )
 
 
@@ -79,10 +82,11 @@ def ancestors(number: int, parents: Dict[int, int]) -> Iterator[int]:
 
 
 def provers_below(top: int) -> List[List[Prover]]:
-    """The provers below a process: each that no other started, followed by those it started."""
+    """The provers below a process, in groups: first one that no other prover started, then those
+    that it started."""
     processes = [path for path in PROCESSES.iterdir() if path.name.isdigit()]
     parents = {int(path.name): parent_of(path) for path in processes}
-    running = {prover.number: prover for prover in map(prover_at, processes) if prover}
+    running = {prover.number: prover for prover in map(prover_of, processes) if prover}
     groups: Dict[int, List[Prover]] = defaultdict(list)
     for prover in running.values():
         line = list(ancestors(prover.number, parents))

@@ -29,7 +29,7 @@ QUICK = (
     'rooms',
     'translate',
     'untranslated',
-    'voices',
+    'output_streams',
 )
 
 
@@ -42,7 +42,7 @@ def tests_to_run(is_quick: bool) -> unittest.TestSuite:
 
 
 def skipped_for_program(result: unittest.TestResult) -> int:
-    """How many tests were skipped because they need `crashfs`."""
+    """How many tests were skipped because they need `crashfs`: their reasons have this word."""
     return sum('crashfs' in reason for _, reason in result.skipped)
 
 
@@ -64,6 +64,7 @@ def has_passed(result: unittest.TestResult, needs_program: bool) -> bool:
 
 
 def main(words: Optional[List[str]] = None) -> int:
+    """Runs the tests as the words, or the command line, ask for; returns 0 if they have passed."""
     parser = argparse.ArgumentParser(prog='gating.suite', description=__doc__)
     parser.add_argument('--program', action='store_true', help='crashfs is built')
     parser.add_argument('--quick', action='store_true', help='run a few modules only')

@@ -25,14 +25,16 @@ KINDS = ('proof', 'tests', 'edits', 'programs')
 
 @dataclass
 class Share:
-    """What the provers of one crate and kind took: seconds by process, and the most memory."""
+    """What the provers of one crate and kind took: processor seconds and wall seconds by process,
+    which is a number and when it began, and the most memory that one group had at a time."""
 
     seconds: Dict[Tuple[int, float], float] = field(default_factory=dict)
     walls: Dict[Tuple[int, float], float] = field(default_factory=dict)
     memory: int = 0
 
     def add(self, group: List[Prover], now: float) -> None:
-        """Counts a prover with those that it started, as they are now."""
+        """Counts a group, a prover and those that it started, as it is at the time `now`, in
+        seconds since the system began. Seconds never fall: those of an ended child come later."""
         first = group[0]
         process = first.number, first.begun
         seconds = sum(prover.seconds for prover in group)
@@ -45,13 +47,14 @@ Shares = Dict[Tuple[str, str], Share]
 
 
 def add_sample(shares: Shares, groups: List[List[Prover]], now: float) -> None:
-    """Adds what each running prover has taken so far."""
+    """Adds what each group of running provers has taken so far to its crate and kind."""
     for group in groups:
         shares.setdefault((group[0].crate, group[0].kind), Share()).add(group, now)
 
 
-def row_of(crate: str, shares: Shares) -> List[str]:
-    """A crate's row: seconds by kind, their sum, the longest prover's wall seconds, megabytes."""
+def crate_row(crate: str, shares: Shares) -> List[str]:
+    """A crate's row of the table: seconds by kind, their sum, the wall seconds of the prover that
+    ran longest, and megabytes."""
     own = {kind: share for (name, kind), share in shares.items() if name == crate}
     taken = [sum(own[kind].seconds.values()) if kind in own else 0.0 for kind in KINDS]
     longest = max(wall for share in own.values() for wall in share.walls.values())
@@ -65,7 +68,7 @@ def table_of(shares: Shares, wall: float) -> str:
     for (crate, _), share in shares.items():
         crates[crate] += sum(share.seconds.values())
     rows = [['crate', *KINDS, 'all', 'longest wall', 'most MB']]
-    rows += [row_of(crate, shares) for crate in sorted(crates, key=lambda it: -crates[it])]
+    rows += [crate_row(crate, shares) for crate in sorted(crates, key=lambda it: -crates[it])]
     minutes = sum(crates.values()) / 60
     rows.append([f'all: {minutes:.0f} processor minutes in {wall / 60:.0f} minutes'])
     return ''.join('\t'.join(row) + '\n' for row in rows)
@@ -88,6 +91,7 @@ def sample_until_end(process: int, every: float, has_ended: threading.Event) -> 
 
 
 def main(words: Optional[List[str]] = None) -> int:
+    """Runs gate-times with these words, or those of its command line, and returns its status."""
     parser = argparse.ArgumentParser(
         prog='gate-times', description=ABOUT, formatter_class=argparse.RawDescriptionHelpFormatter
     )

@@ -13,7 +13,7 @@ COUNTS = re.compile(r'(\d+) passed, (\d+) failed')
 
 @dataclass(frozen=True)
 class Verdict:
-    """What a gate ended with."""
+    """What the last lines of a gate say, as texts."""
 
     commit: str
     tree: str
@@ -22,7 +22,8 @@ class Verdict:
     counts: str
 
     def reasons_against(self, commit: str, toolchain: str) -> List[str]:
-        """Why it says nothing good of a commit that this toolchain proves; none if it does."""
+        """Why a release of this commit and toolchain can't rest on it, a sentence for each reason;
+        none if it can."""
         counts = COUNTS.fullmatch(self.counts)
         passed, failed = (int(counts[1]), int(counts[2])) if counts else (0, 0)
         rows = [
@@ -47,7 +48,11 @@ def verdict_of(log: str) -> Verdict:
     if len(fields) < len(FIELDS) or not COUNTS.fullmatch(lines[-1]):
         raise ValueError('the last line is not "N passed, M failed", as .ci/run ends')
     return Verdict(
-        fields['commit'], fields['tree'], fields['toolchain'], fields['status'], lines[-1]
+        commit=fields['commit'],
+        tree=fields['tree'],
+        toolchain=fields['toolchain'],
+        status=fields['status'],
+        counts=lines[-1],
     )
 
 

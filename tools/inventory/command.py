@@ -6,9 +6,9 @@ import argparse
 from pathlib import Path
 from typing import Dict, List, Optional
 
-from .completions import completions
+from .completions import completion_files
 from .pages import PRINTED, page_with
-from .results import PAGE, results
+from .results import PAGE, results_part
 from .sources import TOP
 
 ABOUT = """\
@@ -17,16 +17,16 @@ tables of docs/RESULTS.md, from docs/results.json. With --print it writes nothin
 tests with what each shows, and the must-fail edits (tests), or the words of specs/ with what each
 says and the contracts that cite it (words).
 
-Exit status 0, or 1 with --check if a file isn't as the sources are."""
+Exit status 0, or 1 with --check if a file is missing or older than the sources."""
 
 
 def made_files() -> Dict[Path, str]:
-    """Each file that is made, with its text."""
-    return {**completions(), PAGE: page_with(PAGE.read_text('utf-8'), results())}
+    """Each file that is made from the sources, with the text that it should have now."""
+    return {**completion_files(), PAGE: page_with(PAGE.read_text('utf-8'), results_part())}
 
 
 def older_files(made: Optional[Dict[Path, str]] = None) -> List[Path]:
-    """The files that are missing, or not as the sources are."""
+    """Which of the files that are made (by default all) are missing, or have another text."""
     return [
         path
         for path, text in (made_files() if made is None else made).items()
@@ -35,6 +35,7 @@ def older_files(made: Optional[Dict[Path, str]] = None) -> List[Path]:
 
 
 def main(words: Optional[List[str]] = None) -> int:
+    """Writes, compares or prints, as the words of the command line say; returns the status."""
     parser = argparse.ArgumentParser(
         prog='inventories', description=ABOUT, formatter_class=argparse.RawDescriptionHelpFormatter
     )

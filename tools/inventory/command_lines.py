@@ -1,4 +1,5 @@
-"""The options of the four commands, as their parsers and the program's source have them."""
+"""The options of the four commands, as the tools' parsers and the program's source have them. So
+completions and manual pages are made and compared without a toolchain."""
 
 from __future__ import annotations
 
@@ -13,17 +14,22 @@ from crashfs_tools.recorder import options as record_options
 
 from .sources import TOP
 
+# The function `NAME_command` in it adds the options of the command NAME; functions whose names
+# begin with `with_` add those that several commands share.
 SOURCE = TOP / 'crates' / 'cs_command_line' / 'src' / 'commands.rt'
+# The values of --client, which are the variants of an enum in the source.
+CLIENTS = ('plan9', 'linux')
 TOOLS = {
-    'crashfs-campaign': campaign_options.parser,
-    'crashfs-check': check_options.parser,
-    'crashfs-record': record_options.parser,
+    'crashfs-campaign': campaign_options.make_parser,
+    'crashfs-check': check_options.make_parser,
+    'crashfs-record': record_options.make_parser,
 }
 
 
 @dataclass(frozen=True)
 class Option:
-    """An option: its names, its help, the name of its value if it takes one, and known values."""
+    """An option: its names and its help; if it takes a value, the name of this in the help, and the
+    only values that are accepted, if there are such."""
 
     names: Tuple[str, ...]
     help: str
@@ -36,65 +42,75 @@ VERSION = Option(('-V', '--version'), 'Prints the version')
 
 
 def options_of_tool(command: str) -> List[Option]:
-    """The options that a tool's parser takes."""
-    found = []
-    for action in TOOLS[command]()._actions:
-        if action.option_strings and action.help != argparse.SUPPRESS:
-            value = str(action.metavar or action.dest).upper() if action.nargs != 0 else None
-            choices = tuple(str(it) for it in action.choices or ())
-            found.append(Option(tuple(action.option_strings), help_of(action), value, choices))
-    return found
+    """The options that the parser of a command of TOOLS takes, as its --help lists them."""
+    # argparse has no public list of a parser's options. A test looks for each in --help.
+    actions = TOOLS[command]()._actions
+    return [
+        option_of(action)
+        for action in actions
+        if action.option_strings and action.help != argparse.SUPPRESS
+    ]
 
 
-def help_of(action: argparse.Action) -> str:
-    """The first sentence of an option's help, without what is in brackets, which may be of this
-    machine."""
+def option_of(action: argparse.Action) -> Option:
+    """An option of a parser. Its value is named as --help does, by the metavar or else by the
+    attribute in which it is kept; an action of no values takes none."""
+    value = str(action.metavar or action.dest).upper() if action.nargs != 0 else None
+    choices = tuple(str(it) for it in action.choices or ())
+    return Option(tuple(action.option_strings), first_sentence(action), value, choices)
+
+
+def first_sentence(action: argparse.Action) -> str:
+    """The first sentence of an option's help. What is in brackets is left out: a default may differ
+    on another machine, as the number of processors does."""
     text = ' '.join((action.help or '').split()) % {**vars(action), 'prog': ''}
     return re.split(r'; |\. |: ', re.sub(r' \([^)]*\)', '', text))[0].rstrip('.')
 
 
 def functions_of_program() -> Dict[str, str]:
-    """The functions of the program's command line, with their bodies."""
+    """The functions of SOURCE by name, each with the text up to the next one's head."""
     parts = re.split(r'^(?:pub )?fn (\w+)', SOURCE.read_text('utf-8'), flags=re.M)
     return dict(zip(parts[1::2], parts[2::2]))
 
 
-def text_in(body: str, word: str) -> str:
-    """A text that a call is given: as it is, or by the name of a variable of the function."""
-    if word.startswith('"'):
-        return word.strip('"')
-    found = re.search(rf'let {word} =\s*"([^"]*)"', body)
+def argument_text(body: str, argument: str) -> str:
+    """The text that a call in a function's body is given: a literal, or the name of a variable that
+    the body sets to one. Empty if it sets no such variable."""
+    if argument.startswith('"'):
+        return argument.strip('"')
+    found = re.search(rf'let {argument} =\s*"([^"]*)"', body)
     return found[1] if found else ''
 
 
 def options_in(function: str, functions: Dict[str, str]) -> List[Option]:
-    """The options that a function of the program's command line adds, and those it calls."""
+    """The options that a function of SOURCE adds, by itself and by the functions `with_..` that it
+    calls. KeyError if there is no such function."""
     body, found = functions[function], []
     text = r'("[^"]*"|\w+)'
-    for name, words in re.findall(rf'flag\(alloc, "([\w-]+)", {text}', body):
-        found.append(Option((f'--{name}',), text_in(body, words)))
-    for name, value, words in re.findall(
+    for name, about in re.findall(rf'flag\(alloc, "([\w-]+)", {text}', body):
+        found.append(Option((f'--{name}',), argument_text(body, about)))
+    for name, value, about in re.findall(
         rf'value_argument\(alloc, "([\w-]+)", "([\w-]+)", {text}', body
     ):
-        choices = ('plan9', 'linux') if name == 'client' else ()
-        found.append(Option((f'--{name}',), text_in(body, words), value, choices))
-    for name, words in re.findall(rf'count_argument\(alloc, "([\w-]+)", {text}', body):
-        found.append(Option((f'--{name}',), text_in(body, words), 'N'))
-    for words in re.findall(rf'users_argument\(alloc, {text}', body):
-        found.append(Option(('--users',), text_in(body, words), 'FILE'))
+        choices = CLIENTS if name == 'client' else ()
+        found.append(Option((f'--{name}',), argument_text(body, about), value, choices))
+    for name, about in re.findall(rf'count_argument\(alloc, "([\w-]+)", {text}', body):
+        found.append(Option((f'--{name}',), argument_text(body, about), 'N'))
+    for about in re.findall(rf'users_argument\(alloc, {text}', body):
+        found.append(Option(('--users',), argument_text(body, about), 'FILE'))
     for other in re.findall(r'\b(with_\w+)\(', body):
         found += options_in(other, functions) if other != function else []
     return found
 
 
-def about(command: str) -> str:
-    """What the program's help says of a command."""
+def command_help(command: str) -> str:
+    """What the program's help says of a command; empty if it says nothing."""
     found = re.search(r'\.about\("([^"]*)"\)', functions_of_program()[f'{command}_command'])
     return found[1] if found else ''
 
 
 def commands_of_program() -> Dict[str, List[Option]]:
-    """The options of each command of the program."""
+    """The options of each command of the program, by its name, as SOURCE has them."""
     functions = functions_of_program()
     return {
         name.replace('_command', ''): options_in(name, functions)

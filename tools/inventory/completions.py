@@ -1,43 +1,56 @@
-"""Completions of the three commands for bash, zsh and fish, made from their options."""
+"""Completions of the four commands for bash, zsh and fish, made from their options."""
 
 from __future__ import annotations
 
 from pathlib import Path
 from typing import Dict, List
 
-from .command_lines import HELP, TOOLS, VERSION, Option, about, commands_of_program, options_of_tool
+from .command_lines import (
+    HELP,
+    TOOLS,
+    VERSION,
+    Option,
+    command_help,
+    commands_of_program,
+    options_of_tool,
+)
 from .sources import TOP
 
 FOLDER = TOP / 'tools' / 'completions'
+# The first comment of each file.
 MADE = 'Made by tools/inventories. Install it where the shell looks for completions.'
+COLUMNS = 96
 
 
-def names_of(options: List[Option]) -> str:
+def option_names(options: List[Option]) -> str:
+    """All names of some options, with a space between them."""
     return ' '.join(name for option in options for name in option.names)
 
 
-def wrapped(words: str, indent: str) -> str:
-    """Words as lines of at most 96 columns, each with the indent."""
+def wrapped_lines(words: str, indent: str) -> str:
+    """Words as lines that begin with the indent, of at most COLUMNS unless a word is longer."""
     lines, line = [], ''
     for word in words.split():
-        if line and len(indent) + len(line) + 1 + len(word) > 96:
+        if line and len(indent) + len(line) + 1 + len(word) > COLUMNS:
             lines.append(indent + line)
             line = ''
         line = f'{line} {word}'.strip()
     return '\n'.join([*lines, indent + line])
 
 
-def bash_values(options: List[Option]) -> str:
-    """The cases of a previous word that takes a value: known values are offered."""
+def bash_value_branches(options: List[Option]) -> str:
+    """The branches of a `case` of bash for options that take a value, when one of them is the word
+    before: it offers the values that are accepted, or else nothing, so that bash offers files."""
     known = [it for it in options if it.choices]
     cases = [f'        {" | ".join(it.names)}) words=\'{" ".join(it.choices)}\' ;;' for it in known]
     taking = ' | '.join(name for it in options if it.value and not it.choices for name in it.names)
     if taking:
-        cases.append(wrapped(taking + ')', '        ').replace('\n', ' \\\n') + ' return ;;')
+        cases.append(wrapped_lines(taking + ')', '        ').replace('\n', ' \\\n') + ' return ;;')
     return '\n'.join(cases)
 
 
 def bash_of_tool(command: str) -> str:
+    """The completion file of a command of TOOLS for bash."""
     options, name = options_of_tool(command), command.replace('-', '_')
     return f'''\
 # Completion for bash of {command}. {MADE}
@@ -49,10 +62,10 @@ _{name}() {{
         [[ $word == -- ]] && return
     done
     case $previous in
-{bash_values(options)}
+{bash_value_branches(options)}
         *)
             [[ $current == -* ]] && words='
-{wrapped(names_of(options), '                ')}'
+{wrapped_lines(option_names(options), '                ')}'
             ;;
     esac
     mapfile -t COMPREPLY < <(compgen -W "$words" -- "$current")
@@ -62,21 +75,22 @@ complete -o default -F _{name} {command}
 
 
 def bash_of_program() -> str:
+    """The completion file of crashfs for bash: its commands, and then the options of one."""
     commands = commands_of_program()
     every = {name: it for options in commands.values() for it in options for name in it.names}
     cases = '\n'.join(
         f'                    {name})\n                        words=\'\n'
-        f'{wrapped(names_of([HELP, *options]), " " * 28)}\' ;;'
+        f'{wrapped_lines(option_names([HELP, *options]), " " * 28)}\' ;;'
         for name, options in commands.items()
     )
-    first = f'{" ".join(commands)} help {names_of([HELP, VERSION])}'
+    first = f'{" ".join(commands)} help {option_names([HELP, VERSION])}'
     return f'''\
 # Completion for bash of crashfs. {MADE}
 _crashfs() {{
     local current=${{COMP_WORDS[COMP_CWORD]}} previous=${{COMP_WORDS[COMP_CWORD - 1]}} words=
     COMPREPLY=()
     case $previous in
-{bash_values(list(dict.fromkeys(every.values())))}
+{bash_value_branches(list(dict.fromkeys(every.values())))}
         *)
             if ((COMP_CWORD == 1)); then
                 words='{first}'
@@ -95,31 +109,34 @@ complete -o default -F _crashfs crashfs
 '''
 
 
-def quoted(text: str) -> str:
-    """A text within single quotes, for zsh and fish."""
+def quoted_text(text: str) -> str:
+    """A text as it is within single quotes of zsh and fish. An apostrophe would end the quotes, so
+    it becomes a typographic one."""
     return text.replace('\\', '\\\\').replace("'", "’")
 
 
 def zsh_option(option: Option) -> str:
-    """An option as `_arguments` has it; its names exclude each other."""
-    about_it = quoted(option.help).replace('[', '(').replace(']', ')').replace(':', '\\:')
+    """An option as `_arguments` of zsh takes it; its names exclude each other."""
+    about = quoted_text(option.help).replace('[', '(').replace(']', ')').replace(':', '\\:')
     value = ''
     if option.value:
         value = f':{option.value}:' + (
             f'({" ".join(option.choices)})' if option.choices else '_files'
         )
     if len(option.names) == 1:
-        return f"'{option.names[0]}[{about_it}]{value}'"
+        return f"'{option.names[0]}[{about}]{value}'"
     names = ' '.join(option.names)
-    return f"'({names})'{{{','.join(option.names)}}}'[{about_it}]{value}'"
+    return f"'({names})'{{{','.join(option.names)}}}'[{about}]{value}'"
 
 
 def zsh_of_tool(command: str) -> str:
+    """The completion file of a command of TOOLS for zsh. -S: options end at `--`."""
     lines = ' \\\n    '.join(zsh_option(it) for it in options_of_tool(command))
     return f"#compdef {command}\n# {MADE}\n_arguments -S \\\n    {lines} \\\n    '*:file:_files'\n"
 
 
 def zsh_of_program() -> str:
+    """The completion file of crashfs for zsh."""
     commands = commands_of_program()
     cases = []
     for name, options in commands.items():
@@ -128,7 +145,9 @@ def zsh_of_program() -> str:
             f"        {name})\n            _arguments \\\n                {lines} \\\n"
             f"                '1:TRACE:_files' ;;"
         )
-    described = '\n'.join(f"        '{name}:{quoted(about(name))}'" for name in commands)
+    described = '\n'.join(
+        f"        '{name}:{quoted_text(command_help(name))}'" for name in commands
+    )
     body = '\n'.join(cases)
     return f'''\
 #compdef crashfs
@@ -151,21 +170,25 @@ fi
 
 
 def fish_option(command: str, option: Option, condition: str = '') -> str:
+    """A line for fish that offers an option of a command, if the words ` -n ..` of the condition
+    hold."""
     names = ' '.join(
         f'-l {it[2:]}' if it.startswith('--') else f'-s {it[1:]}' for it in option.names
     )
     value = ''
     if option.value:
         value = f" -x -a '{' '.join(option.choices)}'" if option.choices else ' -r'
-    return f"complete -c {command}{condition} {names}{value} -d '{quoted(option.help)}'"
+    return f"complete -c {command}{condition} {names}{value} -d '{quoted_text(option.help)}'"
 
 
 def fish_of_tool(command: str) -> str:
+    """The completion file of a command of TOOLS for fish."""
     lines = [fish_option(command, it) for it in options_of_tool(command)]
     return '\n'.join([f'# {MADE}', *lines]) + '\n'
 
 
 def fish_of_program() -> str:
+    """The completion file of crashfs for fish."""
     lines = [
         f'# {MADE}',
         fish_option('crashfs', HELP),
@@ -173,15 +196,16 @@ def fish_of_program() -> str:
     ]
     for name, options in commands_of_program().items():
         lines.append(
-            f"complete -c crashfs -n __fish_use_subcommand -a {name} " f"-d '{quoted(about(name))}'"
+            f'complete -c crashfs -n __fish_use_subcommand -a {name} '
+            f"-d '{quoted_text(command_help(name))}'"
         )
         condition = f" -n '__fish_seen_subcommand_from {name}'"
         lines += [fish_option('crashfs', it, condition) for it in options]
     return '\n'.join(lines) + '\n'
 
 
-def completions() -> Dict[Path, str]:
-    """The nine files."""
+def completion_files() -> Dict[Path, str]:
+    """The completion file of each command for each shell, by its path."""
     made = {
         FOLDER / 'crashfs.bash': bash_of_program(),
         FOLDER / 'crashfs.zsh': zsh_of_program(),

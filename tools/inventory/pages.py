@@ -19,18 +19,21 @@ from .sources import (
     words_of,
 )
 
+# The lines of a page between which it is made from the sources.
 BEGIN = '<!-- made by tools/inventories: begin -->'
 END = '<!-- made by tools/inventories: end -->'
+# So many calls are named of those whose contracts cite a word.
 MOST_CALLS = 4
 
 
-def cell(text: str) -> str:
-    """A text as a cell of a table."""
+def table_cell(text: str) -> str:
+    """A text as a cell of a Markdown table."""
     return text.replace('|', '\\|')
 
 
 def tests_of(crate: str) -> List[str]:
-    """A crate's tests: a table for each file that has some."""
+    """The lines that list a crate's tests: a table for each file that has some. None if it has no
+    test."""
     lines: List[str] = []
     for path in files_of(crate, 'src', '.rt'):
         examples = examples_in(path)
@@ -39,27 +42,27 @@ def tests_of(crate: str) -> List[str]:
             about = comment_of_file(path)
             lines += ['', f'`{name}`: {about}' if about else f'`{name}`:']
             lines += ['', '| Example | Test |', '|---|---|']
-            lines += [f'| {cell(it.sentence)} | `{it.name}` |' for it in examples]
+            lines += [f'| {table_cell(it.sentence)} | `{it.name}` |' for it in examples]
     return ['', f'### {crate}', *lines] if lines else []
 
 
 def tests_of_tools() -> List[str]:
-    """The table of the tools' tests, a row for each file."""
-    rows = [f'| {cell(it.sentence)} | `{it.name}` |' for it in tools_tests()]
+    """The lines of the table of tools/tests, a row for each file."""
+    rows = [f'| {table_cell(it.sentence)} | `{it.name}` |' for it in tools_tests()]
     return ['', '### tools/tests', '', '| What it shows | File |', '|---|---|', *rows]
 
 
 def tests_as_data() -> List[str]:
-    """The examples that are files: a table for each folder."""
+    """The lines that list tools/tests/data/cases: a table for each folder."""
     lines: List[str] = []
     for area in case_areas():
         lines += ['', f'### tools/tests/data/cases/{area}', '', '| Example | File |', '|---|---|']
-        lines += [f'| {cell(it.sentence)} | `{it.name}` |' for it in cases_of(area)]
+        lines += [f'| {table_cell(it.sentence)} | `{it.name}` |' for it in cases_of(area)]
     return lines
 
 
 def must_fail_edits() -> List[str]:
-    """The table of wrong bodies, a row for each crate that has some."""
+    """The lines of the table of must-fail edits, a row for each crate that has some."""
     lines = [
         '',
         '## Wrong bodies that the prover refuses',
@@ -74,24 +77,26 @@ def must_fail_edits() -> List[str]:
     return lines
 
 
-def tests() -> str:
-    """All tests of the crates, as data and of the tools, and all wrong bodies."""
+def tests_list() -> str:
+    """The list of all tests (of crates, as data, of tools) and of must-fail edits, as Markdown."""
     crates = [line for crate in crate_names() for line in tests_of(crate)]
     return '\n'.join(crates + tests_as_data() + tests_of_tools() + must_fail_edits()).strip()
 
 
 def calls_shown(calls: List[str]) -> str:
+    """The first MOST_CALLS of some calls, and how many more there are; empty if there are none."""
     shown = ', '.join(f'`{call}`' for call in calls[:MOST_CALLS])
     more = len(calls) - MOST_CALLS
     return f'{shown} and {more} more' if more > 0 else shown
 
 
-def words() -> str:
-    """The words of all crates: what each says, its file, and the calls whose contracts cite it."""
+def words_list() -> str:
+    """The list of the words of `specs/` of all crates, as Markdown: what each says, its file, and
+    the calls whose contracts cite it."""
     cited, lines = citations(), []
     for crate in crate_names():
-        words, calls = words_of(crate), cited.get(crate, {})
-        if words:
+        own_words, calls = words_of(crate), cited.get(crate, {})
+        if own_words:
             lines += [
                 '',
                 f'## {crate}',
@@ -100,20 +105,21 @@ def words() -> str:
                 '|---|---|---|---|',
             ]
             lines += [
-                f'| `{cell(it.name)}` | {cell(it.sentence)} | {it.file} '
+                f'| `{table_cell(it.name)}` | {table_cell(it.sentence)} | {it.file} '
                 f'| {calls_shown(calls.get(it.name, []))} |'
-                for it in words
+                for it in own_words
             ]
     return '\n'.join(lines).strip()
 
 
 def page_with(page: str, part: str) -> str:
-    """A page with another part between its two marks."""
+    """A page with this part between its lines BEGIN and END. ValueError if it doesn't have both
+    once, in this order."""
     between = re.compile(f'{re.escape(BEGIN)}.*{re.escape(END)}', re.DOTALL)
     made, count = between.subn(lambda _: f'{BEGIN}\n\n{part}\n\n{END}', page)
-    if count != 1:
+    if (count, page.count(BEGIN), page.count(END)) != (1, 1, 1):
         raise ValueError(f'a page has to have the marks once: {BEGIN} .. {END}')
     return made
 
 
-PRINTED: Dict[str, Callable[[], str]] = {'tests': tests, 'words': words}
+PRINTED: Dict[str, Callable[[], str]] = {'tests': tests_list, 'words': words_list}

@@ -3,60 +3,68 @@
 from __future__ import annotations
 
 import json
-from typing import Any, Dict, Iterator, List
+from typing import Any, Dict, Iterator, List, Set
 
 from .sources import TOP
 
 PAGE = TOP / 'docs' / 'RESULTS.md'
 DATA = TOP / 'docs' / 'results.json'
 PROFILES = ('blocks', 'ordered', 'journal')
+# The file systems by the names that the data has, with those of the page.
 DISKS = {'ext4': 'ext4', 'xfs': 'XFS', 'btrfs': 'btrfs'}
+# As a link of the page has it.
 STORES = '../examples/stores'
 
+# A session of a store with what was found: an object of DATA.
 Row = Dict[str, Any]
 
 
-def results() -> str:
-    """The made part of the page: the table, and the first entry of each report with failures."""
+def results_part() -> str:
+    """The made part of the page: the table, and of each store the first entry of a report."""
     rows: List[Row] = json.loads(DATA.read_text('utf-8'))
-    return '\n'.join([*table(rows), *failures(rows)])
+    return '\n'.join([*table_lines(rows), *failure_lines(rows)])
 
 
-def table(rows: List[Row]) -> Iterator[str]:
+def table_lines(rows: List[Row]) -> Iterator[str]:
+    """The lines of the table of all sessions."""
     columns = ['Store', 'Session', 'Crash states (sets)', 'Fail']
     columns += [f'`{name}`' for name in PROFILES]
     columns += list(DISKS.values())
     yield f'| {" | ".join(columns)} |'
     yield f'|{"---|" * len(columns)}'
     for row in rows:
-        yield f'| {" | ".join(cells(row))} |'
+        yield f'| {" | ".join(row_cells(row))} |'
 
 
-def cells(row: Row) -> Iterator[str]:
+def row_cells(row: Row) -> Iterator[str]:
+    """The cells of a session in the table."""
     yield f'{row["store"]} {row["version"]}'
     yield f'[{row["session"]}]({STORES}/{row["key"].partition("/")[0]})'
-    yield states(row)
-    yield fail(row)
+    yield states_cell(row)
+    yield failing_cell(row)
     for name in PROFILES:
-        yield number(row['profiles'].get(name, 0)) if row['failing'] else ''
+        yield number_text(row['profiles'].get(name, 0)) if row['failing'] else ''
     for name in DISKS:
-        yield seen(row, name)
+        yield disk_cell(row, name)
 
 
-def number(count: int) -> str:
+def number_text(count: int) -> str:
+    """A number as the page writes it."""
     return f'{count:,}'
 
 
-def states(row: Row) -> str:
-    """How many different states there are, and how many sets leave them; or how many were tried."""
-    sets = 'uncounted' if row['sets'] is None else number(row['sets'])
+def states_cell(row: Row) -> str:
+    """How many different states a session has, and how many sets leave them; or, if not all states
+    were tried, how many were."""
+    sets = 'uncounted' if row['sets'] is None else number_text(row['sets'])
     if row['is_whole']:
         return f'{row["tried"]:,} ({sets})'
     return f'{row["tried"]:,} tried (of {sets})'
 
 
-def fail(row: Row) -> str:
-    """How many states fail, by the first word of their cause."""
+def failing_cell(row: Row) -> str:
+    """In how many different states the recovery fails, by the first word of the cause: the
+    commonest one first."""
     if not row['failing']:
         return 'none'
     causes = sorted(row['causes'].items(), key=lambda one: -int(one[1]))
@@ -65,8 +73,9 @@ def fail(row: Row) -> str:
     return f'{row["failing"]:,}: ' + ', '.join(f'{count:,} {word}' for word, count in causes)
 
 
-def seen(row: Row, name: str) -> str:
-    """In how many of the different trees on disks the recovery fails."""
+def disk_cell(row: Row, name: str) -> str:
+    """In how many of the different trees on disks of a file system the recovery fails, and in
+    brackets how many of these are outside the model. Empty if the session wasn't tried there."""
     found = row['disks'].get(name)
     if found is None:
         return ''
@@ -74,11 +83,14 @@ def seen(row: Row, name: str) -> str:
     return f'{text} ({found["outside"]:,} outside)' if found['outside'] else text
 
 
-def failures(rows: List[Row]) -> Iterator[str]:
-    """The first entry of each report that has one."""
-    yield from ('', '## The first failure of each', '')
+def failure_lines(rows: List[Row]) -> Iterator[str]:
+    """The lines with the first entry of a report of each store: of its first session that has
+    one. The data has those of all sessions."""
+    yield from ('', '## The first failure of each store', '')
+    shown: Set[str] = set()
     for row in rows:
-        if row['failing']:
+        if row['failing'] and row['store'] not in shown:
+            shown.add(row['store'])
             yield from (f'{row["store"]}, {row["session"]} (`{row["key"]}`):', '')
             yield from (f'    {line}'.rstrip() for line in row['report'])
             yield ''

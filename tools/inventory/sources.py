@@ -1,4 +1,6 @@
-"""The sources of a crate: its tests with their sentences, its words, and what cites them."""
+"""What is listed of the sources: the tests of crates and tools with their sentences, the words of
+`specs/`, and the contracts that cite them. Sources are read line by line, by their layout, which
+`rt fmt` keeps."""
 
 from __future__ import annotations
 
@@ -7,6 +9,8 @@ import re
 from dataclasses import dataclass
 from pathlib import Path
 from typing import Dict, Iterator, List, Tuple
+
+from building.order import uses_by_crate
 
 TOP = Path(__file__).resolve().parent.parent.parent
 CRATES = TOP / 'crates'
@@ -22,7 +26,7 @@ IDENTIFIER = re.compile(r"[A-Za-z_][\w']*")
 
 @dataclass(frozen=True)
 class Example:
-    """A test function and the sentence that its comment begins with."""
+    """A test: the name of its function or file, and what it shows, as its comment says."""
 
     name: str
     sentence: str
@@ -30,7 +34,8 @@ class Example:
 
 @dataclass(frozen=True)
 class Word:
-    """A public word of `specs/`: its file there, and the comment above it."""
+    """A public word of `specs/`: its name, its file there without the suffix, and the comment above
+    it."""
 
     name: str
     file: str
@@ -39,17 +44,17 @@ class Word:
 
 def crate_names() -> List[str]:
     """The crates of crates.txt, lowest first."""
-    lines = (TOP / 'crates.txt').read_text(encoding='utf-8').splitlines()
-    heads = (line.partition('#')[0].partition(':')[0].split() for line in lines)
-    return [head[0] for head in heads if head]
+    return list(uses_by_crate((TOP / 'crates.txt').read_text('utf-8')))
 
 
 def files_of(crate: str, folder: str, suffix: str) -> List[Path]:
+    """The files of a folder of a crate, and of folders in it, that end in a suffix; sorted."""
     return sorted((CRATES / crate / folder).rglob(f'*{suffix}'))
 
 
 def comment_above(lines: List[str], at: int, mark: str) -> str:
-    """The comment that ends above a line, as one text; attributes between them are passed over."""
+    """The comment of lines that begin with the mark and end above line number `at`, as one text.
+    Attributes below it are passed over. Empty if there is none."""
     found: List[str] = []
     for line in reversed(lines[:at]):
         text = line.strip()
@@ -61,7 +66,7 @@ def comment_above(lines: List[str], at: int, mark: str) -> str:
 
 
 def examples_in(path: Path) -> List[Example]:
-    """The tests of a file in the order in which they stand."""
+    """The tests of a file of a crate, in their order. A function must follow each `#[test]`."""
     lines = path.read_text(encoding='utf-8').splitlines()
     found: List[Example] = []
     for at, line in enumerate(lines):
@@ -73,7 +78,7 @@ def examples_in(path: Path) -> List[Example]:
 
 
 def comment_of_file(path: Path) -> str:
-    """The comment that a source file begins with, as one text."""
+    """The comment that a source file begins with, as one text; empty if it begins otherwise."""
     found: List[str] = []
     for line in path.read_text(encoding='utf-8').splitlines():
         if not line.startswith('//!'):
@@ -83,7 +88,7 @@ def comment_of_file(path: Path) -> str:
 
 
 def tools_tests() -> List[Example]:
-    """The files of the tools' tests, each with the text that it begins with."""
+    """The files of the tools' tests, each with its docstring; empty if it has none."""
     found: List[Example] = []
     for path in sorted(TOOLS_TESTS.glob('test_*.py')):
         text = ast.get_docstring(ast.parse(path.read_text(encoding='utf-8'))) or ''
@@ -92,31 +97,31 @@ def tools_tests() -> List[Example]:
 
 
 def case_areas() -> List[str]:
-    """The folders of the examples that are files."""
+    """The names of the folders of tools/tests/data/cases."""
     return sorted(path.name for path in CASES.iterdir() if path.is_dir())
 
 
 def cases_of(area: str) -> List[Example]:
-    """The examples of a folder, each with the text before its first section."""
+    """The examples of a folder of CASES, each with the text before its first section."""
     paths = sorted((CASES / area).glob('*.case'))
     texts = (path.read_text(encoding='utf-8').partition('\n== ')[0] for path in paths)
     return [Example(path.stem, ' '.join(text.split())) for path, text in zip(paths, texts)]
 
 
 def edits_of(crate: str) -> List[str]:
-    """The names of a crate's must-fail edits."""
+    """The names of a crate's must-fail edits, sorted."""
     return [path.stem for path in files_of(crate, 'must-fail', '.edit')]
 
 
 def words_in(path: Path, name: str) -> List[Word]:
-    """The public words of a file of this name in `specs/`, in the order in which they stand."""
+    """The public words of a file, in their order. The name is that of the file in `specs/`."""
     lines = path.read_text(encoding='utf-8').splitlines()
     heads = ((at, WORD.match(line)) for at, line in enumerate(lines))
     return [Word(head.group(1), name, comment_above(lines, at, '--')) for at, head in heads if head]
 
 
 def words_of(crate: str) -> List[Word]:
-    """The public words of a crate's `specs/`, by file, in the order in which they stand."""
+    """The public words of a crate's `specs/`, file by file, in their order."""
     folder = CRATES / crate / 'specs'
     return [
         word
@@ -126,7 +131,8 @@ def words_of(crate: str) -> List[Word]:
 
 
 def contracts_in(path: Path) -> Iterator[Tuple[str, str]]:
-    """Each public function of a file, with its type if it has one, and the text of its contract."""
+    """Each public function of a file, and each method of an `impl` or `trait`, with the text of its
+    contract: `name`, or `Type::name`."""
     owner, lines = '', path.read_text(encoding='utf-8').splitlines()
     for at, line in enumerate(lines):
         if line and not line[0].isspace():
@@ -141,7 +147,8 @@ def contracts_in(path: Path) -> Iterator[Tuple[str, str]]:
 
 
 def contract_at(lines: List[str], at: int, indent: str) -> str:
-    """The lines from a function's head to its body's brace."""
+    """The lines from number `at` on, up to the brace of the body of a function with that indent, up
+    to an empty line, or to the file's end."""
     clauses: List[str] = []
     for line in lines[at:]:
         if line.startswith((f'{indent}{{', f'{indent}}}')) or not line.strip():
@@ -151,7 +158,8 @@ def contract_at(lines: List[str], at: int, indent: str) -> str:
 
 
 def citations() -> Dict[str, Dict[str, List[str]]]:
-    """For each crate's imported word the calls whose contracts cite it: crate, word, calls."""
+    """By crate and by its word, the calls of all crates whose contracts cite the word. A call of
+    another crate has this crate's name before it."""
     found: Dict[str, Dict[str, List[str]]] = {}
     for crate in crate_names():
         for path in files_of(crate, 'src', '.rt'):
@@ -167,7 +175,7 @@ def citations() -> Dict[str, Dict[str, List[str]]]:
 
 
 def homes_of_words(crate: str, text: str) -> Dict[str, str]:
-    """The crate that each imported word of a source file is of."""
+    """The crate of each word that a source file of a crate imports by `ghost use`."""
     homes: Dict[str, str] = {}
     for match in re.finditer(r'ghost use (?:Rattle\.)?(\w+)[.:]+specs[\w.:]*\.\{([^}]*)\}', text):
         home = crate if match.group(1) == 'crate' else match.group(1)

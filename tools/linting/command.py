@@ -8,7 +8,14 @@ from typing import Callable, Dict, List, Optional
 from .crates_page import architecture_faults
 from .layout import layout_faults
 from .pages import made_faults
-from .python import black, flake8, install, missing_linters, mypy, unexplained_comments
+from .python import (
+    black_faults,
+    flake8_faults,
+    install_packages,
+    missing_linters,
+    mypy_faults,
+    unexplained_comments,
+)
 from .words import retired_words
 
 ABOUT = """\
@@ -23,9 +30,9 @@ found a fault. 1: some did. A linter that isn't installed is skipped, and the la
 # What a linter finds; None if it isn't installed.
 Faults = Optional[List[str]]
 LINTERS: Dict[str, Callable[[], Faults]] = {
-    'flake8': flake8,
-    'black': black,
-    'mypy': mypy,
+    'flake8': flake8_faults,
+    'black': black_faults,
+    'mypy': mypy_faults,
     'comments for linters': unexplained_comments,
     'layout': layout_faults,
     'words': retired_words,
@@ -35,7 +42,8 @@ LINTERS: Dict[str, Callable[[], Faults]] = {
 
 
 def summary_line(found: Dict[str, Faults]) -> str:
-    """The last line: how many linters passed, which failed, and which were skipped."""
+    """The last line that is printed: how many linters passed, which failed, and which were
+    skipped, by what each found."""
     failed = [name for name, faults in found.items() if faults]
     skipped = [name for name, faults in found.items() if faults is None]
     line = f'lint: {len(found) - len(failed) - len(skipped)} passed, {len(failed)} failed'
@@ -44,8 +52,9 @@ def summary_line(found: Dict[str, Faults]) -> str:
     return f'{line} (not installed: {", ".join(skipped)})' if skipped else line
 
 
-def lint(linters: Dict[str, Callable[[], Faults]]) -> int:
-    """Runs the linters, prints what they find, and returns the status."""
+def run_linters(linters: Dict[str, Callable[[], Faults]]) -> int:
+    """Runs linters, by their names, prints what they find, and returns the status: 1 if one found a
+    fault."""
     found = {name: linter() for name, linter in linters.items()}
     for name, faults in found.items():
         for fault in faults or []:
@@ -55,6 +64,7 @@ def lint(linters: Dict[str, Callable[[], Faults]]) -> int:
 
 
 def main(words: Optional[List[str]] = None) -> int:
+    """Runs lint with these words, or those of its command line, and returns its status."""
     parser = argparse.ArgumentParser(
         prog='lint', description=ABOUT, formatter_class=argparse.RawDescriptionHelpFormatter
     )
@@ -64,5 +74,5 @@ def main(words: Optional[List[str]] = None) -> int:
         help='install flake8, black and mypy by apt-get first, if they are missing and you may',
     )
     if parser.parse_args(words).install:
-        install(missing_linters())
-    return lint(LINTERS)
+        install_packages(missing_linters())
+    return run_linters(LINTERS)

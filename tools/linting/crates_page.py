@@ -5,7 +5,7 @@ from __future__ import annotations
 import re
 from typing import Dict, Iterator, List, Tuple
 
-from releasing.statements import dependencies
+from building.order import uses_by_crate
 
 from .sources import TOP
 
@@ -14,18 +14,19 @@ NOT_OF_THE_PROGRAM = re.compile(r'(_tests|_bench)$|^cs_test_')
 
 
 def page_section(page: str, title: str) -> str:
-    """The part of the page below a heading."""
+    """The part of a page below a heading of the second level, which it must have, up to the next
+    one."""
     return page.split(f'\n## {title}\n', 1)[1].split('\n## ', 1)[0]
 
 
 def table_rows(page: str) -> List[List[str]]:
-    """The cells of each row of the table of crates, without the line below its head."""
+    """The cells of each row of the page's table of crates, without its head."""
     rows = [line for line in page_section(page, 'The crates').splitlines() if line.startswith('|')]
     return [[cell.strip() for cell in row.strip('|').split('|')] for row in rows[2:]]
 
 
 def crates_in_picture(page: str) -> List[Tuple[str, int]]:
-    """Each crate of the picture with its layer, as often as it is there."""
+    """Each crate of the page's picture with its layer, as often as it is there."""
     found, layer = [], 0
     for line in page_section(page, 'The layers').splitlines():
         number = re.match(r'\| (\d) ', line)
@@ -36,7 +37,7 @@ def crates_in_picture(page: str) -> List[Tuple[str, int]]:
 
 
 def crates_in_table(page: str) -> List[Tuple[str, int]]:
-    """Each crate of the table with the layer that it is below."""
+    """Each crate of the page's table with its layer, which a row of its own names above it."""
     found, layer = [], 0
     for name, *_ in table_rows(page):
         head = re.match(r'\*\*(\d) ', name)
@@ -48,14 +49,16 @@ def crates_in_table(page: str) -> List[Tuple[str, int]]:
 
 
 def count_faults(what: str, found: List[str], wanted: List[str]) -> Iterator[str]:
-    """A sentence for each name that isn't as often in `found` as it should be."""
+    """A sentence for each name that isn't as often in `found`, the names in `what`, as in
+    `wanted`."""
     for name in sorted({*found, *wanted}):
         if found.count(name) != wanted.count(name):
             yield f'{name} is {found.count(name)} times in {what}, not {wanted.count(name)} times'
 
 
 def crate_page_faults(page: str, uses: Dict[str, List[str]]) -> Iterator[str]:
-    """What the page says otherwise than crates.txt, whose crates are given with what each uses."""
+    """A sentence for each difference between the page and `uses`, the crates of crates.txt with
+    what each uses, and for each crate that uses one of a higher layer."""
     picture, table = crates_in_picture(page), crates_in_table(page)
     layers = dict(picture)
     program = [name for name in uses if not NOT_OF_THE_PROGRAM.search(name)]
@@ -76,5 +79,5 @@ def crate_page_faults(page: str, uses: Dict[str, List[str]]) -> Iterator[str]:
 def architecture_faults() -> List[str]:
     """A sentence for each difference between the crates of ARCHITECTURE and those of crates.txt."""
     page = (TOP / 'docs' / 'internals' / 'ARCHITECTURE.md').read_text('utf-8')
-    uses = dependencies((TOP / 'crates.txt').read_text('utf-8'))
+    uses = uses_by_crate((TOP / 'crates.txt').read_text('utf-8'))
     return [f'docs/internals/ARCHITECTURE.md: {fault}' for fault in crate_page_faults(page, uses)]

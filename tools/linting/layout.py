@@ -6,7 +6,7 @@ import ast
 import re
 from typing import Iterator, List
 
-from .sources import CRATES, TOOLS, crate_sources, name_of, programs, python_files
+from .sources import CRATES, TOOLS, crate_sources, name_of, program_files, python_files
 
 MOST_LINES = 400
 MOST_LINES_OF_FUNCTION = 40
@@ -18,7 +18,8 @@ FUNCTION = (ast.FunctionDef, ast.AsyncFunctionDef)
 
 
 def long_lines(text: str, columns: int) -> List[str]:
-    """The lines of a crate's file that have more columns, except those that may."""
+    """The lines of the text of a crate's file that have more columns than that, except those that
+    may (MAY_BE_LONG)."""
     return [
         line
         for line in text.splitlines()
@@ -39,7 +40,8 @@ def adds_option(node: ast.stmt) -> bool:
 
 
 def long_functions(source: str) -> Iterator[str]:
-    """The functions of a Python file that have too many lines, not counting added options."""
+    """A sentence for each function of a Python source that has too many lines, not counting added
+    options."""
     for node in ast.walk(ast.parse(source)):
         if isinstance(node, FUNCTION):
             lines = lines_in(node) - sum(lines_in(one) for one in node.body if adds_option(one))
@@ -48,7 +50,8 @@ def long_functions(source: str) -> Iterator[str]:
 
 
 def wide_lines() -> Iterator[str]:
-    """The lines of crates and of Python that are too long; in Python a text is split by hand."""
+    """A sentence for each line of crates and of Python that is too wide; in Python a text is split
+    by hand."""
     for path in crate_sources():
         is_proof = path.relative_to(CRATES).parts[1] == 'proofs'
         columns = PROOF_COLUMNS if is_proof else CODE_COLUMNS
@@ -69,10 +72,10 @@ def long_files() -> Iterator[str]:
 
 
 def layout_faults() -> List[str]:
-    """What is too long: lines, functions of Python, files."""
+    """A sentence for each thing that is too long: lines, functions of Python, files."""
     functions = (
         f'{name_of(path)}: {fault}'
-        for path in programs()
+        for path in program_files()
         for fault in long_functions(path.read_text('utf-8'))
     )
     return [*wide_lines(), *functions, *long_files()]

@@ -19,7 +19,8 @@ def older_pages() -> List[str]:
 
 
 def silent_tests() -> List[str]:
-    """The tests of the crates and files of tests of the tools that don't say what they show."""
+    """A sentence for each test of the crates, and each file of tests of the tools, that doesn't say
+    what it shows."""
     files = [f'tools/tests/{it.name}' for it in tools_tests() if not it.sentence]
     tests = [
         f'{name_of(path)}: {it.name}'
@@ -31,7 +32,7 @@ def silent_tests() -> List[str]:
 
 
 def edits_of_no_crate() -> List[str]:
-    """The must-fail edits that no crate of crates.txt has."""
+    """A sentence for each must-fail edit in the folder of no crate of crates.txt."""
     listed = {(crate, name) for crate in crate_names() for name in edits_of(crate)}
     return [
         f'{name_of(path)}: crates.txt has no such crate'
@@ -41,5 +42,5 @@ def edits_of_no_crate() -> List[str]:
 
 
 def made_faults() -> List[str]:
-    """What is wrong with the pages that are made from the sources."""
+    """A sentence for each thing that is wrong with the pages that are made from the sources."""
     return [*older_pages(), *silent_tests(), *edits_of_no_crate()]

@@ -9,7 +9,7 @@ import subprocess
 from pathlib import Path
 from typing import Dict, List, Optional
 
-from .sources import TOP, TOOLS, name_of, programs, python_files
+from .sources import TOP, TOOLS, name_of, program_files, python_files
 
 # The packages of Debian that have them.
 PACKAGES = ('flake8', 'black', 'mypy')
@@ -21,16 +21,17 @@ def missing_linters() -> List[str]:
     return [name for name in PACKAGES if shutil.which(name) is None]
 
 
-def install(names: List[str]) -> None:
-    """Installs packages if this user may; otherwise, and if it fails, nothing happens."""
+def install_packages(names: List[str]) -> None:
+    """Installs Debian's packages if this user may; otherwise, and if it fails, nothing happens."""
     if names and os.geteuid() == 0 and shutil.which('apt-get'):
         line = ['apt-get', 'install', '--yes', '--no-install-recommends', *names]
         environment = {**os.environ, 'DEBIAN_FRONTEND': 'noninteractive'}
         subprocess.run(line, env=environment, stdout=subprocess.DEVNULL)
 
 
-def run(words: List[str], files: List[Path]) -> Optional[List[str]]:
-    """What a linter prints if its status isn't 0; None if it isn't installed."""
+def faults_of_linter(words: List[str], files: List[Path]) -> Optional[List[str]]:
+    """Runs a linter over files, and returns the lines that it prints if its status isn't 0, else
+    none; None if it isn't installed."""
     if shutil.which(words[0]) is None:
         return None
     ran = subprocess.run(
@@ -46,21 +47,25 @@ def run(words: List[str], files: List[Path]) -> Optional[List[str]]:
     return ran.stdout.strip().splitlines() or [f'{words[0]}: status {ran.returncode}']
 
 
-def flake8() -> Optional[List[str]]:
-    return run(['flake8'], python_files())
+def flake8_faults() -> Optional[List[str]]:
+    """What flake8 finds in all Python; None if it isn't installed."""
+    return faults_of_linter(['flake8'], python_files())
 
 
-def black() -> Optional[List[str]]:
-    return run(['black', '--check'], python_files())
+def black_faults() -> Optional[List[str]]:
+    """The Python files that black would change; None if it isn't installed."""
+    return faults_of_linter(['black', '--check'], python_files())
 
 
-def mypy() -> Optional[List[str]]:
-    """What mypy finds in all Python but the tests, whose helpers aren't typed."""
-    return run(['mypy'], programs())
+def mypy_faults() -> Optional[List[str]]:
+    """What mypy finds in all Python but the tests, whose helpers aren't typed; None if it isn't
+    installed."""
+    return faults_of_linter(['mypy'], program_files())
 
 
 def unexplained_in(texts: Dict[str, str]) -> List[str]:
-    """The comments that silence a linter and don't say why: `# type: ignore[code]  # reason`."""
+    """A sentence for each comment in texts, by their names, that silences a linter without its code
+    and its reason, as `# type: ignore[code]  # reason`."""
     return [
         f'{name}:{number}: {found[0]}: give the code, and the reason in a comment behind it'
         for name, text in texts.items()
@@ -70,5 +75,5 @@ def unexplained_in(texts: Dict[str, str]) -> List[str]:
 
 
 def unexplained_comments() -> List[str]:
-    """The comments that silence a linter without a reason, in all Python files."""
+    """A sentence for each comment of all Python files that silences a linter without a reason."""
     return unexplained_in({name_of(path): path.read_text('utf-8') for path in python_files()})

@@ -14,7 +14,8 @@ PARTS = ('src', 'specs', 'proofs')
 
 
 def is_python(path: Path) -> bool:
-    """Whether a file is a module or a script of Python."""
+    """Whether a file is a module of Python, or a script, which has no suffix and names python in
+    its first line."""
     if path.suffix == '.py':
         return True
     if path.suffix or not path.is_file():
@@ -35,7 +36,7 @@ def is_test(path: Path) -> bool:
     return TOOLS / 'tests' in path.parents
 
 
-def programs() -> List[Path]:
+def program_files() -> List[Path]:
     """The commands of tools/ and their modules, without the tests."""
     return [path for path in python_files() if TOOLS in path.parents and not is_test(path)]
 
@@ -49,5 +50,5 @@ def crate_sources() -> Iterator[Path]:
 
 
 def name_of(path: Path) -> str:
-    """The path of a file below the repository."""
+    """The path of a file of the repository, from its top."""
     return str(path.relative_to(TOP))

@@ -11,7 +11,7 @@ from typing import Iterator, List, NamedTuple, Set, Tuple
 from inventory.pages import BEGIN, END
 
 from .retired import ALLOWED, RETIRED, RETIRED_NAMES
-from .sources import CRATES, EXAMPLES, TOP, name_of, programs
+from .sources import CRATES, EXAMPLES, TOP, name_of, program_files
 
 # It has the retired words themselves.
 TABLES = 'tools/linting/retired.py'
@@ -32,7 +32,8 @@ class Line(NamedTuple):
     text: str
 
 
-def lines_of(path: Path, text: str, first: int = 1) -> Iterator[Line]:
+def numbered_lines(path: Path, text: str, first: int = 1) -> Iterator[Line]:
+    """The lines of a text that is in a file from the line with the number `first` on."""
     for number, line in enumerate(text.splitlines(), first):
         yield Line(name_of(path), number, line)
 
@@ -46,13 +47,15 @@ def lines_of_pages() -> Iterator[Line]:
     """The lines of all pages, manual pages and examples, without those made from the sources."""
     pages = [TOP / name for name in ('README.md', 'CHANGELOG.md', 'SECURITY.md')]
     pages += sorted((TOP / 'docs').rglob('*.md')) + sorted((TOP / 'docs' / 'man').iterdir())
+    pages += sorted((TOP / 'helpers').glob('*/README.md'))
     pages += sorted(path for path in EXAMPLES.rglob('*') if path.suffix in EXAMPLES_PRINT)
     for page in pages:
-        yield from lines_of(page, without_made(page.read_text('utf-8')))
+        yield from numbered_lines(page, without_made(page.read_text('utf-8')))
 
 
 def texts_in_python(source: str) -> List[Tuple[int, str]]:
-    """The texts of a Python file, what it may print and its documentation, each with its line."""
+    """The texts of a Python source, what it may print and its documentation, each after the number
+    of its first line."""
     return [
         (node.lineno, node.value)
         for node in ast.walk(ast.parse(source))
@@ -61,7 +64,7 @@ def texts_in_python(source: str) -> List[Tuple[int, str]]:
 
 
 def names_in_python(source: str) -> Iterator[Tuple[int, str]]:
-    """The names that a Python file gives to something, each with its line."""
+    """The names that a Python source gives to something, each after the number of its line."""
     for node in ast.walk(ast.parse(source)):
         if isinstance(node, (ast.ClassDef, ast.FunctionDef, ast.AsyncFunctionDef)):
             yield node.lineno, node.name
@@ -74,7 +77,7 @@ def names_in_python(source: str) -> Iterator[Tuple[int, str]]:
 
 
 def texts_in_rattle(source: str) -> List[Tuple[int, str]]:
-    """The texts of a Rattle file, each with its line; comments have none."""
+    """The texts of a Rattle source, each after the number of its first line; comments have none."""
     code = re.sub(r'^\s*//.*$', '', source, flags=re.MULTILINE)
     return [
         (code.count('\n', 0, found.start()) + 1, found[1])
@@ -82,7 +85,7 @@ def texts_in_rattle(source: str) -> List[Tuple[int, str]]:
     ]
 
 
-def prints(path: Path) -> bool:
+def may_print(path: Path) -> bool:
     """Whether a file of a crate may print something: it is no test."""
     names = path.relative_to(CRATES).parts
     is_of_tests = names[0].endswith('_tests') or names[0].startswith('cs_test_')
@@ -91,17 +94,17 @@ def prints(path: Path) -> bool:
 
 def programs_to_read() -> List[Path]:
     """The programs whose words are looked after."""
-    return [path for path in programs() if name_of(path) != TABLES]
+    return [path for path in program_files() if name_of(path) != TABLES]
 
 
 def lines_of_programs() -> Iterator[Line]:
     """The texts and the documentation of the commands, and the texts of all crates."""
     for path in programs_to_read():
         for number, text in texts_in_python(path.read_text('utf-8')):
-            yield from lines_of(path, text, number)
-    for path in sorted(filter(prints, CRATES.glob('*/src/**/*.rt'))):
+            yield from numbered_lines(path, text, number)
+    for path in sorted(filter(may_print, CRATES.glob('*/src/**/*.rt'))):
         for number, text in texts_in_rattle(path.read_text('utf-8')):
-            yield from lines_of(path, text, number)
+            yield from numbered_lines(path, text, number)
 
 
 def names_of_programs() -> Iterator[Line]:
@@ -112,7 +115,7 @@ def names_of_programs() -> Iterator[Line]:
 
 
 def is_allowed(line: Line) -> bool:
-    """Whether a line may have a retired word."""
+    """Whether a line may have a retired word: ALLOWED has its file and a text of it."""
     return any(line.file == file and text in line.text for file, text in ALLOWED)
 
 
@@ -136,7 +139,7 @@ def retired_in_name(line: Line) -> List[str]:
 
 
 def unused_allowances() -> List[str]:
-    """The places that may have a retired word, and no longer have it."""
+    """A sentence for each place of ALLOWED that isn't in its file any more."""
     lines = [*lines_of_pages(), *lines_of_programs()]
     found: Set[Tuple[str, str]] = {
         (line.file, text)
@@ -151,7 +154,8 @@ def unused_allowances() -> List[str]:
 
 
 def retired_words() -> List[str]:
-    """What is retired in the pages, in what is printed, and in documentation and names."""
+    """A sentence for each retired word in the pages, in what is printed, and in documentation and
+    names."""
     lines = [line for line in (*lines_of_pages(), *lines_of_programs()) if not is_allowed(line)]
     found = [sentence for line in lines for sentence in retired_in(line)]
     names = [sentence for line in names_of_programs() for sentence in retired_in_name(line)]

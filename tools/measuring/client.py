@@ -1,4 +1,4 @@
-"""A client of 9P2000 that knows the few messages which fill a server."""
+"""A client of 9P2000, with the few messages that make a server use its memory."""
 
 from __future__ import annotations
 
@@ -14,29 +14,32 @@ READ_WRITE = 2
 
 
 class Refused(Exception):
-    """The server answered by an Rerror: what it says."""
+    """The server answered with an Rerror: its text."""
 
 
-def text(value: str) -> bytes:
+def text_field(value: str) -> bytes:
+    """A text as a message of 9P has it: its length in two bytes, then its bytes."""
     data = value.encode()
     return struct.pack('<H', len(data)) + data
 
 
 def message(kind: int, fields: bytes, tag: int = 1) -> bytes:
+    """A message of 9P: its size, kind and tag, then its fields."""
     return struct.pack('<IBH', len(fields) + 7, kind, tag) + fields
 
 
 class Client:
-    """A connection that has begun a session."""
+    """A connection to a server, which has agreed on the version. Each call waits for the replies to
+    what it sends."""
 
     def __init__(self, address: str) -> None:
         host, port = address.rsplit(':', 1)
         self.stream = socket.create_connection((host, int(port)))
         self.replies = self.stream.makefile('rb')
-        self.ask(message(TVERSION, struct.pack('<I', 65_536) + text('9P2000'), NO_TAG))
+        self.ask(message(TVERSION, struct.pack('<I', 65_536) + text_field('9P2000'), NO_TAG))
 
-    def reply(self) -> None:
-        """Waits for a reply; Refused if it is an Rerror."""
+    def wait_for_reply(self) -> None:
+        """Waits for the next reply. Refused if it is an Rerror, OSError if the connection ends."""
         head = self.replies.read(7)
         if len(head) < 7:
             raise OSError('the server has ended the connection')
@@ -46,35 +49,40 @@ class Client:
             raise Refused(fields[2:].decode(errors='replace'))
 
     def ask(self, request: bytes) -> None:
+        """Sends a request, and waits for its reply; Refused if that is an Rerror."""
         self.stream.sendall(request)
-        self.reply()
+        self.wait_for_reply()
 
     def ask_all(self, requests: List[bytes]) -> int:
-        """Sends all, and waits for all replies: how many were granted."""
+        """Sends all requests before it waits for their replies; returns how many were granted. They
+        must fit the buffers of both ends: the server may wait for its replies to be read."""
         self.stream.sendall(b''.join(requests))
         granted = 0
         for _ in requests:
             try:
-                self.reply()
+                self.wait_for_reply()
                 granted += 1
             except Refused:
                 pass
         return granted
 
-    def attach(self, fid: int, name: str) -> None:
-        """Attaches Ann to the tree of that name."""
-        self.ask(message(TATTACH, struct.pack('<II', fid, NO_FID) + text('ann') + text(name)))
+    def attach(self, fid: int, run: str) -> None:
+        """Attaches the user `ann` to a run, as STATE/RUN; the fid is its root."""
+        fields = struct.pack('<II', fid, NO_FID) + text_field('ann') + text_field(run)
+        self.ask(message(TATTACH, fields))
 
     def open(self, fid: int, newfid: int, name: str) -> None:
-        """Walks to a file of the directory, and opens it to be read and written."""
-        self.ask(message(TWALK, struct.pack('<IIH', fid, newfid, 1) + text(name)))
+        """Walks from a directory's fid to a file in it, which newfid then is, and opens it to be
+        read and written."""
+        self.ask(message(TWALK, struct.pack('<IIH', fid, newfid, 1) + text_field(name)))
         self.ask(message(TOPEN, struct.pack('<IB', newfid, READ_WRITE)))
 
-    def end(self) -> None:
+    def close(self) -> None:
+        """Ends the connection."""
         self.replies.close()
         self.stream.close()
 
 
-def write(fid: int, data: bytes) -> bytes:
-    """A write at the head of a file."""
+def write_request(fid: int, data: bytes) -> bytes:
+    """The message that writes bytes at the beginning of an open file."""
     return message(TWRITE, struct.pack('<IQI', fid, 0, len(data)) + data)

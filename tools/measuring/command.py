@@ -1,8 +1,8 @@
 """Prints the rows of all benchmark programs that are built, and whether each is within its bound.
 
-What isn't built is named, and nothing is built here. `serve_bench` and the rows of memory and of
-`crashfs-check`'s states need `crashfs` too, which serves the first two; servers and clients have
-half of the processors each. For figures that count, nothing else may be at work on the machine.
+What isn't built is named, and nothing is built here. The rows of `serve_bench`, of `memory` and of
+`states` (the time that `crashfs-check` takes for each) need the program `crashfs`, too. Servers and
+their clients use half of the processors each. The figures count only if nothing else runs.
 Status 0: no row is past its bound, and no program failed.
 
 Two commands have options of their own: `measure disks` compares crashes of real file systems with
@@ -17,22 +17,24 @@ from pathlib import Path
 from typing import Callable, Dict, List, Optional
 
 from . import disks, stores
-from .memory import memory_rows
+from .memory import add_memory_rows
 from .programs import Programs, Tally
-from .serving import serving_rows
-from .states import states_rows
+from .serving import add_serving_rows
+from .states import add_state_rows
 
 TOP = Path(__file__).resolve().parents[2]
-# The rows that `crashfs` serves.
-SERVED: Dict[str, Callable[[Programs, Tally], None]] = {
-    'serve_bench': serving_rows,
-    'memory': memory_rows,
-    'states': states_rows,
+# How the rows are measured that need more than a benchmark program, by name.
+MEASURED: Dict[str, Callable[[Programs, Tally], None]] = {
+    'serve_bench': add_serving_rows,
+    'memory': add_memory_rows,
+    'states': add_state_rows,
 }
+# The programs that they need; each other row needs the program of its name.
 NEEDED = {'serve_bench': ['serve_bench', 'crashfs'], 'memory': ['crashfs'], 'states': ['crashfs']}
 
 
-def words_of(given: Optional[List[str]]) -> argparse.Namespace:
+def parsed_words(given: Optional[List[str]]) -> argparse.Namespace:
+    """The words after `measure`; wrong ones end the program with status 2."""
     words = argparse.ArgumentParser(
         prog='measure', description=__doc__, formatter_class=argparse.RawDescriptionHelpFormatter
     )
@@ -46,25 +48,27 @@ def words_of(given: Optional[List[str]]) -> argparse.Namespace:
 
 
 def measure(programs: Programs, name: str, tally: Tally) -> None:
-    """Prints the rows of one benchmark, or what it lacks."""
+    """Prints the rows of one benchmark, or which programs that it needs aren't built."""
     lacking = [it for it in NEEDED.get(name, [name]) if programs.built(it) is None]
     if lacking:
-        tally.lack(name, lacking)
-    elif name in SERVED:
+        tally.add_lacking(name, lacking)
+    elif name in MEASURED:
         tally.begin(name)
-        SERVED[name](programs, tally)
+        MEASURED[name](programs, tally)
     else:
         tally.begin(name)
         tally.run([str(programs.built(name)), 'time'])
 
 
 def main(given: Optional[List[str]] = None) -> int:
+    """Runs `measure` with these words, or with those of this process, and returns its status: 1 if
+    a row is past its bound or a program failed, 2 if a name is unknown."""
     given = sys.argv[1:] if given is None else given
     if given[:1] == ['disks']:
         return disks.main(given[1:])
     if given[:1] == ['stores']:
         return stores.main(given[1:])
-    words = words_of(given)
+    words = parsed_words(given)
     programs = Programs(words.top)
     known = [*programs.benchmarks(), 'memory', 'states']
     unknown = [it for it in words.names if it not in known]
@@ -74,4 +78,4 @@ def main(given: Optional[List[str]] = None) -> int:
     tally = Tally()
     for name in words.names or known:
         measure(programs, name, tally)
-    return tally.end()
+    return tally.print_end()

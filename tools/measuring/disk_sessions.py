@@ -2,7 +2,6 @@
 
 from __future__ import annotations
 
-import os
 import re
 from dataclasses import asdict, dataclass, field
 from typing import Dict, Iterator, List, Set, Tuple
@@ -16,21 +15,23 @@ from crashfs_tools.disks.levers import Lever
 from crashfs_tools.reading import Reading, read
 from crashfs_tools.reading.classes import Classes
 from crashfs_tools.reading.lines import PROFILES
-from crashfs_tools.reading.profiles import order_in, profiles_of
+from crashfs_tools.reading.order import order_in, profile_names
 from crashfs_tools.reading.states import States
 
 # The profile that each file system is compared with.
 PROFILE_OF = {'ext4': 'journal', 'xfs': 'journal', 'btrfs': 'blocks'}
 # Equal bytes that follow each other.
 RUN = re.compile(rb'(.)\1*', re.DOTALL)
-# A tree by its digest, and how many lines are acknowledged with it.
+# A tree, by its digest, with how many lines are acknowledged when a crash leaves it.
 TreeAndCount = Tuple[str, int]
 
 
 @dataclass
 class SessionResult:
-    """A session on a file system: how many disks there were and how many differ, how many of these
-    each profile allows, and the crashes that left the others of the file system's profile."""
+    """A session on a file system: how many disks there were and how many differ; how many of these
+    are among the states that a profile allows, for each profile; and texts of those that the file
+    system's profile does not allow. states counts the different states by `blocks`. The fields are
+    those of a line of results.jsonl."""
 
     filesystem: str
     seed: int
@@ -41,15 +42,17 @@ class SessionResult:
     outside: List[str] = field(default_factory=list)
 
     def fields(self) -> Dict[str, object]:
+        """The result as a line of results.jsonl has it."""
         return asdict(self)
 
 
-def text_of(trace: Trace) -> str:
+def trace_text(trace: Trace) -> str:
+    """The text of a trace's file."""
     return ''.join(f'{line}\n' for line in trace.lines())
 
 
-def trees_of(reading: Reading, profile: str) -> Set[TreeAndCount]:
-    """What all the sets leave that a profile allows."""
+def allowed_trees(reading: Reading, profile: str) -> Set[TreeAndCount]:
+    """What the sets that a profile allows leave: all of them, by the second reading."""
     states, found = States(reading), set()
     for places in Classes(reading, order_in(reading, profile)).different():
         tree = entries_of(states.tree(places))
@@ -58,21 +61,28 @@ def trees_of(reading: Reading, profile: str) -> Set[TreeAndCount]:
 
 
 def session_result(name: str, seed: int, trace: Trace, disks: List[Disk]) -> SessionResult:
-    """Compares the different disks of a session with all allowed sets."""
-    reading = read(text_of(trace).encode())
-    allowed = {profile: trees_of(reading, profile) for profile in profiles_of(reading)}
+    """Compares the different disks that a session left on the file system of this name with all
+    allowed sets. A disk is allowed if one of the numbers of lines that may be acknowledged there is
+    that of an allowed set with its tree."""
+    reading = read(trace_text(trace).encode())
+    allowed = {profile: allowed_trees(reading, profile) for profile in profile_names(reading)}
     result = SessionResult(name, seed, sum(len(disk.crashes) for disk in disks), len(disks))
     result.states = len(allowed['blocks'])
     for profile, trees in allowed.items():
-        inside = [disk for disk in disks if any((disk.digest, it) in trees for it in disk.says)]
-        result.allowed[profile] = len(inside)
+        outside = [disk for disk in disks if not is_among(disk, trees)]
+        result.allowed[profile] = len(disks) - len(outside)
         if profile == PROFILE_OF[name]:
-            result.outside = [crash_text(disk) for disk in disks if disk not in inside]
+            result.outside = [disk_text(disk) for disk in outside]
     return result
 
 
-def crash_text(disk: Disk) -> str:
-    """When a disk was left, and what is on it."""
+def is_among(disk: Disk, trees: Set[TreeAndCount]) -> bool:
+    """Whether the disk's tree, with a number of lines that may be acknowledged, is one of these."""
+    return any((disk.digest, count) in trees for count in disk.line_counts)
+
+
+def disk_text(disk: Disk) -> str:
+    """Which crash left a disk first, and each path that is on it with its content."""
     crash = disk.crashes[0]
     paths = ', '.join(f'{path} {entry_text(disk, path)}' for path in disk.tree if path != '/')
     line = f'line {crash.moment.line}' if crash.moment.done else 'the start'
@@ -80,6 +90,7 @@ def crash_text(disk: Disk) -> str:
 
 
 def entry_text(disk: Disk, path: str) -> str:
+    """What is at a path of a disk: of a file its size, and its bytes as runs of equal ones."""
     entry = disk.tree[path]
     if entry.link is not None:
         return f'-> {entry.link}'
@@ -90,31 +101,30 @@ def entry_text(disk: Disk, path: str) -> str:
 
 
 class SessionMaker:
-    """Makes sessions on one file system; folder is for images."""
+    """Makes sessions on one file system, and compares their disks. folder is for images. It is used
+    in a worker: see `become_worker` of the disks."""
 
     def __init__(self, filesystem: FileSystem, folder: str) -> None:
         self.filesystem = filesystem
         self.folder = folder
 
-    def result(self, seed: int, trace: Trace) -> SessionResult:
+    def compare_session(self, seed: int, trace: Trace) -> SessionResult:
+        """Crashes a session at each of its moments by all levers, and compares the disks with the
+        allowed sets. The seed is that from which the trace was made: the result only names it.
+        Refused if an image can't be made or mounted; the images are removed in any case."""
         maker = CrashMaker(self.filesystem, trace, self.folder)
         try:
             disks = different_disks(
                 crash for moment in maker.moments() for crash in maker.crashes(moment, tuple(Lever))
             )
         finally:
-            for name in ('template', 'disk', 'copy'):
-                remove(maker.file(name))
+            maker.remove_images()
         return session_result(self.filesystem.name, seed, trace, disks)
 
 
-def remove(path: str) -> None:
-    if os.path.exists(path):
-        os.unlink(path)
-
-
-def table(results: List[SessionResult]) -> Iterator[str]:
-    """The lines of a table, a row for each file system."""
+def table_lines(results: List[SessionResult]) -> Iterator[str]:
+    """The lines of a table of sums in Markdown, with a row for each file system that has
+    results."""
     columns = ['File system', 'Sessions', 'Disks', 'Different', *(f'by `{it}`' for it in PROFILES)]
     yield f'| {" | ".join(columns)} |'
     yield f'|{"---|" * len(columns)}'

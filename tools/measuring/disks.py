@@ -24,16 +24,18 @@ from crashfs_tools.disks.filesystems import missing_requirement, filesystems_of
 from crashfs_tools.disks.pool import become_worker
 from crashfs_tools.disks.workers import DiskWorkers
 
-from .disk_sessions import PROFILE_OF, SessionMaker, SessionResult, table, text_of
+from .disk_sessions import PROFILE_OF, SessionMaker, SessionResult, table_lines, trace_text
 from .random_sessions import session
 
 MEMORY = '/dev/shm'
 RESULTS = 'results.jsonl'
 
+# A file system's name, and the seed of a session on it.
 Task = Tuple[str, int]
 
 
-def words_of(given: List[str]) -> argparse.Namespace:
+def parsed_words(given: List[str]) -> argparse.Namespace:
+    """The words after `measure disks`; wrong ones end the program with status 2."""
     words = argparse.ArgumentParser(
         prog='measure disks',
         description=__doc__,
@@ -48,8 +50,9 @@ def words_of(given: List[str]) -> argparse.Namespace:
     return words.parse_args(given)
 
 
-class Run:
-    """The sessions that are asked for, and the results so far."""
+class Measurement:
+    """The sessions that are asked for, and the file of results, to which each new one is added. So
+    a run that was stopped is continued by the same words."""
 
     def __init__(self, words: argparse.Namespace) -> None:
         self.words = words
@@ -58,28 +61,31 @@ class Run:
         words.dir.mkdir(parents=True, exist_ok=True)
 
     def results(self) -> List[SessionResult]:
-        """Those of this run's sessions that are there."""
+        """The results that the file has of the sessions that are asked for."""
         wanted = set(self.tasks())
         lines = self.path.read_text('utf-8').splitlines() if self.path.exists() else []
         found = [SessionResult(**json.loads(line)) for line in lines]
         return [one for one in found if (one.filesystem, one.seed) in wanted]
 
     def tasks(self) -> Iterator[Task]:
+        """Each seed that is asked for, on each file system."""
         first, count = self.words.first, self.words.sessions
         return ((name, seed) for seed in range(first, first + count) for name in self.names)
 
     def missing(self) -> List[Task]:
+        """The tasks whose results the file doesn't have."""
         done: Set[Task] = {(one.filesystem, one.seed) for one in self.results()}
         return [task for task in self.tasks() if task not in done]
 
     def make(self, folder: str) -> None:
-        """Makes the sessions that aren't there yet."""
+        """Makes the sessions that have no result, and keeps each result as it comes. Images are
+        made in the folder. Refused if one can't be made or mounted."""
         tasks = self.missing()
         makers = {one.name: SessionMaker(one, folder) for one in filesystems_of(self.names)}
 
         def result_of(task: Task) -> SessionResult:
             name, seed = task
-            return makers[name].result(seed, session(seed, self.words.operations))
+            return makers[name].compare_session(seed, session(seed, self.words.operations))
 
         begin = partial(become_worker, os.getpid())
         with DiskWorkers(self.words.jobs, begin, result_of) as workers:
@@ -89,17 +95,17 @@ class Run:
         print(file=sys.stderr)
 
     def keep(self, result: SessionResult) -> None:
-        """Writes a result, and the trace if a disk of it is outside."""
+        """Adds a result to the file; writes the session's trace beside it if a disk is outside."""
         with self.path.open('a', encoding='utf-8') as file:
             file.write(json.dumps(result.fields()) + '\n')
         if result.outside:
             trace = session(result.seed, self.words.operations)
             name = f'{result.filesystem}-{result.seed}.trace'
-            (self.words.dir / name).write_text(text_of(trace), 'utf-8')
+            (self.words.dir / name).write_text(trace_text(trace), 'utf-8')
 
 
-def refuse(names: List[str]) -> Optional[str]:
-    """Why file systems can't be measured here."""
+def refusal(names: List[str]) -> Optional[str]:
+    """Why the file systems of these names can't be measured here; None if they can."""
     unknown = [name for name in names if name not in PROFILE_OF]
     if unknown:
         return f'{unknown[0]} is none of {", ".join(PROFILE_OF)}'
@@ -107,13 +113,15 @@ def refuse(names: List[str]) -> Optional[str]:
 
 
 def main(given: List[str]) -> int:
-    run = Run(words_of(given))
-    fault = refuse(run.names)
+    """Runs `measure disks` with these words, and returns its status: 1 if a disk is outside its
+    file system's profile, 2 if the sessions can't be made here."""
+    run = Measurement(parsed_words(given))
+    fault = refusal(run.names)
     if fault is not None:
         print(f'measure disks: {fault}', file=sys.stderr)
         return 2
     if run.missing():
-        with Guard('measure-disks-', MEMORY if os.path.isdir(MEMORY) else None) as guard:
+        with Guard('measure-disks', MEMORY if os.path.isdir(MEMORY) else None) as guard:
             try:
                 run.make(guard.directory)
             except Refused as refused:
@@ -121,7 +129,7 @@ def main(given: List[str]) -> int:
                 return 2
     results = run.results()
     print(f'Kernel {platform.release()}, {run.words.operations} operations a session\n')
-    print('\n'.join(table(results)))
+    print('\n'.join(table_lines(results)))
     outside = [(one, text) for one in results for text in one.outside]
     for one, text in outside:
         profile = PROFILE_OF[one.filesystem]

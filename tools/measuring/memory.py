@@ -1,6 +1,7 @@
-"""How a server grows: by idle connections, by all the runs that it takes, by a full journal.
+"""How much memory a server takes for idle connections, for as many runs as it allows, and for a
+full journal.
 
-Each is a server of its own. What it has in memory as it begins to listen is left out.
+Each is measured on a new server. What that has in memory when it begins to listen isn't counted.
 """
 
 from __future__ import annotations
@@ -8,9 +9,9 @@ from __future__ import annotations
 import subprocess
 from typing import Callable, List, Tuple
 
-from .client import Client, Refused, write
+from .client import Client, Refused, write_request
 from .programs import Programs, Tally
-from .servers import crashfs, free_address, listening, resident
+from .servers import free_address, listening, resident_bytes, serve_words
 
 CONNECTIONS = 64
 RUNS = 4_096
@@ -19,33 +20,36 @@ BLOCK = 4_096
 BATCH = 8
 # More than a journal takes.
 WRITES = 70_000
-# What an idle connection is to take at most.
+# An idle connection may take so many bytes.
 IDLE_BYTES = 200_000
+# The connections that have filled a server, which stay open until its memory is read, and how many
+# things they filled it with.
 Filled = Tuple[List[Client], int]
 
 
-def idle(address: str, connections: int) -> Filled:
-    """Connections on one run, each of which has come to it and waits: how many there are."""
+def fill_with_connections(address: str, connections: int) -> Filled:
+    """Opens so many connections, attaches each to one run, and leaves them idle."""
     clients = [Client(address) for _ in range(connections)]
     for client in clients:
         client.attach(0, '0/x')
     return clients, len(clients)
 
 
-def crowd(address: str, runs: int, connections: int) -> Filled:
-    """Runs of one state, each with one user attached, over so many connections."""
+def fill_with_runs(address: str, runs: int, connections: int) -> Filled:
+    """Attaches a user to each of so many runs of one state, by so many connections."""
     clients = [Client(address) for _ in range(connections)]
     for run in range(runs):
         clients[run % connections].attach(run // connections, f'0/r{run}')
     return clients, runs
 
 
-def journal(address: str, most: int) -> Filled:
-    """A run whose journal takes no more writes, or has taken so many: how many it took."""
+def fill_with_writes(address: str, most: int) -> Filled:
+    """Writes to a run until its journal takes no more, or has taken so many writes; counts those
+    that it took."""
     client = Client(address)
     client.attach(0, '0/x')
     client.open(0, 1, 'f')
-    requests = [write(1, b'w' * BLOCK)] * BATCH
+    requests = [write_request(1, b'w' * BLOCK)] * BATCH
     written = 0
     while written < most:
         granted = client.ask_all(requests)
@@ -55,43 +59,58 @@ def journal(address: str, most: int) -> Filled:
     return [client], written
 
 
-def grown(programs: Programs, fill: Callable[[str], Filled], connections: int) -> Tuple[int, int]:
-    """By how many bytes a server grows as it is filled, and with how many of what."""
+def growth_of_new_server(
+    programs: Programs, fill: Callable[[str], Filled], connections: int
+) -> Tuple[int, int]:
+    """Starts a server that takes so many connections, and fills it by `fill`, which has the
+    server's address. Returns by how many bytes it grows, and how many things fill it."""
     address = free_address()
-    with listening(crashfs(programs, address, connections)) as server:
-        return growth(server, lambda: fill(address))
+    with listening(serve_words(programs, address, connections)) as server:
+        return growth_of(server, lambda: fill(address))
 
 
-def growth(server: subprocess.Popen[str], fill: Callable[[], Filled]) -> Tuple[int, int]:
-    before = resident(server)
+def growth_of(server: subprocess.Popen[str], fill: Callable[[], Filled]) -> Tuple[int, int]:
+    """By how many bytes a server grows while it is filled, and how many things fill it. The
+    connections are closed after that."""
+    before = resident_bytes(server)
     clients, count = fill()
-    more = resident(server) - before
+    more = resident_bytes(server) - before
     for client in clients:
-        client.end()
+        client.close()
     return more, count
 
 
-def idle_rows(programs: Programs, tally: Tally) -> None:
-    more, count = grown(programs, lambda at: idle(at, CONNECTIONS), CONNECTIONS)
-    tally.figure(f'{count} idle connections', more / 1e6, 'MB')
-    tally.figure('each', more / count, 'bytes', IDLE_BYTES)
+def add_connection_rows(programs: Programs, tally: Tally) -> None:
+    """Measures and prints the rows of idle connections."""
+    more, count = growth_of_new_server(
+        programs, lambda at: fill_with_connections(at, CONNECTIONS), CONNECTIONS
+    )
+    tally.add_figure(f'{count} idle connections', more / 1e6, 'MB')
+    tally.add_figure('each', more / count, 'bytes', IDLE_BYTES)
 
 
-def crowd_rows(programs: Programs, tally: Tally) -> None:
-    more, count = grown(programs, lambda at: crowd(at, RUNS, CONNECTIONS), CONNECTIONS)
-    tally.figure(f'{count} runs with a user each, by {CONNECTIONS} connections', more / 1e6, 'MB')
-    tally.figure('each, with its part of the connections', more / count, 'bytes')
+def add_run_rows(programs: Programs, tally: Tally) -> None:
+    """Measures and prints the rows of many runs."""
+    more, count = growth_of_new_server(
+        programs, lambda at: fill_with_runs(at, RUNS, CONNECTIONS), CONNECTIONS
+    )
+    what = f'{count} runs with a user each, by {CONNECTIONS} connections'
+    tally.add_figure(what, more / 1e6, 'MB')
+    tally.add_figure('each, with its part of the connections', more / count, 'bytes')
 
 
-def journal_rows(programs: Programs, tally: Tally) -> None:
-    more, count = grown(programs, lambda at: journal(at, WRITES), 1)
-    tally.figure(f'a full journal, with {count} writes of 4 kB', more / 1e6, 'MB')
-    tally.figure('each write, beside its bytes', more / count - BLOCK, 'bytes')
+def add_journal_rows(programs: Programs, tally: Tally) -> None:
+    """Measures and prints the rows of a full journal."""
+    more, count = growth_of_new_server(programs, lambda at: fill_with_writes(at, WRITES), 1)
+    tally.add_figure(f'a full journal, with {count} writes of 4 kB', more / 1e6, 'MB')
+    tally.add_figure('each write, beside its bytes', more / count - BLOCK, 'bytes')
 
 
-def memory_rows(programs: Programs, tally: Tally) -> None:
-    for rows in (idle_rows, crowd_rows, journal_rows):
+def add_memory_rows(programs: Programs, tally: Tally) -> None:
+    """Measures and prints all rows of memory; one that can't be measured is a failure, and the next
+    is measured."""
+    for add_rows in (add_connection_rows, add_run_rows, add_journal_rows):
         try:
-            rows(programs, tally)
+            add_rows(programs, tally)
         except (OSError, Refused) as error:
-            tally.fail(str(error))
+            tally.add_failure(str(error))

@@ -32,7 +32,8 @@ from crashfs_tools.common.trace_read import tree_of
 ROOT = 'root', 'root'
 FILE_MODE, DIRECTORY_MODE = 0o644, 0o755
 NAMES, DIRECTORIES = 'abc', 'def'
-# How often each kind is drawn, among all.
+# The kinds of operations, by the names of the methods that draw one, with how often each is drawn
+# in proportion to the others.
 KINDS = {
     'creat': 3,
     'write': 6,
@@ -55,12 +56,15 @@ SYNCS = (Fsync, Fdatasync, FsyncRange, Sync)
 
 
 def session(seed: int, operations: int) -> Trace:
-    """A session of so many operations; after each sync a line is acknowledged."""
-    return Session(seed).grown(operations)
+    """The session of a seed, with so many operations. After each sync a line is acknowledged, and
+    one at the end. A seed gives the same session each time: results and pages name sessions by
+    it."""
+    return DrawnSession(seed).with_operations(operations)
 
 
-class Session:
-    """Grows operation by operation; one that doesn't fit is drawn again."""
+class DrawnSession:
+    """A session that is drawn: its start tree at first, then operation by operation. tree is what
+    the operations so far leave."""
 
     def __init__(self, seed: int) -> None:
         self.random = random.Random(seed)
@@ -77,10 +81,12 @@ class Session:
             self.tree.add_start(line)
 
     def chance(self, times: int) -> bool:
-        """Once in so many times."""
+        """Draws what is true once in so many times."""
         return self.random.randrange(times) == 0
 
-    def grown(self, operations: int) -> Trace:
+    def with_operations(self, operations: int) -> Trace:
+        """Draws so many operations, and returns the whole session. One that can't be made in the
+        tree, or does nothing there, is drawn again."""
         kinds = list(KINDS)
         while operations:
             kind = self.random.choices(kinds, list(KINDS.values()))[0]
@@ -96,15 +102,15 @@ class Session:
         return self.trace
 
     def does_nothing(self, operation: Operation) -> bool:
-        """Whether it is a rename that does nothing."""
+        """Whether it is a rename to another name of the same file, which does nothing."""
         return isinstance(operation, Rename) and self.tree.files[
             operation.source
         ] == self.tree.files.get(operation.target)
 
-    # What operations are of
+    # What operations are drawn of
 
     def paths(self, kind: str) -> List[str]:
-        """The paths of a kind, without the root."""
+        """The paths of each `dir`, `file` or `link`, without the root."""
         return [
             path
             for path, entry in self.tree.entries.items()
@@ -113,22 +119,26 @@ class Session:
         ]
 
     def one_of(self, paths: List[str]) -> Optional[str]:
+        """Draws one of some paths; None if there are none."""
         return self.random.choice(paths) if paths else None
 
     def file(self) -> Optional[str]:
+        """Draws the path of a file; None if there is none."""
         return self.one_of(self.paths('file'))
 
     def place(self, names: str) -> str:
-        """A path that may be free, in a directory that is there."""
+        """Draws a path, of one of these names in a directory that is there. Something may have the
+        path already."""
         above = self.random.choice(['', *self.paths('dir')])
         return f'{above}/{self.random.choice(names)}'
 
     def size(self, path: str) -> int:
+        """How many bytes a file has."""
         data = self.tree.entries[path].data
         assert data is not None and not isinstance(data, SparseBytes)
         return len(data)
 
-    # The kinds
+    # A method for each kind, which draws an operation; None if there is nothing that it could be of
 
     def creat(self) -> Operation:
         return Creat(self.place(NAMES), *ROOT, FILE_MODE)
@@ -139,16 +149,17 @@ class Session:
     def symlink(self) -> Operation:
         return Symlink(self.place(NAMES), *ROOT, self.random.choice(['a', '../b', 'd/none']))
 
-    def write(self, at: Optional[int] = None) -> Optional[Operation]:
+    def write(self, is_append: bool = False) -> Optional[Operation]:
+        """A write inside or past the end of a file, or at its end."""
         path = self.file()
         if path is None:
             return None
-        offset = self.random.choice([0, 0, 2, 4096]) if at is None else self.size(path)
+        offset = self.size(path) if is_append else self.random.choice([0, 0, 2, 4096])
         letter = self.random.choice(b'ABCDEFG')
         return Write(path, offset, bytes([letter]) * self.random.choice([2, 3, 4096, 5000]))
 
     def append(self) -> Optional[Operation]:
-        return self.write(at=0)
+        return self.write(is_append=True)
 
     def truncate(self) -> Optional[Operation]:
         path = self.file()
@@ -184,6 +195,7 @@ class Session:
         return Fdatasync(path) if path else None
 
     def fsync_range(self) -> Optional[Operation]:
+        """A sync of the first or the second page of a file."""
         path = self.file()
         return FsyncRange(path, 4096 * self.random.randrange(2), 4096) if path else None
 

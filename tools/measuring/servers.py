@@ -1,4 +1,4 @@
-"""Servers that are started for a while, and the processors that they and their clients have."""
+"""Servers that run for a benchmark, and which processors they and their clients use."""
 
 from __future__ import annotations
 
@@ -10,19 +10,19 @@ from contextlib import contextmanager
 from pathlib import Path
 from typing import Iterator, List, Tuple
 
-from .programs import Programs, started
+from .programs import Programs, start_program
 
 
-def halves() -> Tuple[List[int], List[int]]:
-    """The processors of servers and those of clients: half each, and of one both the same."""
+def processor_halves() -> Tuple[List[int], List[int]]:
+    """The processors of servers and those of clients: half each. A single one is for both."""
     cpus = sorted(os.sched_getaffinity(0))
     half = len(cpus) // 2
     return cpus[:half] or cpus, cpus[half:]
 
 
 def free_address() -> str:
-    """An address of this machine at which nobody listens. No other call, and no other process, has
-    the same host, so that nobody else takes the port before a server does."""
+    """An address of this machine at which nobody listens. The next 253 calls, and other processes,
+    use other hosts of 127.0.0.0/8: so nobody else takes the port before a server does."""
     process = os.getpid()
     host = f'127.{next(_HOSTS)}.{process >> 8 & 255}.{process & 255}'
     with socket.socket() as listener:
@@ -35,8 +35,9 @@ _HOSTS = itertools.cycle(range(1, 255))
 
 @contextmanager
 def listening(words: List[str]) -> Iterator[subprocess.Popen[str]]:
-    """The server, once it has printed that it listens. It is ended after the block."""
-    server = started(words, halves()[0])
+    """Within this a server runs that has printed that it listens; it is killed at the end. OSError
+    if it prints something else."""
+    server = start_program(words, processor_halves()[0])
     assert server.stdout is not None
     try:
         line = server.stdout.readline()
@@ -49,8 +50,9 @@ def listening(words: List[str]) -> Iterator[subprocess.Popen[str]]:
         server.stdout.close()
 
 
-def crashfs(programs: Programs, address: str, connections: int) -> List[str]:
-    """The command line that serves the one state of a small trace."""
+def serve_words(programs: Programs, address: str, connections: int) -> List[str]:
+    """The words of `crashfs serve` that serve the one state of a small trace, by one worker, to so
+    many connections at once."""
     examples: Path = programs.top / 'examples'
     return [
         str(programs.built('crashfs')),
@@ -69,8 +71,8 @@ def crashfs(programs: Programs, address: str, connections: int) -> List[str]:
     ]
 
 
-def resident(server: subprocess.Popen[str]) -> int:
-    """The bytes that the server has in memory, as in proc(5)."""
+def resident_bytes(server: subprocess.Popen[str]) -> int:
+    """How many bytes a server has in memory: VmRSS of proc(5)."""
     for line in Path(f'/proc/{server.pid}/status').read_text().splitlines():
         if line.startswith('VmRSS:'):
             return int(line.split()[1]) * 1024

@@ -1,5 +1,6 @@
-"""What `crashfs-check` takes for each state of SQLite's example, with `true` as COMMAND, beside a C
-program that does as little as can be done: it writes the files, forks, and runs `true`."""
+"""The time that `crashfs-check` takes for each state of SQLite's example, with `true` as COMMAND,
+compared with a C program that does as little as possible: it writes the files, forks, and runs
+`true`."""
 
 from __future__ import annotations
 
@@ -26,8 +27,9 @@ TRIED = re.compile(r' ([\d,]+) states, ([\d,]+) different: none fails')
 MOST, MOST_MILLISECONDS, RUNS = 1.5, 1.0, 3
 
 
-class Ran(NamedTuple):
-    """How many states there were, how many were tried, and what that took."""
+class Times(NamedTuple):
+    """What a command took that tried states: how many there were and how many it tried, the
+    processor time of it and its children, and the time that passed, in seconds."""
 
     states: int
     tried: int
@@ -35,8 +37,11 @@ class Ran(NamedTuple):
     wall: float
 
 
-def ran(words: List[str], tried: int = 0, environment: Optional[Dict[str, str]] = None) -> Ran:
-    """Runs a command, which prints how many states it tried, unless that is known."""
+def times_of(
+    words: List[str], tried: int = 0, environment: Optional[Dict[str, str]] = None
+) -> Times:
+    """Runs a command that tries states, and returns its times. How many it tries is read from what
+    it prints, unless it is given. OSError if the command fails, or prints no such number."""
     began = time.monotonic()
     with subprocess.Popen(
         words, stdout=subprocess.PIPE, stdin=subprocess.DEVNULL, text=True, env=environment
@@ -50,75 +55,70 @@ def ran(words: List[str], tried: int = 0, environment: Optional[Dict[str, str]] 
     if child.returncode != 0 or not (tried or found):
         raise OSError(f'{words[0]} ended with status {child.returncode}: {printed[-200:]}')
     counts = [int(count.replace(',', '')) for count in found.groups()] if found else [tried, tried]
-    return Ran(counts[0], counts[1], used.ru_utime + used.ru_stime, wall)
+    return Times(counts[0], counts[1], used.ru_utime + used.ru_stime, wall)
 
 
 class Checks:
-    """Runs the check, with its modules compiled as they are after a user's first run."""
+    """Checks of SQLite's example. folder is for compiled modules: a first check, which isn't
+    measured, compiles them, as a user's first one does."""
 
     def __init__(self, programs: Programs, folder: str) -> None:
         self.program = str(programs.built('crashfs'))
         self.environment = {**os.environ, 'PYTHONPYCACHEPREFIX': folder}
         self.environment.pop('PYTHONDONTWRITEBYTECODE', None)
-        self.run('--prefixes')
+        self.times('--prefixes')
 
-    def run(self, *options: str) -> Ran:
-        return ran(
-            [
-                sys.executable,
-                '-S',
-                str(CHECK),
-                '--crashfs',
-                self.program,
-                *(() if '--prefixes' in options else ('--families',)),
-                *options,
-                str(TRACE),
-                '--',
-                '/bin/true',
-            ],
-            environment=self.environment,
-        )
+    def times(self, *options: str) -> Times:
+        """The times of a check of prefixes, or of prefixes and holes, as the benchmark's figures
+        always were. `-S` leaves out what this machine's Python loads by itself."""
+        families = [] if '--prefixes' in options else ['--families']
+        program = [sys.executable, '-S', str(CHECK), '--crashfs', self.program]
+        words = [*program, *families, *options, str(TRACE), '--', '/bin/true']
+        return times_of(words, environment=self.environment)
 
-    def least(self, *options: str) -> Ran:
-        """The least figures of a few runs."""
-        found = [self.run(*options) for _ in range(RUNS)]
+    def least_times(self, *options: str) -> Times:
+        """The least times of a few checks."""
+        found = [self.times(*options) for _ in range(RUNS)]
         return found[0]._replace(
             processor=min(one.processor for one in found), wall=min(one.wall for one in found)
         )
 
 
-def least(folder: str, count: int) -> Ran:
-    """The C program, over so many states."""
+def c_program_times(folder: str, count: int) -> Times:
+    """The times of the C program for so many states. It is compiled, and works, in the folder."""
     program = os.path.join(folder, 'states')
     subprocess.run(['cc', '-O2', '-o', program, str(SOURCE)], check=True)
-    return ran([program, folder, str(count), '/bin/true', *SIZES], count)
+    return times_of([program, folder, str(count), '/bin/true', *SIZES], count)
 
 
-def states_rows(programs: Programs, tally: Tally) -> None:
-    """A state's own time is that by which a check of more states takes longer."""
+def add_state_rows(programs: Programs, tally: Tally) -> None:
+    """Measures and prints the rows of states. A state's own time is that by which a check of more
+    states takes longer, so that a check's beginning and end aren't counted."""
     if shutil.which('cc') is None:
-        tally.fail('there is no cc')
+        tally.add_failure('there is no cc')
         return
     try:
         with tempfile.TemporaryDirectory() as folder:
             checks = Checks(programs, folder)
-            whole, few = checks.least(), checks.least('--prefixes')
-            one, low = checks.run('--jobs', '1'), least(folder, whole.tried)
+            whole, few = checks.least_times(), checks.least_times('--prefixes')
+            one, low = checks.times('--jobs', '1'), c_program_times(folder, whole.tried)
     except (OSError, subprocess.CalledProcessError) as error:
-        tally.fail(str(error))
+        tally.add_failure(str(error))
         return
     each = (whole.processor - few.processor) / (whole.tried - few.tried)
     lowest = low.processor / low.tried
     for jobs, check in ((len(os.sched_getaffinity(0)), whole), (1, one)):
-        tally.line(
+        tally.add_line(
             f'{check.states} states, {check.tried} of them tried, by {jobs} jobs: '
             f'{check.wall:.3f} s, {check.states / check.wall:.0f} states and '
             f'{check.tried / check.wall:.0f} trials a second'
         )
-    tally.line(f'the C program by one: {low.tried / low.wall:.0f} a second')
-    tally.line(
+    tally.add_line(f'the C program by one: {low.tried / low.wall:.0f} a second')
+    tally.add_line(
         f'processor time of a state: {each * 1e3:.3f} ms; of the C program '
         f'{lowest * 1e3:.3f} ms'
     )
-    tally.figure('a state beside the C program', each / lowest, 'times', MOST)
-    tally.figure('a state by all jobs', whole.wall / whole.states * 1e3, 'ms', MOST_MILLISECONDS)
+    tally.add_figure('a state beside the C program', each / lowest, 'times', MOST)
+    tally.add_figure(
+        'a state by all jobs', whole.wall / whole.states * 1e3, 'ms', MOST_MILLISECONDS
+    )

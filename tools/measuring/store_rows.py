@@ -17,8 +17,9 @@ TOP = Path(__file__).resolve().parents[2]
 STORES = TOP / 'examples' / 'stores'
 RESULTS = TOP / 'docs' / 'results.json'
 ALL_STATES = re.compile(r' all ([\d,]+) crash states?\b')
-# So many lines of a report are kept: the first, and the first entry.
-REPORT_LINES = 8
+# So many lines of a report are kept: its first, and those of its first entry, which says last where
+# it was seen on disks.
+REPORT_LINES = 12
 
 Row = Dict[str, Any]
 
@@ -30,13 +31,15 @@ class ResultsFile:
         self.path = path
 
     def rows(self) -> List[Row]:
+        """The rows of the file; none if there is no file."""
         if not self.path.exists():
             return []
         rows: List[Row] = json.loads(self.path.read_text('utf-8'))
         return rows
 
     def put(self, row: Row) -> None:
-        """Writes a row in the place of the one with its key."""
+        """Puts a row into the file, in the place of the one with its key. Rows are in the order of
+        stores.json; those that it doesn't have come last."""
         rows = {one['key']: one for one in self.rows()}
         rows[row['key']] = row
         order = {key: place for place, key in enumerate(keys())}
@@ -52,7 +55,9 @@ def keys() -> List[str]:
 
 
 def row_of(about: Dict[str, Any], key: str, json_path: str, report: str) -> Row:
-    """A row, from what stores.json has of the store, and the JSON and the text of the report."""
+    """The row of a session, but for its version: from the store's object of stores.json, the
+    session's key, and the file of --json and the text of its check. States that fail are counted,
+    each once; sets that leave equal states aren't."""
     first, *lines = [line for line in report.splitlines() if not line.startswith('unproved: ')]
     windows = read_json(json_path).windows
     outcomes = [one for window in windows for one in window.outcomes.values()]
@@ -65,25 +70,26 @@ def row_of(about: Dict[str, Any], key: str, json_path: str, report: str) -> Row:
     row['causes'] = Counter(one.word for one in failing)
     row['profiles'] = profiles_of(windows)
     row['disks'] = disks_of(json.loads(Path(json_path).read_text('utf-8')))
-    row['report'] = [first, *entry_of(lines)][:REPORT_LINES]
+    row['report'] = [first, *(first_entry(lines) if failing else [])][:REPORT_LINES]
     return row
 
 
 def sets_of(windows: List[Results]) -> Optional[int]:
-    """How many sets the rules allow; None if they were not counted, or the session has windows."""
+    """How many sets the rules allow; None if they were not counted, or if the session was checked
+    in windows, whose sets can't be added."""
     every = [window.plan.all_states for window in windows]
     return every[0].sets if len(every) == 1 and every[0] else None
 
 
 def profiles_of(windows: List[Results]) -> Dict[str, int]:
-    """How many failing states each profile allows."""
+    """How many failing states each profile allows, also if that is none."""
     counts: Counts[str] = Counter()
     for window in windows:
         counts.update({name: 0 for name in window.plan.profiles.names})
         for state in window.plan.states:
             outcome = window.outcomes.get(state.number)
             if outcome is not None and outcome.result == BAD:
-                counts.update(window.plan.profiles_of(state))
+                counts.update(window.plan.profile_names_of(state))
     return dict(counts)
 
 
@@ -103,8 +109,8 @@ def disks_of(fields: Dict[str, Any]) -> Dict[str, Any]:
     }
 
 
-def entry_of(lines: List[str]) -> Iterator[str]:
-    """The lines of the first entry of a report."""
+def first_entry(lines: List[str]) -> Iterator[str]:
+    """The lines of a report's first entry: its cause, and the lines that are indented further."""
     for place, line in enumerate(lines):
         if place and not line.startswith('    '):
             return

@@ -3,7 +3,8 @@
 Each session is one of examples/stores/stores.json. Its trace is the one that is committed, or made
 by record.sh; check.sh is run in each crash state, and with --disks in what crashes of real file
 systems leave. docs/results.json keeps a row for each session, and `tools/inventories` makes
-docs/RESULTS.md from it. The store's Debian package must be installed.
+docs/RESULTS.md from it. The Debian packages of a store must be installed: those that are missing
+are named. Status 0: each session has a row.
 """
 
 from __future__ import annotations
@@ -15,21 +16,26 @@ import subprocess
 import sys
 import tempfile
 from pathlib import Path
-from typing import Any, Dict, Iterator, List, NamedTuple, Optional
+from typing import Any, Dict, List, NamedTuple
 
-from crashfs_tools.common.guard import stop_by_exception
+from crashfs_tools.common.guard import Stopped, stop_by_exception
 
-from .store_rows import STORES, TOP, ResultsFile, row_of
+from .store_rows import STORES, TOP, ResultsFile, disks_of, row_of
 
 TOOLS = TOP / 'tools'
 # Sessions of at most so many operations are made again on disks.
 MOST_OPERATIONS = 200
-# Further options of each check.
+# Further options of each check, which tests set.
 MORE: List[str] = []
 
 
+class NoResult(Exception):
+    """Why a session has no row."""
+
+
 class Session(NamedTuple):
-    """A session of a store: the folder of its scripts, its name and the package."""
+    """A session of a store: the folder of its scripts, its name there, and the store's object of
+    stores.json."""
 
     folder: str
     name: str
@@ -37,19 +43,27 @@ class Session(NamedTuple):
 
     @property
     def key(self) -> str:
+        """What the session is called on the command line, and in docs/results.json."""
         return f'{self.folder}/{self.name}'
 
     @property
     def path(self) -> Path:
+        """The folder of its scripts."""
         return STORES / self.folder
 
     @property
     def trace(self) -> Path:
-        """Where the trace is, if it is committed."""
+        """Where its trace is if it is committed: large ones aren't."""
         return self.path / f'{self.name}.trace'
 
+    def missing_packages(self) -> List[str]:
+        """The Debian packages that its scripts need and that aren't installed."""
+        needed = (self.about['package'], *self.about.get('needs', []))
+        return [package for package in needed if not version_of(package)]
 
-def words_of(given: List[str]) -> argparse.Namespace:
+
+def parsed_words(given: List[str]) -> argparse.Namespace:
+    """The words after `measure stores`; wrong ones end the program with status 2."""
     words = argparse.ArgumentParser(
         prog='measure stores',
         description=__doc__,
@@ -58,21 +72,25 @@ def words_of(given: List[str]) -> argparse.Namespace:
     words.add_argument('--record', action='store_true', help='make traces again')
     words.add_argument('--disks', metavar='LIST', help='file systems, as of crashfs-check')
     words.add_argument('--jobs', type=int, default=4, metavar='N', help='at once (4)')
-    words.add_argument('--time-limit', metavar='S', help='seconds for each check')
+    words.add_argument('--time-limit', metavar='S', help='seconds for the states of each')
     words.add_argument('names', nargs='*', metavar='NAME', help='FOLDER or FOLDER/SESSION (all)')
-    return words.parse_args(given)
+    parsed = words.parse_args(given)
+    for name in parsed.names:
+        if not sessions([name]):
+            words.error(f'{name} is no session of {STORES / "stores.json"}')
+    return parsed
 
 
 def sessions(names: List[str]) -> List[Session]:
-    """The sessions that are asked for."""
+    """The sessions of stores.json whose folder or key is among the names; all if there are none."""
     known = json.loads((STORES / 'stores.json').read_text('utf-8'))
     found = [Session(store['folder'], name, store) for store in known for name in store['sessions']]
     return [one for one in found if not names or one.folder in names or one.key in names]
 
 
 def version_of(package: str) -> str:
-    """The version of an installed Debian package, without what Debian adds; nothing if it is not
-    installed."""
+    """The version of an installed Debian package, without what Debian adds: `1.23` for `1:1.23-4`
+    or `1.23+dfsg1-4`. Nothing if it is not installed."""
     words = ['dpkg-query', '-W', '-f', '${Status} ${Version}', package]
     ran = subprocess.run(words, stdout=subprocess.PIPE, stderr=subprocess.DEVNULL, check=False)
     status, _, version = ran.stdout.decode().rpartition(' ')
@@ -81,7 +99,8 @@ def version_of(package: str) -> str:
 
 
 class Check:
-    """Makes the row of a session. folder is for its trace and its reports."""
+    """Checks a session. folder is for its trace and its report, and empty at first. words are those
+    of the command line."""
 
     def __init__(self, session: Session, words: argparse.Namespace, folder: Path) -> None:
         self.session = session
@@ -89,52 +108,87 @@ class Check:
         self.trace = folder / f'{session.name}.trace'
         self.json = folder / 'report.json'
 
-    def row(self) -> Optional[Dict[str, Any]]:
-        """The row of the session; None if it could not be recorded or checked."""
-        run([str(STORES / 'build.sh'), str(self.session.path)])
-        if self.words.record or not self.session.trace.exists():
-            run([str(self.session.path / 'record.sh'), self.session.name, str(self.trace)])
-        else:
-            self.trace.write_bytes(self.session.trace.read_bytes())
-        report = run(list(self.command()))
-        if not self.json.exists():
-            return None
-        return row_of(self.session.about, self.session.key, str(self.json), report)
+    def row(self) -> Dict[str, Any]:
+        """Records the session, if it has no committed trace or that is asked for, checks it, and
+        returns its row, with the version of its package. NoResult says why there is none."""
+        missing = self.session.missing_packages()
+        if missing:
+            raise NoResult(f'not installed: {", ".join(missing)}')
+        output_of([str(STORES / 'build.sh'), str(self.session.path)])
+        self.make_trace()
+        limit, disks = self.limit_words(), self.disk_words()
+        report = self.report_of(*limit, *([] if limit else disks))
+        row = row_of(self.session.about, self.session.key, str(self.json), report)
+        if limit and disks:
+            self.report_of('--prefixes', *disks)
+            row['disks'] = disks_of(json.loads(self.json.read_text('utf-8')))
+        return {**row, 'version': version_of(self.session.about['package'])}
 
-    def command(self) -> Iterator[str]:
-        yield from (str(TOOLS / 'crashfs-check'), '--jobs', str(self.words.jobs))
-        yield from (*MORE, '--json', str(self.json), '--timeout', '60')
-        if self.words.time_limit:
-            yield from ('--time-limit', self.words.time_limit)
-        if self.words.disks and self.has_few_operations():
-            yield from ('--disks', self.words.disks)
-        yield from (str(self.trace), '--')
-        yield from (str(self.session.path / 'check.sh'), self.session.name)
+    def make_trace(self) -> None:
+        """Puts the trace into the folder: the committed one, or one that record.sh makes."""
+        if self.session.trace.exists() and not self.words.record:
+            self.trace.write_bytes(self.session.trace.read_bytes())
+            return
+        output_of([str(self.session.path / 'record.sh'), self.session.name, str(self.trace)])
+        if not self.trace.exists():
+            raise NoResult('record.sh made no trace')
+
+    def report_of(self, *options: str) -> str:
+        """Checks the session with some more options, and returns the report; its file is the one of
+        --json. NoResult if there is no report."""
+        words = [str(TOOLS / 'crashfs-check'), '--jobs', str(self.words.jobs), *MORE]
+        words += ['--json', str(self.json), '--timeout', '60', *options, str(self.trace), '--']
+        self.json.unlink(missing_ok=True)
+        report = output_of([*words, str(self.session.path / 'check.sh'), self.session.name])
+        if not self.json.exists():
+            raise NoResult('crashfs-check made no report')
+        return report
+
+    def limit_words(self) -> List[str]:
+        """The option of the time limit, if there is one. It ends a check before its disks, which
+        then have a check of their own, in which only the prefixes are tried besides them."""
+        return ['--time-limit', self.words.time_limit] if self.words.time_limit else []
+
+    def disk_words(self) -> List[str]:
+        """The option of the disks, if they are asked for and the session isn't too long."""
+        is_asked = self.words.disks and self.has_few_operations()
+        return ['--disks', self.words.disks] if is_asked else []
 
     def has_few_operations(self) -> bool:
+        """Whether the session has so few operations that it is made again on disks."""
         text = self.trace.read_bytes()
         return text.count(b'\n{"op":') <= MOST_OPERATIONS
 
 
-def run(words: List[str]) -> str:
-    """Runs a command, shows what it says on standard error, and returns what it printed."""
+def output_of(words: List[str]) -> str:
+    """Runs a command to its end, and returns what it printed on standard output. Its status doesn't
+    matter: the files that it makes do."""
     ran = subprocess.run(words, stdin=subprocess.DEVNULL, stdout=subprocess.PIPE, check=False)
     return ran.stdout.decode('utf-8', 'replace')
 
 
-def main(given: List[str]) -> int:
-    words = words_of(given)
-    stop_by_exception()
-    results = ResultsFile()
-    missing = []
-    for session in sessions(words.names):
-        version = version_of(session.about['package'])
+def make_row(session: Session, words: argparse.Namespace) -> bool:
+    """Makes the row of a session, puts it into docs/results.json and prints its first line; prints
+    why there is none, and returns whether there is one."""
+    try:
         with tempfile.TemporaryDirectory(prefix='measure-stores-') as folder:
-            row = Check(session, words, Path(folder)).row() if version else None
-        if row is None:
-            missing.append(session.key)
-            print(f'{session.key}: no result', file=sys.stderr)
-            continue
-        results.put({**row, 'version': version})
-        print(f'{session.key}: {row["report"][0]}', flush=True)
-    return 1 if missing else 0
+            row = Check(session, words, Path(folder)).row()
+    except NoResult as why:
+        print(f'{session.key}: no result: {why}', file=sys.stderr, flush=True)
+        return False
+    ResultsFile().put(row)
+    print(f'{session.key}: {row["report"][0]}', flush=True)
+    return True
+
+
+def main(given: List[str]) -> int:
+    """Runs `measure stores` with these words, and returns its status: 1 if a session has no row.
+    Rows that were made before a stop stay."""
+    words = parsed_words(given)
+    stop_by_exception()
+    try:
+        found = [make_row(session, words) for session in sessions(words.names)]
+    except Stopped as stop:
+        print(f'measure stores: stopped by {stop}', file=sys.stderr)
+        return stop.status
+    return 0 if all(found) else 1

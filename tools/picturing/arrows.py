@@ -1,14 +1,15 @@
-"""A picture of which micro-operation of a session needs which, and by which rule."""
+"""The picture of which micro-operation of a session needs which, and by which rule."""
 
 from __future__ import annotations
 
 from typing import Dict, List, Tuple
 
-from .session import Session
-from .svg import MARGIN, Picture, area, curve, text
+from .session import ModelledSession
+from .svg import MARGIN, Picture, path_element, rectangle, text_element
 
+# Where numbers end, and where words and arrows begin.
 NUMBER, WORDS, ARROWS = MARGIN + 18, MARGIN + 26, 262
-# What a rule says, and the colour of its arrows.
+# What the key says of a rule, and the colour of its arrows.
 RULES = {
     'P5': ('a sync between them covers the earlier one', 'sync'),
     'P9': ('what was acknowledged comes before all that follows', 'grey'),
@@ -23,16 +24,18 @@ STYLE = """.arrow { fill: none; stroke-width: 1.3 }
 """
 
 
-def bend(top: float, bottom: float, classes: str) -> str:
-    """An arrow from a lower row to a higher one, further out the longer it is."""
+def bent_arrow(top: float, bottom: float, classes: str) -> str:
+    """An arrow from the row at `bottom` up to the row at `top`. A longer one bends further to the
+    right, so that arrows of one row differ."""
     out = ARROWS + 14 + (bottom - top) * 0.85
     steps = f'M{ARROWS} {bottom:g}C{out:g} {bottom:g} {out:g} {top:g} {ARROWS} {top:g}'
     head = 'm5 -3l-5 3l5 3'
-    return curve(steps + head, f'arrow {classes}')
+    return path_element(steps + head, f'arrow {classes}')
 
 
-def missing(session: Session) -> Tuple[int, int]:
-    """The acknowledged line and the rename that it should need, and doesn't."""
+def missing_need(session: ModelledSession) -> Tuple[int, int]:
+    """The places of the last acknowledged line and of the rename, which it should need and doesn't.
+    ValueError if it needs it, or if the session hasn't exactly one rename."""
     last = max(place for place, one in enumerate(session.operations) if one.kind == 'say')
     (move,) = (at for at, one in enumerate(session.operations) if one.kind == 'move_dir_entry')
     if session.order.needs[last] >> move & 1:
@@ -40,23 +43,24 @@ def missing(session: Session) -> Tuple[int, int]:
     return last, move
 
 
-def draw_rows(picture: Picture, session: Session) -> Dict[int, float]:
-    """Adds the rows of the session, and returns where each micro-operation is."""
+def draw_rows(picture: Picture, session: ModelledSession) -> Dict[int, float]:
+    """Adds the rows of the session, and returns for each place the height at which arrows meet its
+    row."""
     found: Dict[int, float] = {}
     for row in session.rows():
-        picture.line(row.words, f'code {"sync" if row.place is None else "ink"}', WORDS)
+        picture.add_line(row.words, f'code {"sync" if row.place is None else "ink"}', WORDS)
         number = str(row.line.number) if row.place is None else str(row.place)
         colour = 'sync' if row.place is None else 'grey'
         if row.place is None:
-            picture.parts.append(text(NUMBER, picture.y, '\u2014', f'code end {colour}'))
+            picture.add(text_element(NUMBER, picture.y, '\u2014', f'code end {colour}'))
         else:
-            picture.parts.append(text(NUMBER, picture.y, number, f'code end {colour}'))
+            picture.add(text_element(NUMBER, picture.y, number, f'code end {colour}'))
             found[row.place] = picture.y - 5
     return found
 
 
-def alternative(arrows: List[Tuple[int, int, str]], last: int, move: int) -> str:
-    """What the picture shows, in words."""
+def alternative_text(arrows: List[Tuple[int, int, str]], last: int, move: int) -> str:
+    """What the picture shows, in words: its arrows, and the one that is missing."""
     needs: Dict[int, List[str]] = {}
     for later, earlier, rule in arrows:
         needs.setdefault(later, []).append(f'{earlier} ({rule})')
@@ -68,20 +72,20 @@ def alternative(arrows: List[Tuple[int, int, str]], last: int, move: int) -> str
     )
 
 
-def arrows_picture(session: Session) -> str:
-    """The picture, as SVG."""
-    arrows, (last, move) = list(session.arrows()), missing(session)
-    picture = Picture('Which micro-operation needs which', alternative(arrows, last, move))
-    picture.line('Micro-operations, and what each one needs', 'title')
+def arrows_picture(session: ModelledSession) -> str:
+    """The picture of a session's needs, as SVG. ValueError if nothing is missing among them."""
+    arrows, (last, move) = list(session.direct_needs()), missing_need(session)
+    picture = Picture('Which micro-operation needs which', alternative_text(arrows, last, move))
+    picture.add_line('Micro-operations, and what each one needs', 'title')
     rows = draw_rows(picture, session)
     for later, earlier, rule in arrows:
-        picture.parts.append(bend(rows[earlier], rows[later], RULES[rule][1]))
-    picture.parts.append(bend(rows[move], rows[last], 'bad'))
+        picture.add(bent_arrow(rows[earlier], rows[later], RULES[rule][1]))
+    picture.add(bent_arrow(rows[move], rows[last], 'bad'))
     picture.y += 6
     for rule in dict.fromkeys(rule for _, _, rule in arrows):
         words, colour = RULES[rule]
-        picture.parts.append(area(MARGIN, picture.y + 13, 18, 2, colour))
-        picture.line(f'{rule}: {words}', x=WORDS)
-    picture.parts.append(curve(f'M{MARGIN} {picture.y + 14:g}h18', 'arrow bad'))
-    picture.line(f'missing: nothing makes {last} need {move}, the rename', 'bad', WORDS)
-    return picture.svg(STYLE)
+        picture.add(rectangle(MARGIN, picture.y + 13, 18, 2, colour))
+        picture.add_line(f'{rule}: {words}', x=WORDS)
+    picture.add(path_element(f'M{MARGIN} {picture.y + 14:g}h18', 'arrow bad'))
+    picture.add_line(f'missing: nothing makes {last} need {move}, the rename', 'bad', WORDS)
+    return picture.svg_file(STYLE)

@@ -1,11 +1,12 @@
-"""A picture of the tools, what passes between them, and the border of what is proved."""
+"""The picture of the tools, what passes between them, and the border of what is proved."""
 
 from __future__ import annotations
 
 from typing import NamedTuple, Sequence
 
-from .svg import MARGIN, WIDTH, Picture, area, curve, text
+from .svg import MARGIN, WIDTH, Picture, path_element, rectangle, text_element
 
+# Where boxes begin, their width and height, and the gap between two for an arrow.
 LEFT, WIDE, HIGH, GAP = 130, 200, 40, 38
 STYLE = """.box { fill: var(--paper); stroke: var(--grey) }
 .proved { fill: none; stroke: var(--good); stroke-width: 2.5; stroke-dasharray: 7 4 }
@@ -20,7 +21,8 @@ ALTERNATIVE = (
 
 
 class Box(NamedTuple):
-    """A part of the tools: its name, what it is, and what it passes to the next one."""
+    """A part of the tools: its name, what it is, and what it passes to the next one; empty if
+    nothing is said of it, or if there is no next one."""
 
     name: str
     about: str
@@ -38,29 +40,29 @@ BOXES: Sequence[Box] = (
 
 
 def draw_box(picture: Picture, box: Box) -> None:
-    """Adds a part, and an arrow from it with what it passes on."""
+    """Adds a part, and an arrow from it with what it passes on, if it does."""
     top, middle = picture.y, LEFT + WIDE / 2
-    picture.parts.append(area(LEFT, top, WIDE, HIGH, 'box'))
+    picture.add(rectangle(LEFT, top, WIDE, HIGH, 'box'))
     at = top + (17 if box.about else 25)
-    picture.parts.append(text(middle, at, box.name, 'title middle'))
+    picture.add(text_element(middle, at, box.name, 'title middle'))
     if box.about:
-        picture.parts.append(text(middle, top + 34, box.about, 'grey middle'))
+        picture.add(text_element(middle, top + 34, box.about, 'grey middle'))
     if box.passes:
         steps = f'M{middle:g} {top + HIGH}v{GAP}m-4 -6l4 6l4 -6'
-        picture.parts.append(curve(steps, 'arrow'))
-        picture.parts.append(text(middle + 10, top + HIGH + 20, box.passes))
+        picture.add(path_element(steps, 'arrow'))
+        picture.add(text_element(middle + 10, top + HIGH + 20, box.passes))
     picture.y += HIGH + (GAP if box.passes else 0)
 
 
 def border_picture() -> str:
-    """The picture, as SVG."""
+    """The picture of the tools, as SVG."""
     picture = Picture('The tools, and the border of what is proved', ALTERNATIVE)
     picture.y = MARGIN + 4
     for box in BOXES:
         if box.name == 'crashfs':
             frame = f'x="{MARGIN}" y="{picture.y - 6:g}" width="{WIDTH - 2 * MARGIN}"'
-            picture.parts.append(f'<rect {frame} height="{HIGH + 12}" rx="6" class="proved"/>')
-            picture.parts.append(text(MARGIN + 10, picture.y + 17, 'proved:', 'title'))
-            picture.parts.append(text(MARGIN + 10, picture.y + 34, 'by the rules'))
+            picture.add(f'<rect {frame} height="{HIGH + 12}" rx="6" class="proved"/>')
+            picture.add(text_element(MARGIN + 10, picture.y + 17, 'proved:', 'title'))
+            picture.add(text_element(MARGIN + 10, picture.y + 34, 'by the rules'))
         draw_box(picture, box)
-    return picture.svg(STYLE)
+    return picture.svg_file(STYLE)

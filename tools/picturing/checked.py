@@ -13,23 +13,25 @@ from crashfs_tools.checker.findings.groups import Findings
 from crashfs_tools.common.guard import Guard
 from crashfs_tools.common.program import Crashfs
 from crashfs_tools.checker.report.report import CheckReport
+from crashfs_tools.checker.running.trials import Trials
 
 
-class Checked(NamedTuple):
-    """What a check found, its report, and the files of the state that is shown."""
+class CheckedExample(NamedTuple):
+    """What a check of an example found, its report, and the files of the state that is the example
+    of the report's first entry."""
 
     findings: Findings
     report: CheckReport
     files: Entries
 
 
-def checked(trace: str, command: Sequence[str]) -> Checked:
-    """Checks a trace of one window by the second reading. The files are those of the example of the
-    report's first entry."""
+def check_example(trace: str, command: Sequence[str]) -> CheckedExample:
+    """Checks a trace of one window by the second reading, so that pictures don't depend on a built
+    program. Raises what stopped the check, if something did, and ValueError if no state fails."""
     words = ['--unproved', '--html', os.devnull, trace, '--', *command]
     options = read_options(words)
-    program = Crashfs.find_or_read(None, unproved=True)
-    with Guard('crashfs-picture-') as guard:
+    program = Crashfs.program_or_reading(None, unproved=True)
+    with Guard('crashfs-picture') as guard:
         checked_trace = CheckedTrace(options, program, guard)
         check = Check(checked_trace)
         report, _, end = check.run()
@@ -37,6 +39,8 @@ def checked(trace: str, command: Sequence[str]) -> Checked:
             raise end
         planned = next(iter(checked_trace.all_planned()))
         assert check.last is not None
+        if not report.groups():
+            raise ValueError(f'no state of {trace} fails')
         state = report.groups()[0].example.number
-        files = checked_trace.trials(planned).tree(state)
-    return Checked(check.last.findings, report, files)
+        files = Trials(checked_trace.workplace, planned).tree(state)
+    return CheckedExample(check.last.findings, report, files)

@@ -1,4 +1,4 @@
-"""Which pictures there are; most are made from checks of examples."""
+"""Which pictures docs/images has; most are made from checks of examples."""
 
 from __future__ import annotations
 
@@ -7,8 +7,8 @@ from typing import Dict
 
 from .arrows import arrows_picture
 from .border import border_picture
-from .checked import checked
-from .session import Session
+from .checked import check_example
+from .session import ModelledSession
 from .sets import sets_picture
 from .states import states_picture
 from .timeline import timeline_picture
@@ -17,9 +17,11 @@ from .windows import windows_picture
 TOP = Path(__file__).resolve().parents[2]
 IMAGES = TOP / 'docs' / 'images'
 EXAMPLES = TOP / 'examples'
-# The session of the tutorial, and where its second half begins: the compaction.
+# What the tutorial's check.py is given after the store, for first.trace.
 PUTS = ('0', 'a=1', 'a=2', 'compact', 'b=3')
+# The line of first.trace at which the compaction begins.
 COMPACTION = 10
+# What recovery makes of the failing state of first.trace.
 VERDICT = (
     'Recovery reads /data.log, which is the old log. The row b=3 is on the disk, under the wrong '
     'name: nothing synced the directory after the rename.'
@@ -27,14 +29,14 @@ VERDICT = (
 
 
 def pictures() -> Dict[Path, str]:
-    """The text of each picture, by its file."""
+    """The text of each picture, by its file. Raises what stops a check of an example."""
     sqlite, tutorial = EXAMPLES / 'sqlite', EXAMPLES / 'tutorial'
-    session = checked(str(sqlite / 'full.trace'), [str(sqlite / 'recover.sh')])
-    check = [str(tutorial / 'check.py'), str(tutorial / 'kv.py'), *PUTS]
-    toy = checked(str(tutorial / 'first.trace'), check)
-    modelled = Session(toy, tutorial / 'first.trace')
+    full = check_example(str(sqlite / 'full.trace'), [str(sqlite / 'recover.sh')])
+    recovery = [str(tutorial / 'check.py'), str(tutorial / 'kv.py'), *PUTS]
+    toy = check_example(str(tutorial / 'first.trace'), recovery)
+    modelled = ModelledSession(toy, tutorial / 'first.trace')
     return {
-        IMAGES / 'sqlite-full.svg': states_picture(session),
+        IMAGES / 'sqlite-full.svg': states_picture(full),
         IMAGES / 'failing-state.svg': timeline_picture(toy, COMPACTION, VERDICT),
         IMAGES / 'model.svg': sets_picture(modelled),
         IMAGES / 'needs.svg': arrows_picture(modelled),

@@ -7,29 +7,31 @@ from dataclasses import dataclass
 from pathlib import Path
 from typing import Iterator, Optional, Set, Tuple
 
-from crashfs_tools.checker.states.plan import places_of
+from crashfs_tools.checker.states.place_sets import places_of
 from crashfs_tools.common.trace_lines import SYNCS, TraceLine
 from crashfs_tools.reading.every import every_set
 from crashfs_tools.reading.order import Order, marks_of_same_thing
 from crashfs_tools.reading.states import States
 from crashfs_tools.reading.trace import read
 
-from .checked import Checked
+from .checked import CheckedExample
 
 
 @dataclass(frozen=True)
 class Row:
-    """A row of the session: a micro-operation by its place, or a line that syncs."""
+    """A row of a picture of a session: a micro-operation with its place, or a line that syncs, with
+    none. words say what it does, to which file."""
 
     line: TraceLine
     place: Optional[int]
     words: str
 
 
-class Session:
-    """The session of a check, read again by the second reading."""
+class ModelledSession:
+    """The session of a checked trace, with the order of its micro-operations and all sets that a
+    crash may leave of them, by the second reading. A set is an int with a bit for each place."""
 
-    def __init__(self, checked: Checked, trace: Path) -> None:
+    def __init__(self, checked: CheckedExample, trace: Path) -> None:
         self.reading = read(trace.read_bytes())
         self.order = Order(self.reading)
         self.operations = checked.findings.plan.operations
@@ -37,8 +39,9 @@ class Session:
         self.sets = list(every_set(self.order))
         self.failing = self.failing_sets(checked)
 
-    def failing_sets(self, checked: Checked) -> Set[int]:
-        """The sets that leave a state in which the check's command failed."""
+    def failing_sets(self, checked: CheckedExample) -> Set[int]:
+        """The sets that leave a state in which the check's command failed. The check tried only the
+        first set that leaves a state; states with equal digests are equal."""
         plan, states = checked.findings.plan, States(self.reading)
 
         def left_by(places: int) -> Tuple[object, int]:
@@ -49,23 +52,26 @@ class Session:
         return {places for places in self.sets if left_by(places) in failing}
 
     def rows(self) -> Iterator[Row]:
-        """The micro-operations in their order, and between them the lines that sync."""
+        """The micro-operations in their order, and between them the lines that sync: no line makes
+        both."""
         for number, line in self.lines.items():
             if line.word in SYNCS:
                 yield Row(line, None, line.text)
             for place, one in enumerate(self.operations):
                 if one.line == number:
-                    yield Row(line, place, words_of(one.kind, line))
+                    yield Row(line, place, row_words(one.kind, line))
 
-    def arrows(self) -> Iterator[Tuple[int, int, str]]:
-        """Which place needs which, and by which rule, without what follows from the others."""
+    def direct_needs(self) -> Iterator[Tuple[int, int, str]]:
+        """Each place with an earlier one that it needs and the rule, without needs that follow from
+        the others by a chain."""
         for later, needs in enumerate(self.order.needs):
             for earlier in places_of(needs):
                 if not any(self.order.needs[it] >> earlier & 1 for it in places_of(needs)):
-                    yield later, earlier, self.rule(later, earlier)
+                    yield later, earlier, self.rule_of_need(later, earlier)
 
-    def rule(self, later: int, earlier: int) -> str:
-        """The rule by which one micro-operation needs another: a sync first of all."""
+    def rule_of_need(self, later: int, earlier: int) -> str:
+        """The rule by which a place needs an earlier one: P5 if a sync between them covers it, else
+        one of those that a trace of version 3 with the profile `blocks` and no link has."""
         one, two = self.reading.operations[earlier], self.reading.operations[later]
         if self.order.synced[later] >> earlier & 1:
             return 'P5'
@@ -77,6 +83,6 @@ class Session:
         )
 
 
-def words_of(kind: str, line: TraceLine) -> str:
-    """A micro-operation with the file or the line that it is of."""
+def row_words(kind: str, line: TraceLine) -> str:
+    """A micro-operation's kind with the text that is acknowledged, or with the path of its line."""
     return f'{kind} {line.details if kind == "say" else line.path.lstrip("/")}'

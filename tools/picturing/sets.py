@@ -1,63 +1,64 @@
-"""A picture of a session's micro-operations, with all sets of them that a crash may leave."""
+"""The picture of a session's micro-operations, with all sets of them that a crash may leave."""
 
 from __future__ import annotations
 
 import textwrap
 
-from .session import Row, Session
-from .svg import LINE, MARGIN, WIDTH, Picture, area, text
+from .session import ModelledSession, Row
+from .svg import LINE, MARGIN, WIDTH, Picture, rectangle, text_element
 
+# Where the numbers of lines end, and where words and cells begin.
 NUMBER, WORDS, SETS = MARGIN + 18, MARGIN + 26, 240
+# So many letters of the text below fit a line.
 COLUMNS = 62
 STYLE = '.none { fill: var(--edge); opacity: .45 }\n'
 
 
-def column_width(session: Session) -> float:
+def column_width(session: ModelledSession) -> float:
+    """The width of the column of a set, so that all fill the picture."""
     return (WIDTH - MARGIN - SETS) / len(session.sets)
 
 
-def draw_row(picture: Picture, session: Session, row: Row, is_first: bool) -> None:
-    """Adds a micro-operation with a cell for each set, or a line that syncs."""
-    is_sync = row.place is None
-    colour = 'sync' if is_sync else 'ink'
-    words = f'{row.words} ' if is_sync else row.words
-    picture.line(words, f'code {colour}', WORDS)
-    if is_first:
-        picture.parts.append(text(NUMBER, picture.y, str(row.line.number), 'code end grey'))
+def draw_row(picture: Picture, session: ModelledSession, row: Row, *, has_number: bool) -> None:
+    """Adds the row of a micro-operation, with a cell for each set: faint if the set lacks it, else
+    in the colour of whether recovery fails. Or that of a line that syncs, with a rule. has_number:
+    the number of its line is shown."""
+    picture.add_line(row.words, f'code {"sync" if row.place is None else "ink"}', WORDS)
+    if has_number:
+        picture.add(text_element(NUMBER, picture.y, str(row.line.number), 'code end grey'))
     if row.place is None:
-        picture.parts.append(area(SETS, picture.y - 5, WIDTH - MARGIN - SETS, 1, 'sync'))
+        picture.add(rectangle(SETS, picture.y - 5, WIDTH - MARGIN - SETS, 1, 'sync'))
         return
     width = column_width(session)
     for column, places in enumerate(session.sets):
         kept = 'bad' if places in session.failing else 'good'
         classes = kept if places >> row.place & 1 else 'none'
         x = SETS + column * width
-        picture.parts.append(area(x, picture.y - 12, width - 1, LINE - 4, classes))
+        picture.add(rectangle(x, picture.y - 12, width - 1, LINE - 4, classes))
 
 
-def alternative(session: Session, rows: int) -> str:
-    """What the picture shows, in words."""
+def alternative_text(session: ModelledSession, rows: int) -> str:
+    """What a picture of so many rows shows, in words."""
     lines = {one.line for one in session.operations}
     return (
         f'A table of {rows} rows and {len(session.sets)} columns. The rows are the '
         f'{len(session.operations)} micro-operations of {len(lines)} lines of a session, and its '
         f'{rows - len(session.operations)} syncs. Each column is a set of micro-operations that a '
-        'crash may leave on the disk: one that has a row below a sync has all that the sync '
-        'covers. In '
-        f'{len(session.failing)} columns recovery fails: they have the last row, and lack the '
-        'rename of line 13.'
+        'crash may leave on the disk: if it has a row below a sync, it has all that the sync '
+        f'covers. In {len(session.failing)} columns recovery fails: these have the last row, but '
+        'not the rename of line 13.'
     )
 
 
-def sets_picture(session: Session) -> str:
-    """The picture, as SVG."""
+def sets_picture(session: ModelledSession) -> str:
+    """The picture of a session's sets, as SVG. Its words are about the session of the tutorial."""
     rows = list(session.rows())
-    picture = Picture('What a crash may leave of a session', alternative(session, len(rows)))
-    picture.line('Line, micro-operations', 'title')
-    picture.parts.append(text(SETS, picture.y, f'{len(session.sets)} sets, a column each', 'title'))
+    picture = Picture('What a crash may leave of a session', alternative_text(session, len(rows)))
+    picture.add_line('Line, micro-operations', 'title')
+    picture.add(text_element(SETS, picture.y, f'{len(session.sets)} sets, a column each', 'title'))
     before = 0
     for row in rows:
-        draw_row(picture, session, row, row.line.number != before)
+        draw_row(picture, session, row, has_number=row.line.number != before)
         before = row.line.number
     picture.y += 6
     for words in textwrap.wrap(
@@ -66,5 +67,5 @@ def sets_picture(session: Session) -> str:
         'acknowledged, but the rename of line 13 is lost: recovery fails.',
         COLUMNS,
     ):
-        picture.line(words)
-    return picture.svg(STYLE)
+        picture.add_line(words)
+    return picture.svg_file(STYLE)

@@ -1,4 +1,4 @@
-"""A picture of all states of a session, as the page of `crashfs-check --html` draws them."""
+"""The picture of all states of a session, as the page of `crashfs-check --html` draws them."""
 
 from __future__ import annotations
 
@@ -8,13 +8,14 @@ from typing import Dict, List
 from crashfs_tools.checker.report.drawing import Drawing, drawing_of
 from crashfs_tools.checker.report.text import ReportText
 
+from .checked import CheckedExample
+from .svg import LINE, MARGIN, WIDTH, Picture, rectangle, text_element
 
-from .checked import Checked
-from .svg import LINE, MARGIN, WIDTH, Picture, area, text
-
+# The side of a state's square, with the gap after it.
 CELL = 5
+# So many letters of a text fit a line.
 COLUMNS = 60
-# The result of a state: its colour, and the word of the legend.
+# The sign of a state's result in a drawing: its colour, and what the key says of it.
 RESULTS = {'g': ('good', 'recovery found all rows'), 'b': ('bad', 'an acknowledged row is lost')}
 STYLE = f""".cells {{ fill: none; stroke-width: {CELL - 1}; stroke-dasharray: {CELL - 1} 1 }}
 .cells.good {{ stroke: var(--good) }}
@@ -22,9 +23,10 @@ STYLE = f""".cells {{ fill: none; stroke-width: {CELL - 1}; stroke-dasharray: {C
 """
 
 
-def rows_of(drawing: Drawing) -> List[str]:
-    """A sign for each state: the prefixes in the first row, and below it a row for each
-    micro-operation, with the states that lack it."""
+def rows_of_holes(drawing: Drawing) -> List[str]:
+    """The signs of prefixes and of states with one hole, as rows: the prefixes first, then for each
+    micro-operation the states that lack it. A column is how much of the session had begun; a blank
+    is no state."""
     ends = range(len(drawing['prefixes']))
     holes: List[str] = drawing['holes']
     lacking = [
@@ -35,25 +37,28 @@ def rows_of(drawing: Drawing) -> List[str]:
 
 
 def runs_of(row: str, sign: str) -> List[range]:
-    """Where a row has the sign, as ranges of columns."""
+    """The columns at which a row has the sign, as the fewest ranges."""
     found: List[range] = []
-    for place in (at for at, one in enumerate(row) if one == sign):
-        if found and found[-1].stop == place:
-            found[-1] = range(found[-1].start, place + 1)
+    for column in (at for at, one in enumerate(row) if one == sign):
+        if found and found[-1].stop == column:
+            found[-1] = range(found[-1].start, column + 1)
         else:
-            found.append(range(place, place + 1))
+            found.append(range(column, column + 1))
     return found
 
 
-def paths_of(rows: List[str], y: float) -> List[str]:
-    """For each colour a path whose dashes are the states of that colour."""
+def paths_of_results(rows: List[str], y: float) -> List[str]:
+    """For each sign of RESULTS a path whose dashes are the states of rows that begin at y; other
+    signs are not drawn."""
     return [
-        f'<path class="cells {RESULTS[sign][0]}" d="{dashes(rows, sign, y)}"/>' for sign in RESULTS
+        f'<path class="cells {RESULTS[sign][0]}" d="{path_steps(rows, sign, y)}"/>'
+        for sign in RESULTS
     ]
 
 
-def dashes(rows: List[str], sign: str, y: float) -> str:
-    """The steps of a path along the states with the sign."""
+def path_steps(rows: List[str], sign: str, y: float) -> str:
+    """The steps of a path along the states with the sign, in rows that begin at y. The dashes of
+    STYLE cut it into squares, so each run ends before the last gap."""
     return ''.join(
         f'M{MARGIN + run.start * CELL:g} {y + (number + 0.5) * CELL:g}h{len(run) * CELL - 1}'
         for number, row in enumerate(rows)
@@ -61,39 +66,40 @@ def dashes(rows: List[str], sign: str, y: float) -> str:
     )
 
 
-def acknowledged(checked: Checked) -> Dict[int, str]:
-    """The column from which on an acknowledged line was printed, with the line."""
+def acknowledged_columns(checked: CheckedExample) -> Dict[int, str]:
+    """Each acknowledged line by the first column in which it had been printed."""
     lines = checked.report.head.lines
     operations = enumerate(checked.findings.plan.operations)
     return {at + 1: lines[one.line].details for at, one in operations if one.kind == 'say'}
 
 
-def draw_holes(picture: Picture, checked: Checked, drawing: Drawing) -> None:
-    """Adds the prefixes and the states with one hole. A line above them is where a line was
-    acknowledged."""
-    rows = rows_of(drawing)
+def draw_holes(picture: Picture, checked: CheckedExample, drawing: Drawing) -> None:
+    """Adds the prefixes and the states with one hole, and above the column of each acknowledged
+    line its words."""
+    rows = rows_of_holes(drawing)
     picture.y += LINE
-    for column, words in acknowledged(checked).items():
+    for column, words in acknowledged_columns(checked).items():
         x = MARGIN + column * CELL
-        picture.parts.append(text(x + CELL, picture.y, words, 'end'))
-        picture.parts.append(area(x - 1, picture.y + 4, 1, column * CELL, 'edge'))
+        picture.add(text_element(x + CELL, picture.y, words, 'end'))
+        picture.add(rectangle(x - 1, picture.y + 4, 1, column * CELL, 'edge'))
     picture.y += 6
-    picture.parts += paths_of(rows, picture.y)
+    picture.parts += paths_of_results(rows, picture.y)
     picture.y += len(rows) * CELL
 
 
 def draw_picks(picture: Picture, drawing: Drawing) -> None:
     """Adds the states with other losses: a row for each number of steps that they lack."""
-    picture.line(
+    picture.add_line(
         f'and {len(drawing["picks"]):,} states with other losses, \u2193 more in each row:'
     )
     rows = rows_by_loss(drawing)
-    picture.parts += paths_of(rows, picture.y + 6)
+    picture.parts += paths_of_results(rows, picture.y + 6)
     picture.y += 6 + len(rows) * CELL
 
 
 def rows_by_loss(drawing: Drawing) -> List[str]:
-    """The signs of the states that lack equally many micro-operations, as wide as the picture."""
+    """The signs of the states with other losses, as rows of the picture's width: those that lack
+    equally many micro-operations follow each other, and begin a row."""
     most = (WIDTH - 2 * MARGIN) // CELL
     signs: Dict[int, str] = {}
     for _, sign, lacks in drawing['picks']:
@@ -102,48 +108,49 @@ def rows_by_loss(drawing: Drawing) -> List[str]:
 
 
 def draw_key(picture: Picture) -> None:
-    """Adds what rows, columns and colours are, in the corner that has no states."""
+    """Adds what rows, columns and colours mean, in the corner that has no states: the last rows of
+    draw_holes, which end at the present y, have states only at the right."""
     bottom, picture.y = picture.y, picture.y - 5 * LINE - 8
     for sign, (colour, words) in RESULTS.items():
-        picture.parts.append(area(MARGIN, picture.y + 9, 11, 11, colour))
-        picture.line(words, x=MARGIN + 18)
-    picture.line('\u2192 how much of the session had begun', 'grey')
-    picture.line('\u2193 the step that the crash lost (top: none)', 'grey')
-    picture.line('equal states are drawn at each of their places', 'grey')
+        picture.add(rectangle(MARGIN, picture.y + 9, 11, 11, colour))
+        picture.add_line(words, x=MARGIN + 18)
+    picture.add_line('\u2192 how much of the session had begun', 'grey')
+    picture.add_line('\u2193 the step that the crash lost (top: none)', 'grey')
+    picture.add_line('equal states are drawn more than once', 'grey')
     picture.y = bottom
 
 
-def alternative(checked: Checked, drawing: Drawing) -> str:
+def alternative_text(checked: CheckedExample, drawing: Drawing) -> str:
     """What the picture shows, in words."""
     group = checked.report.groups()[0]
     assert group.lost is not None
     failing = sum(one.count for one in checked.report.groups())
-    signs = ''.join([*rows_of(drawing), *rows_by_loss(drawing)]).replace(' ', '')
+    signs = ''.join([*rows_of_holes(drawing), *rows_by_loss(drawing)]).replace(' ', '')
     return (
-        f'Each of {len(signs):,} squares is a crash state; equal states have several. Columns are '
-        'how much of the session had '
-        'begun, and rows the step that the crash lost; the rows below have the states with other '
-        f'losses. After each of the {len(acknowledged(checked))} acknowledged rows there is a red '
-        f'row: the states that lost {group.lost.text}, and so that row. In all '
-        f'{signs.count("b"):,} squares are red, of {failing} different states.'
+        f'{len(signs):,} squares, each a crash state; equal states are drawn more than once. Each '
+        'column is a moment of the crash, each row the step that it lost; below are states with '
+        'other losses. Red: an acknowledged row is lost. After each of the '
+        f'{len(acknowledged_columns(checked))} acknowledged rows begins a row of red squares, the '
+        f'states without {group.lost.text}. {signs.count("b"):,} squares are red, of {failing} '
+        'different states.'
     )
 
 
-def states_picture(checked: Checked) -> str:
-    """The picture, as SVG."""
+def states_picture(checked: CheckedExample) -> str:
+    """The picture of a check's states, as SVG, with the first entry of its report."""
     drawing = drawing_of(checked.findings)
     title = f'The crash states of {checked.report.head.trace}'
-    picture = Picture(title, alternative(checked, drawing))
+    picture = Picture(title, alternative_text(checked, drawing))
     for line in textwrap.wrap(ReportText(checked.report).summary(), COLUMNS):
-        picture.line(line, 'title')
+        picture.add_line(line, 'title')
     draw_holes(picture, checked, drawing)
     draw_key(picture)
     draw_picks(picture, drawing)
     group = checked.report.groups()[0]
     picture.y += 8
     for line in textwrap.wrap(group.cause, COLUMNS):
-        picture.line(line, 'title bad')
+        picture.add_line(line, 'title bad')
     for detail in ReportText(checked.report).details(group):
         for line in textwrap.wrap(detail, COLUMNS, subsequent_indent='  '):
-            picture.line(line)
-    return picture.svg(STYLE)
+            picture.add_line(line)
+    return picture.svg_file(STYLE)

@@ -29,7 +29,7 @@ FONTS = """text { font: 14px sans-serif; fill: var(--ink) }
 """
 
 
-def style() -> str:
+def common_style() -> str:
     """The style of all pictures: a class of each colour, for text and for areas."""
     sets = [''.join(f'--{name}: {pair[at]}; ' for name, pair in COLOURS.items()) for at in (0, 1)]
     classes = ''.join(f'.{name} {{ fill: var(--{name}) }}\n' for name in COLOURS)
@@ -37,38 +37,45 @@ def style() -> str:
     return f'svg {{ {sets[0]}}}\n{dark}\n{FONTS}{classes}'
 
 
-def text(x: float, y: float, words: str, classes: str = '') -> str:
-    """A line of text; classes name its font and colour."""
+def text_element(x: float, y: float, words: str, classes: str = '') -> str:
+    """A line of text that begins at x, or with the class `end` ends there; y is the bottom of its
+    letters. classes name its font and colour."""
     named = f' class="{classes}"' if classes else ''
     return f'<text x="{x:g}" y="{y:g}"{named}>{escape(words)}</text>'
 
 
-def area(x: float, y: float, width: float, height: float, classes: str) -> str:
+def rectangle(x: float, y: float, width: float, height: float, classes: str) -> str:
+    """A rectangle from its corner at the top left; classes name its colour."""
     return f'<rect x="{x:g}" y="{y:g}" width="{width:g}" height="{height:g}" class="{classes}"/>'
 
 
-def curve(steps: str, classes: str) -> str:
-    """A line along the steps of a path."""
+def path_element(steps: str, classes: str) -> str:
+    """A line along the steps of a path, in SVG's notation; classes name its colour."""
     return f'<path d="{steps}" class="{classes}"/>'
 
 
 @dataclass
 class Picture:
-    """A picture from top to bottom: y is where the next line of text is. title names it, and
-    alternative says in words what it shows."""
+    """A picture that is drawn from top to bottom: y is the bottom of what is there. title names it,
+    alternative says in words what it shows, and parts are its elements."""
 
     title: str
     alternative: str
     y: float = 0
     parts: List[str] = field(default_factory=list)
 
-    def line(self, words: str, classes: str = '', x: float = MARGIN) -> None:
-        """Adds a line of text below what is there."""
-        self.y += LINE
-        self.parts.append(text(x, self.y, words, classes))
+    def add(self, element: str) -> None:
+        """Adds an element that says itself where it is; y stays."""
+        self.parts.append(element)
 
-    def svg(self, more_style: str = '') -> str:
-        """The whole file; its own paper makes it legible on a page of any colour."""
+    def add_line(self, words: str, classes: str = '', x: float = MARGIN) -> None:
+        """Adds a line of text below what is there, and moves y to its bottom."""
+        self.y += LINE
+        self.parts.append(text_element(x, self.y, words, classes))
+
+    def svg_file(self, more_style: str = '') -> str:
+        """The whole file, as high as y. Its background makes it legible on a page of any colour.
+        more_style has the classes of this picture only."""
         height = self.y + MARGIN + 4
         paper = (
             f'<rect x=".5" y=".5" width="{WIDTH - 1}" height="{height - 1:g}" rx="6" '
@@ -79,7 +86,7 @@ class Picture:
             f'viewBox="0 0 {WIDTH} {height:g}" role="img" aria-labelledby="title what">',
             f'<title id="title">{escape(self.title)}</title>',
             f'<desc id="what">{escape(self.alternative)}</desc>',
-            f'<style>\n{style()}{more_style}</style>',
+            f'<style>\n{common_style()}{more_style}</style>',
             paper,
             *self.parts,
             '</svg>',

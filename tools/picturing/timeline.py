@@ -1,4 +1,4 @@
-"""A picture of one failing state: the session line by line, with what of it was on the disk."""
+"""The picture of one failing state: the session line by line, with what of it was on the disk."""
 
 from __future__ import annotations
 
@@ -7,16 +7,19 @@ from typing import Dict, List, Set
 
 from crashfs_tools.common.trace_lines import SYNCS, TraceLine
 
-from .checked import Checked
-from .svg import LINE, MARGIN, WIDTH, Picture, area, text
+from .checked import CheckedExample
+from .svg import LINE, MARGIN, WIDTH, Picture, rectangle, text_element
 
+# Where the numbers of lines end, where words begin, and where results end.
 NUMBER, WORDS, RESULT = MARGIN + 24, MARGIN + 36, WIDTH - MARGIN
+# So many letters of the verdict fit a line.
 COLUMNS = 54
 LOST = 'LOST'
+COLOUR_OF = {'acknowledged': 'grey', 'synced': 'sync', LOST: 'bad', 'on the disk': 'ink'}
 
 
-def lines_lost(checked: Checked) -> Set[int]:
-    """The lines of the session that the state lacks a part of."""
+def lines_lost(checked: CheckedExample) -> Set[int]:
+    """The numbers of the lines of which the state that is shown lacks a part."""
     plan = checked.findings.plan
     kept = plan.kept[checked.report.groups()[0].example.number]
     operations = enumerate(plan.operations)
@@ -24,7 +27,7 @@ def lines_lost(checked: Checked) -> Set[int]:
 
 
 def result_of(line: TraceLine, lost: Set[int]) -> str:
-    """What became of a line, in a word or two."""
+    """What became of a line, as a key of COLOUR_OF; lost are the numbers of lines that are lost."""
     if line.word == 'say':
         return 'acknowledged'
     if line.word in SYNCS:
@@ -32,21 +35,19 @@ def result_of(line: TraceLine, lost: Set[int]) -> str:
     return LOST if line.number in lost else 'on the disk'
 
 
-COLOUR_OF = {'acknowledged': 'grey', 'synced': 'sync', LOST: 'bad', 'on the disk': 'ink'}
-
-
 def draw_line(picture: Picture, line: TraceLine, result: str) -> None:
     """Adds a line of the session: its number, what it did, and what became of it."""
     if result == LOST:
-        picture.parts.append(area(1, picture.y + 5, WIDTH - 2, LINE, 'tint'))
+        picture.add(rectangle(1, picture.y + 5, WIDTH - 2, LINE, 'tint'))
     colour = COLOUR_OF[result]
-    picture.line(str(line.number), 'code end grey', NUMBER)
-    picture.parts.append(text(WORDS, picture.y, line.text, f'code {colour}'))
-    picture.parts.append(text(RESULT, picture.y, result, f'end {colour}'))
+    picture.add_line(str(line.number), 'code end grey', NUMBER)
+    picture.add(text_element(WORDS, picture.y, line.text, f'code {colour}'))
+    picture.add(text_element(RESULT, picture.y, result, f'end {colour}'))
 
 
-def content_of(checked: Checked) -> Dict[str, List[str]]:
-    """The lines of each file of the state."""
+def lines_of_files(checked: CheckedExample) -> Dict[str, List[str]]:
+    """The lines of each file of the state that is shown, by path. UnicodeDecodeError if one isn't
+    ASCII: a picture shows text."""
     return {
         path: bytes(entry.data).decode('ascii').splitlines()
         for path, entry in sorted(checked.files.items())
@@ -55,35 +56,37 @@ def content_of(checked: Checked) -> Dict[str, List[str]]:
 
 
 def draw_files(picture: Picture, files: Dict[str, List[str]]) -> None:
+    """Adds the path of each file, and its lines below."""
     for path, lines in files.items():
-        picture.line(f'{path}:', 'code')
+        picture.add_line(f'{path}:', 'code')
         for line in lines:
-            picture.line(line, 'code', WORDS)
+            picture.add_line(line, 'code', WORDS)
 
 
-def alternative(checked: Checked, shown: List[TraceLine], verdict: str) -> str:
-    """What the picture shows, in words."""
+def alternative_text(checked: CheckedExample, shown: List[TraceLine], verdict: str) -> str:
+    """What the picture of some lines of the session shows, in words."""
     number, lost = checked.report.groups()[0].example.number, lines_lost(checked)
     steps = '; '.join(f'{line.number} {line.text}: {result_of(line, lost)}' for line in shown)
-    files = '. '.join(f'{path} has {", ".join(rows)}' for path, rows in content_of(checked).items())
+    contents = lines_of_files(checked)
+    files = '. '.join(f'{path} has {", ".join(rows)}' for path, rows in contents.items())
     return f'State {number}. {steps}. Then the power fails. {files}. {verdict}'
 
 
-def timeline_picture(checked: Checked, first: int, verdict: str) -> str:
-    """The example of the report's first entry, as SVG, from a line of the session on. The verdict
-    says what recovery makes of the files."""
+def timeline_picture(checked: CheckedExample, first: int, verdict: str) -> str:
+    """The picture of the example of the report's first entry, as SVG: the session from line number
+    `first` on, and what the disk has then. The verdict says what recovery makes of these files."""
     group, lost = checked.report.groups()[0], lines_lost(checked)
     shown = [line for number, line in checked.report.head.lines.items() if number >= first]
     title = f'State {group.example.number} of {checked.report.head.trace}'
-    picture = Picture(title, alternative(checked, shown, verdict))
-    picture.line(f'{title}: line by line', 'title')
+    picture = Picture(title, alternative_text(checked, shown, verdict))
+    picture.add_line(f'{title}: line by line', 'title')
     for line in shown:
         draw_line(picture, line, result_of(line, lost))
     picture.y += 6
-    picture.line('The power fails. The disk has:', 'title')
-    draw_files(picture, content_of(checked))
+    picture.add_line('The power fails. The disk has:', 'title')
+    draw_files(picture, lines_of_files(checked))
     picture.y += 6
-    picture.line(group.cause, 'title bad')
+    picture.add_line(group.cause, 'title bad')
     for words in textwrap.wrap(verdict, COLUMNS):
-        picture.line(words)
-    return picture.svg()
+        picture.add_line(words)
+    return picture.svg_file()

@@ -1,4 +1,4 @@
-"""A picture of the windows in which a long session is checked, as the check divides one."""
+"""The picture of the windows in which a long session is checked, as a check divides this one."""
 
 from __future__ import annotations
 
@@ -12,31 +12,35 @@ from crashfs_tools.checker.options import Options
 from crashfs_tools.common.guard import Guard
 from crashfs_tools.common.program import Crashfs
 
-from .svg import LINE, MARGIN, Picture, area, text
+from .svg import LINE, MARGIN, Picture, rectangle, text_element
 
-# The windows of the picture are small, to be seen.
+# A window has fewer micro-operations than this, so that the picture shows several windows.
 LARGEST = 24
-ROWS = 14
+# How many rows the session appends, and the one before which it makes the file that it never syncs.
+ROWS, TABLE_ROW = 14, 5
+# The side of a micro-operation's square, with the gap after it.
 CELL = 8
+# So many letters of a text fit a line.
 COLUMNS = 62
 HEADER = '{"trace":3,"profile":"blocks","block":4096,"owner":"u","group":"u","mode":"755"}\n'
 RIGHTS = '"owner":"u","group":"u","mode":"644"'
 
 
 class Window(NamedTuple):
-    """Where a window of the session begins and ends, and what no sync had made durable at its end,
-    by places."""
+    """A window of the session: the first of its places, the first after them, and those of its
+    micro-operations that make a file. The last of these in the first window is never synced."""
 
     begin: int
     end: int
-    pending: List[int]
+    creates: List[int]
 
 
-def session() -> str:
-    """A session that appends rows to a log, and in its middle makes a file that is never synced."""
+def session_text() -> str:
+    """The trace of a session that appends rows to a log, and in its middle makes a file whose
+    directory it doesn't sync afterwards."""
     lines = [HEADER, f'{{"op":"creat","path":"/log",{RIGHTS}}}\n', '{"op":"fsync","path":"/"}\n']
     for row in range(ROWS):
-        if row == 5:
+        if row == TABLE_ROW:
             lines.append(f'{{"op":"creat","path":"/table",{RIGHTS}}}\n')
         lines.append(f'{{"op":"write","path":"/log","offset":{8 * row},"text":"row {row:3}\\n"}}\n')
         lines.append('{"op":"fsync","path":"/log"}\n')
@@ -45,13 +49,13 @@ def session() -> str:
 
 
 def windows_of_session() -> List[Window]:
-    """The windows into which a check divides the session."""
+    """The windows into which a check divides the session, in their order."""
     found = []
-    with tempfile.TemporaryDirectory() as folder, Guard('crashfs-picture-') as guard:
+    with tempfile.TemporaryDirectory() as folder, Guard('crashfs-picture') as guard:
         trace = Path(folder, 'session.trace')
-        trace.write_text(session(), 'utf-8')
+        trace.write_text(session_text(), 'utf-8')
         options = Options(str(trace), quick=True, window=LARGEST)
-        checked = CheckedTrace(options, Crashfs.find_or_read(None, unproved=True), guard)
+        checked = CheckedTrace(options, Crashfs.program_or_reading(None, unproved=True), guard)
         for planned in checked.all_planned():
             plan, begin = planned.plan, planned.offsets.operations
             creat = [at for at, one in enumerate(plan.operations) if one.kind == 'create_dir_entry']
@@ -60,44 +64,48 @@ def windows_of_session() -> List[Window]:
 
 
 def draw_window(picture: Picture, number: int, window: Window) -> None:
-    """Adds a window as a bar below the part of the session that it has."""
+    """Adds a window with its number, as a bar below the part of the session that it has."""
     left, right = (MARGIN + place * CELL for place in (window.begin, window.end))
     picture.y += LINE + 3
-    picture.parts.append(area(left, picture.y - 13, right - left - 1, 17, 'good'))
-    picture.parts.append(text(left + 5, picture.y, f'window {number}'))
+    picture.add(rectangle(left, picture.y - 13, right - left - 1, 17, 'good'))
+    picture.add(text_element(left + 5, picture.y, f'window {number}'))
 
 
-def alternative(windows: List[Window], places: int, lost: int) -> str:
-    """What the picture shows, in words."""
+def alternative_text(windows: List[Window], places: int, unsynced: int) -> str:
+    """What the picture shows, in words: of a session of so many places, one of which is never
+    synced."""
     parts = '; '.join(
         f'window {number} has {one.begin} to {one.end - 1}' for number, one in enumerate(windows, 1)
     )
     return (
-        f'A session of {places} micro-operations, as a row of squares. Number {lost} is never '
-        f'synced; of the others only the last ones are not durable at a time. {parts}. Window 2 '
-        f'begins at number {lost}, so its loss is tried with all that follows in that window.'
+        f'A session of {places} micro-operations, as a row of squares. Number {unsynced} is never '
+        f'synced; a sync soon makes each of the others durable. {parts}. Window 2 begins at number '
+        f'{unsynced}, so its loss is tried with all that follows in that window.'
     )
 
 
 def windows_picture() -> str:
-    """The picture, as SVG."""
+    """The picture of the windows, as SVG. ValueError if the second one doesn't begin at the file
+    that is never synced, as the words say."""
     windows = windows_of_session()
-    places, lost = windows[-1].end, windows[0].pending[-1]
-    picture = Picture('The windows of a long session', alternative(windows, places, lost))
-    picture.line('Micro-operations of a session, and windows', 'title')
+    places, unsynced = windows[-1].end, windows[0].creates[-1]
+    if windows[1].begin != unsynced:
+        raise ValueError('the second window must begin at what is never synced')
+    picture = Picture('The windows of a long session', alternative_text(windows, places, unsynced))
+    picture.add_line('Micro-operations of a session, and windows', 'title')
     picture.y += LINE + 2
     for place in range(places):
-        colour = 'bad' if place == lost else 'sync'
-        picture.parts.append(area(MARGIN + place * CELL, picture.y - 12, CELL - 1, 14, colour))
+        colour = 'bad' if place == unsynced else 'sync'
+        picture.add(rectangle(MARGIN + place * CELL, picture.y - 12, CELL - 1, 14, colour))
     for number, window in enumerate(windows, 1):
         draw_window(picture, number, window)
     picture.y += 6
-    picture.line('Red: a file is made, and its directory is never synced.', 'bad')
+    picture.add_line('Red: a file is made, and its directory is never synced.', 'bad')
     for words in textwrap.wrap(
         f'A window takes {LARGEST - 1} here, and 1,024 in a check. The next one begins at the '
-        'first operation that no sync has made durable, but at least half a window after the last '
+        'first operation that no sync has made durable, but at least half a window after this '
         'one began.',
         COLUMNS,
     ):
-        picture.line(words)
-    return picture.svg()
+        picture.add_line(words)
+    return picture.svg_file()

@@ -57,15 +57,16 @@ SCRIPTS = {
 
 
 def folders_of(items: Items) -> List[str]:
-    """The folders that the paths go through, the higher first."""
+    """The folders that the paths of items go through, each after the one that it is in."""
     found: Set[str] = set()
     for path in items:
         found.update(str(folder) for folder in Path(path).parents if str(folder) != '.')
     return sorted(found)
 
 
-def member(path: str, kind: bytes, mode: int, seconds: int) -> tarfile.TarInfo:
-    """The header of a member that belongs to root."""
+def member_header(path: str, kind: bytes, mode: int, seconds: int) -> tarfile.TarInfo:
+    """The header of a tar member that belongs to root, with a type, as tarfile.DIRTYPE, and a
+    time."""
     info = tarfile.TarInfo(path)
     info.type, info.mode, info.mtime = kind, mode, seconds
     info.uname = info.gname = 'root'
@@ -73,13 +74,13 @@ def member(path: str, kind: bytes, mode: int, seconds: int) -> tarfile.TarInfo:
 
 
 def add_all(archive: tarfile.TarFile, top: str, items: Items, seconds: int) -> None:
-    """Adds the folders and the files, below a folder of that name."""
+    """Adds items, with their folders, to an archive, all below a folder `top`."""
     for folder in ['', *folders_of(items)]:
         name = f'{top}/{folder}'.rstrip('/')
-        archive.addfile(member(name, tarfile.DIRTYPE, 0o755, seconds))
+        archive.addfile(member_header(name, tarfile.DIRTYPE, 0o755, seconds))
     for name, item in items.items():
         kind = tarfile.SYMTYPE if item.target else tarfile.REGTYPE
-        info = member(f'{top}/{name}', kind, 0o777 if item.target else item.mode, seconds)
+        info = member_header(f'{top}/{name}', kind, 0o777 if item.target else item.mode, seconds)
         info.linkname, info.size = item.target, len(item.content)
         archive.addfile(info, io.BytesIO(item.content))
 
@@ -93,7 +94,7 @@ def write_tarball(path: Path, items: Items, seconds: int) -> None:
 
 
 def write_below(folder: Path, items: Items, seconds: int) -> None:
-    """Writes the files below a folder, each with the time."""
+    """Writes items below a folder of the disk, each with that time."""
     for name, item in items.items():
         path = folder / name
         path.parent.mkdir(parents=True, exist_ok=True)
@@ -118,7 +119,7 @@ def control_of(version: str, items: Items) -> str:
 
 
 def write_package(path: Path, version: str, items: Items, seconds: int) -> None:
-    """Writes a Debian package by dpkg-deb."""
+    """Writes a Debian package by dpkg-deb; CalledProcessError if that fails."""
     with tempfile.TemporaryDirectory(prefix='crashfs-release-') as room:
         root = Path(room) / 'root'
         files = for_debian(items, version, seconds)
@@ -143,7 +144,7 @@ def write_package(path: Path, version: str, items: Items, seconds: int) -> None:
 
 
 def checksums_below(root: Path) -> str:
-    """The package's md5sums file."""
+    """The text of a package's file md5sums, for all files below a folder."""
     files = sorted(it for it in root.rglob('*') if it.is_file() and not it.is_symlink())
     lines = (
         f'{hashlib.md5(it.read_bytes()).hexdigest()}  {it.relative_to(root)}\n' for it in files
@@ -152,7 +153,8 @@ def checksums_below(root: Path) -> str:
 
 
 def for_debian(items: Items, version: str, seconds: int) -> Items:
-    """The same files, the two that Debian's policy wants (12.5, 12.7), and lintian's overrides."""
+    """Items, with the two files that Debian's policy wants (12.5, 12.7), and lintian's
+    overrides."""
     year = datetime.fromtimestamp(seconds, timezone.utc).year
     changelog = (
         f'crashfs ({version}) unstable; urgency=medium\n\n'

@@ -17,7 +17,16 @@ from gating.verdict import counts_of_gate
 from .archives import write_package, write_tarball
 from .layout import TOP, items_with
 from .linking import LinkFault, kit_version, link_statically, linker_version
-from .statements import BUILT, GIVEN, NOT_RUN, Made, attestation, built_module, checksums, spdx
+from .statements import (
+    BUILT,
+    GIVEN,
+    NOT_RUN,
+    Provenance,
+    attestation_text,
+    built_module,
+    checksum_lines,
+    spdx_document,
+)
 
 ABOUT = """\
 Makes the files that a user downloads, in dist/, from the program that tools/build proved.
@@ -37,53 +46,67 @@ the command line."""
 OBJECTS = TOP / 'crates' / 'crashfs' / 'out' / 'crashfs.o'
 
 
-def git(*words: str) -> str:
+def git_output(*words: str) -> str:
+    """What git prints, without blanks at its ends; CalledProcessError if it fails."""
     ran = subprocess.run(['git', *words], cwd=TOP, stdout=subprocess.PIPE, text=True, check=True)
     return ran.stdout.strip()
 
 
 def commit_of_tree() -> str:
-    """The commit that is checked out, with a mark if a file that git knows differs from it."""
-    return git('rev-parse', 'HEAD') + ('-dirty' if git('status', '--porcelain', '-uno') else '')
+    """The commit that is checked out, with `-dirty` if a file that git knows differs from it."""
+    return git_output('rev-parse', 'HEAD') + (
+        '-dirty' if git_output('status', '--porcelain', '-uno') else ''
+    )
 
 
-def made_by(log: Optional[Path], objects: str) -> Made:
-    """Of which commit and kit the release is, and what its gate counted; ValueError if the log is
-    not of a gate of both that passed."""
+def provenance_of(log: Optional[Path], objects: str) -> Provenance:
+    """Of which commit and kit a release is, and what its gate counted; ValueError if the log is not
+    of a gate of both that passed. `objects` says where the object file is from."""
     commit, kit = commit_of_tree(), kit_version()
-    seconds = int(os.environ.get('SOURCE_DATE_EPOCH') or git('log', '-1', '--format=%ct'))
+    seconds = int(os.environ.get('SOURCE_DATE_EPOCH') or git_output('log', '-1', '--format=%ct'))
     gate = NOT_RUN
     if log is not None:
         gate = counts_of_gate(log.read_text(errors='replace'), commit, kit)
     c_library = ' '.join(platform.libc_ver())
-    return Made(VERSION, commit, kit, seconds, gate, objects, linker_version(), c_library)
+    return Provenance(
+        version=VERSION,
+        commit=commit,
+        kit=kit,
+        seconds=seconds,
+        gate=gate,
+        objects=objects,
+        linker=linker_version(),
+        c_library=c_library,
+    )
 
 
-def linked(objects: Path) -> bytes:
-    """The static program of the objects."""
+def linked_program(objects: Path) -> bytes:
+    """The bytes of the static program that an object file is linked to; LinkFault if it can't
+    be."""
     with tempfile.TemporaryDirectory(prefix='crashfs-release-') as room:
         program = Path(room) / 'crashfs'
         link_statically(objects, program)
         return program.read_bytes()
 
 
-def release(made: Made, objects: Path, into: Path) -> None:
-    """Writes the five files into the folder."""
-    program = linked(objects)
-    items = items_with(program, built_module(made).encode())
+def write_release(provenance: Provenance, objects: Path, into: Path) -> None:
+    """Writes the five files of a release, from an object file, into a folder."""
+    program = linked_program(objects)
+    items = items_with(program, built_module(provenance).encode())
     into.mkdir(parents=True, exist_ok=True)
-    tarball = into / f'crashfs-{made.version}-linux-x86_64.tar.gz'
-    package = into / f'crashfs_{made.version}_amd64.deb'
-    write_tarball(tarball, items, made.seconds)
-    write_package(package, made.version, items, made.seconds)
-    listing = into / f'crashfs-{made.version}.spdx.json'
-    listing.write_text(spdx(made, (TOP / 'crates.txt').read_text()))
+    tarball = into / f'crashfs-{provenance.version}-linux-x86_64.tar.gz'
+    package = into / f'crashfs_{provenance.version}_amd64.deb'
+    write_tarball(tarball, items, provenance.seconds)
+    write_package(package, provenance.version, items, provenance.seconds)
+    listing = into / f'crashfs-{provenance.version}.spdx.json'
+    listing.write_text(spdx_document(provenance, (TOP / 'crates.txt').read_text()))
     attested = into / 'ATTESTATION'
-    attested.write_text(attestation(made, objects.read_bytes(), program))
-    (into / 'SHA256SUMS').write_text(checksums([tarball, package, listing, attested]))
+    attested.write_text(attestation_text(provenance, objects.read_bytes(), program))
+    (into / 'SHA256SUMS').write_text(checksum_lines([tarball, package, listing, attested]))
 
 
-def command_line() -> argparse.ArgumentParser:
+def make_parser() -> argparse.ArgumentParser:
+    """A parser of the command line."""
     parser = argparse.ArgumentParser(
         prog='release', description=ABOUT, formatter_class=argparse.RawDescriptionHelpFormatter
     )
@@ -110,12 +133,13 @@ def command_line() -> argparse.ArgumentParser:
 
 
 def main(words: Optional[List[str]] = None) -> int:
-    given = command_line().parse_args(words)
+    """Runs release with these words, or those of its command line, and returns its status."""
+    given = make_parser().parse_args(words)
     try:
-        made = made_by(given.gate, GIVEN if given.objects else BUILT)
+        provenance = provenance_of(given.gate, GIVEN if given.objects else BUILT)
         if given.objects is None:
             subprocess.run([TOP / 'tools' / 'build'], check=True)
-        release(made, given.objects or OBJECTS, given.into)
+        write_release(provenance, given.objects or OBJECTS, given.into)
     except (LinkFault, ValueError, OSError, subprocess.CalledProcessError) as fault:
         print(f'release: {fault}', file=sys.stderr)
         return 1

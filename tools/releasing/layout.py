@@ -25,71 +25,81 @@ class Item:
 
     @property
     def mode(self) -> int:
+        """The mode of the file; not that of a link."""
         return 0o755 if self.is_program else 0o644
 
 
 Items = Dict[str, Item]
 
 
-def tracked(folder: str) -> List[str]:
-    """The files below a folder that git knows."""
+def tracked_files(folder: str) -> List[str]:
+    """The paths of the files that git knows below a path, or that match it; sorted."""
     said = subprocess.run(
         ['git', 'ls-files', '-z', '--', folder], cwd=TOP, stdout=subprocess.PIPE, check=True
     )
     return sorted(name for name in said.stdout.decode().split('\0') if name)
 
 
-def file_of(path: str) -> Item:
+def item_of_file(path: str) -> Item:
+    """A file of the repository as it is."""
     whole = TOP / path
     return Item(whole.read_bytes(), bool(whole.stat().st_mode & 0o100))
 
 
-def tools() -> Items:
-    """The two commands with their package; bin/ has a link to each."""
+def tool_items() -> Items:
+    """The commands of Python with their package, by their paths in a release; bin/ has a link to
+    each command."""
     items = {
-        f'{LIBRARY}/{path[len("tools/"):]}': file_of(path)
-        for path in tracked('tools/crashfs_tools')
+        f'{LIBRARY}/{path[len("tools/"):]}': item_of_file(path)
+        for path in tracked_files('tools/crashfs_tools')
     }
     for command in COMMANDS:
-        items[f'{LIBRARY}/{command}'] = file_of(f'tools/{command}')
+        items[f'{LIBRARY}/{command}'] = item_of_file(f'tools/{command}')
         items[f'bin/{command}'] = Item(target=f'../{LIBRARY}/{command}')
     return items
 
 
-def documents() -> Items:
-    """Pages, pictures, data and examples, in the same folders as here: links to them work."""
-    data = [*tracked('docs/images'), *tracked('docs/results.json'), *tracked('examples')]
-    paths = [*TOP_PAGES, *tracked('docs/*.md'), *data]
-    return {f'{DOCUMENTS}/{path}': file_of(path) for path in paths}
+def document_items() -> Items:
+    """Pages, pictures, data and examples, by their paths in a release: in the same folders as here,
+    so that links to them work."""
+    data = [
+        *tracked_files('docs/images'),
+        *tracked_files('docs/results.json'),
+        *tracked_files('examples'),
+    ]
+    paths = [*TOP_PAGES, *tracked_files('docs/*.md'), *data]
+    return {f'{DOCUMENTS}/{path}': item_of_file(path) for path in paths}
 
 
-def manuals() -> Items:
-    """The manual pages, compressed without a time, as Debian wants them."""
+def manual_items() -> Items:
+    """The manual pages, by their paths in a release, compressed without a time, as Debian wants
+    them."""
     items: Items = {}
-    for path in tracked('docs/man'):
+    for path in tracked_files('docs/man'):
         section = path.rsplit('.', 1)[1]
         content = gzip.compress((TOP / path).read_bytes(), 9, mtime=0)
         items[f'share/man/man{section}/{Path(path).name}.gz'] = Item(content)
     return items
 
 
-def completions() -> Items:
-    """Completions of the three commands for bash, zsh and fish, where each shell looks for them."""
+def completion_items() -> Items:
+    """Completions of the commands, by their paths in a release: where bash, zsh and fish look for
+    them."""
     places = {
         'bash': 'share/bash-completion/completions/{0}',
         'zsh': 'share/zsh/vendor-completions/_{0}',
         'fish': 'share/fish/vendor_completions.d/{0}.fish',
     }
     items: Items = {}
-    for path in tracked('tools/completions'):
+    for path in tracked_files('tools/completions'):
         command, _, shell = Path(path).name.rpartition('.')
         items[places[shell].format(command)] = Item((TOP / path).read_bytes())
     return items
 
 
 def items_with(program: bytes, built: bytes) -> Items:
-    """All files of a release by path, with the program and the module that names a build."""
-    items = {**tools(), **documents(), **manuals(), **completions()}
+    """All files of a release by path, with the bytes of the program and of the module `built`."""
+    items = {**tool_items(), **document_items(), **manual_items(), **completion_items()}
     items['bin/crashfs'] = Item(program, is_program=True)
     items[f'{LIBRARY}/crashfs_tools/built.py'] = Item(built)
     return dict(sorted(items.items()))

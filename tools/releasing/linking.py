@@ -16,7 +16,8 @@ class LinkFault(Exception):
 
 
 def kit_folder() -> Path:
-    """The toolchain's folder: the one that `rt` is in."""
+    """The toolchain's folder: that of the page which `rt doc` names, else the one above `rt`'s own.
+    LinkFault if there is no `rt`."""
     command = shutil.which('rt')
     if command is None:
         raise LinkFault('rt: not found on PATH')
@@ -40,7 +41,8 @@ def linker_version() -> str:
 
 
 def link_statically(made: Path, program: Path) -> None:
-    """Links an object file and the toolchain's two C libraries into a program that needs no other.
+    """Links an object file and the toolchain's two C libraries into a program that needs no other;
+    LinkFault if gcc fails. Its warnings are printed, but for the one that is known.
 
     The result is stripped, and has no build id, so that the same object gives the same bytes.
     """

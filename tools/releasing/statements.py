@@ -7,7 +7,9 @@ import json
 from dataclasses import dataclass
 from datetime import datetime, timezone
 from pathlib import Path
-from typing import Dict, List, Set
+from typing import Dict, List
+
+from building.order import crates_below, uses_by_crate
 
 NOT_RUN = 'the gate was not run'
 BUILT = 'as tools/build left it, which builds only what is proved'
@@ -15,8 +17,9 @@ GIVEN = 'given by --objects; nothing here says that it was proved'
 
 
 @dataclass(frozen=True)
-class Made:
-    """Of what a release is made, and by what. `objects` says where the object file is from."""
+class Provenance:
+    """Of what a release is made, and by what: its time in seconds since 1970, the counts of its
+    gate, and in `objects` where the object file is from."""
 
     version: str
     commit: str
@@ -29,28 +32,31 @@ class Made:
 
     @property
     def time(self) -> str:
+        """The time of the release, as SPDX writes it."""
         moment = datetime.fromtimestamp(self.seconds, timezone.utc)
         return moment.strftime('%Y-%m-%dT%H:%M:%SZ')
 
 
 def sha256_of(path: Path) -> str:
+    """The SHA-256 of a file, in hexadecimal digits."""
     return hashlib.sha256(path.read_bytes()).hexdigest()
 
 
-def checksums(paths: List[Path]) -> str:
-    """The lines that `sha256sum --check` reads."""
+def checksum_lines(paths: List[Path]) -> str:
+    """The lines that `sha256sum --check` reads, for files of one folder."""
     return ''.join(f'{sha256_of(path)}  {path.name}\n' for path in sorted(paths))
 
 
-def built_module(made: Made) -> str:
-    """The module of the tools from which `--version` takes the commit and the kit."""
+def built_module(made: Provenance) -> str:
+    """The text of the module `built`, from which `--version` takes the commit and the kit."""
     return (
         '"""Of what this release was made."""\n\n' f'COMMIT = {made.commit!r}\nKIT = {made.kit!r}\n'
     )
 
 
-def attestation(made: Made, objects: bytes, program: bytes) -> str:
-    """What was proved, by what, and what the gate said; a name and its value a line."""
+def attestation_text(made: Provenance, objects: bytes, program: bytes) -> str:
+    """The text of ATTESTATION: what was proved, by what, and what the gate said, with the bytes of
+    the object file and the program. A name and its value a line."""
     return (
         f'version: {made.version}\ncommit: {made.commit}\nkit: {made.kit}\n'
         f'gate: {made.gate}\n'
@@ -60,28 +66,7 @@ def attestation(made: Made, objects: bytes, program: bytes) -> str:
     )
 
 
-def dependencies(crates: str) -> Dict[str, List[str]]:
-    """Each crate of crates.txt with all that its line names."""
-    found: Dict[str, List[str]] = {}
-    for line in crates.splitlines():
-        head, colon, names = line.partition('#')[0].partition(':')
-        if colon:
-            found[head.split()[0]] = names.split()
-    return found
-
-
-def linked_by(program: str, crates: str) -> Set[str]:
-    """The crates that the program uses, directly or not, with those of the kit."""
-    below, found, left = dependencies(crates), set(), [program]
-    while left:
-        for name in below.get(left.pop(), []):
-            if name not in found:
-                found.add(name)
-                left.append(name)
-    return found
-
-
-def package_of(name: str, version: str) -> Dict[str, object]:
+def spdx_package(name: str, version: str) -> Dict[str, object]:
     """An SPDX package without a file; no licence is asserted for it."""
     return {
         'SPDXID': f'SPDXRef-{name.replace("_", "-")}',
@@ -95,22 +80,26 @@ def package_of(name: str, version: str) -> Dict[str, object]:
     }
 
 
-def relation(one: object, kind: str, other: object) -> Dict[str, object]:
+def spdx_relation(one: object, kind: str, other: object) -> Dict[str, object]:
+    """An SPDX relationship of a kind, from one identifier to another."""
     return {'spdxElementId': one, 'relationshipType': kind, 'relatedSpdxElement': other}
 
 
-def spdx(made: Made, crates: str) -> str:
-    """What is linked into the program, as an SPDX 2.3 document (JSON)."""
-    own = dependencies(crates)
-    packages = [package_of('crashfs', made.version)]
-    for name in sorted(linked_by('crashfs', crates)):
-        packages.append(package_of(name, made.version if name in own else made.kit))
-    packages.append(package_of('rattle-standard-library', made.kit))
+def spdx_document(made: Provenance, crates: str) -> str:
+    """What is linked into the program, as an SPDX 2.3 document (JSON), from the text of crates.txt.
+    A crate that has no line there is the kit's."""
+    own = uses_by_crate(crates)
+    packages = [spdx_package('crashfs', made.version)]
+    for name in sorted(crates_below(own, 'crashfs')):
+        packages.append(spdx_package(name, made.version if name in own else made.kit))
+    packages.append(spdx_package('rattle-standard-library', made.kit))
     for tool in (made.c_library, made.linker):
         name, _, version = tool.partition(' ')
-        packages.append(package_of('libgcc' if name == 'gcc' else name, version))
-    relations = [relation('SPDXRef-DOCUMENT', 'DESCRIBES', 'SPDXRef-crashfs')]
-    relations += [relation('SPDXRef-crashfs', 'STATIC_LINK', it['SPDXID']) for it in packages[1:]]
+        packages.append(spdx_package('libgcc' if name == 'gcc' else name, version))
+    relations = [spdx_relation('SPDXRef-DOCUMENT', 'DESCRIBES', 'SPDXRef-crashfs')]
+    relations += [
+        spdx_relation('SPDXRef-crashfs', 'STATIC_LINK', it['SPDXID']) for it in packages[1:]
+    ]
     document = {
         'spdxVersion': 'SPDX-2.3',
         'dataLicense': 'CC0-1.0',

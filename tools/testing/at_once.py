@@ -20,7 +20,7 @@ Part = Callable[[], Outcome]
 
 
 def gigabytes_available() -> float:
-    """How much memory programs can still get."""
+    """How much memory programs can still get, as the system estimates it."""
     with open(MEMORY, encoding='ascii') as file:
         fields = dict(line.split(':') for line in file)
     return int(fields['MemAvailable'].split()[0]) / 2**20
@@ -59,16 +59,17 @@ class Progress:
             print(f'\r\033[K{self.text()[:width]}', end='', file=sys.stderr, flush=True)
 
     def keep_showing(self) -> None:
-        """Shows the line again and again, in a thread."""
+        """Shows the line again and again, in a thread, until `is_over`."""
         while not self.is_over.wait(SECONDS_BETWEEN):
             self.show()
 
 
 def run_parts(parts: Dict[str, Part], count: int) -> Iterator[Outcome]:
-    """The outcome of each part as it ends; the parts begin in their order, so many at once."""
+    """Runs parts, `count` at once, begun in their order; the outcome of each as it ends."""
     progress = Progress(list(parts))
 
-    def run(name: str) -> Outcome:
+    def run_part(name: str) -> Outcome:
+        """Runs a part, and shows meanwhile that it runs."""
         progress.running[name] = time.monotonic()
         try:
             return parts[name]()
@@ -80,7 +81,7 @@ def run_parts(parts: Dict[str, Part], count: int) -> Iterator[Outcome]:
     shower.start()
     try:
         with ThreadPoolExecutor(count) as pool:
-            for one in as_completed([pool.submit(run, name) for name in parts]):
+            for one in as_completed([pool.submit(run_part, name) for name in parts]):
                 progress.clear()
                 yield one.result()
     finally:

@@ -48,13 +48,13 @@ def crates_with_tests() -> List[Crate]:
 
 
 def function_of(test: str) -> str:
-    """How a test's function begins, by the test's name."""
+    """How the function of a test begins in its source, from the test's whole name."""
     return f'fn {test.rpartition("::")[2]}('
 
 
 def outcome_of(crate: Crate, printed: str) -> Outcome:
-    """What `rt try --test` printed of a crate. A test that it doesn't name counts as failed, unless
-    it is one that is left to the gate."""
+    """The outcome of a crate's tests, from what `rt try --test` printed. A test that it doesn't
+    name counts as failed, unless it is one that is left to the gate."""
     results = dict(RESULT.findall(printed))
     passed = sum(word == 'ok' for word in results.values())
     left = [
@@ -69,12 +69,13 @@ def outcome_of(crate: Crate, printed: str) -> Outcome:
 
 
 def without_passed(printed: str) -> str:
-    """What was printed but for the tests that passed."""
+    """What `rt` printed, without the lines of tests that passed."""
     return '\n'.join(line for line in printed.splitlines() if not line.endswith(' ... ok'))
 
 
 def try_tests(crate: Crate) -> Outcome:
-    """Runs the tests of a crate, without any proof."""
+    """Runs the tests of a crate by `rt`, without any proof, and returns their outcome. The status
+    of `rt` doesn't count, only the tests that it names: one that is left to the gate may fail."""
     begin = time.monotonic()
     ran = subprocess.run(
         ['rt', 'try', '--test', '--seconds', SECONDS],

@@ -30,33 +30,37 @@ class Files(NamedTuple):
     trace: str
     users: str
 
-    def words(self) -> List[str]:
+    def script_command(self) -> List[str]:
+        """The words with which the program runs a script over these files."""
         return ['script', '--trace', self.trace, '--users', self.users]
 
 
 def list_examples() -> List[str]:
+    """The names of the traces whose lists of states are examples."""
     return sorted(path.stem for path in EXAMPLES.glob('*.list'))
 
 
 def script_examples() -> Dict[Files, List[str]]:
-    """The scripts that are run with the same files, by these files."""
+    """The names of the scripts that are examples, by the files that they are run with."""
     found: Dict[Files, List[str]] = {}
     for path in sorted(EXAMPLES.glob('*.script')):
         found.setdefault(Files(*OTHERS.get(path.stem, USUAL)), []).append(path.stem)
     return found
 
 
-def compare_example(outcome: Outcome, expected: str, printed: str) -> None:
-    """Counts an example by what was printed for it."""
-    if printed == (EXAMPLES / expected).read_text('utf-8'):
+def count_example(outcome: Outcome, name: str, printed: str) -> None:
+    """Counts an example as passed or failed in an outcome: whether the file of this name has what
+    was printed, byte for byte."""
+    if printed.encode() == (EXAMPLES / name).read_bytes():
         outcome.passed += 1
     else:
         outcome.failed += 1
-        outcome.output += f'examples/{expected} is not what was printed:\n{printed[-2000:]}\n'
+        outcome.output += f'examples/{name} is not what was printed:\n{printed[-2000:]}\n'
 
 
 def output_of(words: List[str], folder: Path, given: Optional[Path] = None) -> str:
-    """What a command prints in a folder, with a file as its standard input."""
+    """What a command prints, on both outputs, in a folder, with a file as its standard input or
+    with none; its status doesn't matter."""
     ran = subprocess.run(
         words,
         cwd=folder,
@@ -69,18 +73,20 @@ def output_of(words: List[str], folder: Path, given: Optional[Path] = None) -> s
 
 
 def try_examples(has_rt: bool) -> Outcome:
-    """The examples by the program, if it is built. Else the lists by the second reading; then the
-    scripts need the toolchain."""
+    """Runs the examples by the program, if it is built. Else only the lists, by the second reading:
+    then the scripts need the toolchain, and without it are left out."""
     begin, program = time.monotonic(), Crashfs.find(None)
     head = [program.path] if program else [sys.executable, '-S', READING]
     outcome = Outcome('examples')
     for name in list_examples():
         words = [*head, 'list', '--trace', f'{name}.trace', '--holes']
-        compare_example(outcome, f'{name}.list', output_of(words, EXAMPLES))
+        count_example(outcome, f'{name}.list', output_of(words, EXAMPLES))
     for files, names in script_examples().items() if program else ():
         for name in names:
-            found = output_of([*head, *files.words()], EXAMPLES, EXAMPLES / f'{name}.script')
-            compare_example(outcome, f'{name}.replies', found)
+            found = output_of(
+                [*head, *files.script_command()], EXAMPLES, EXAMPLES / f'{name}.script'
+            )
+            count_example(outcome, f'{name}.replies', found)
     if not program and not has_rt:
         outcome.left.append(
             f'{sum(map(len, script_examples().values()))} examples: {NEEDS_PROGRAM}'
@@ -90,15 +96,18 @@ def try_examples(has_rt: bool) -> Outcome:
 
 
 def try_scripts(files: Files, names: List[str]) -> Outcome:
-    """Scripts by a program that the toolchain compiles without any proof."""
+    """Runs the scripts of these names by a program that the toolchain compiles without any
+    proof."""
     begin, outcome = time.monotonic(), Outcome(f'scripts over {files.trace}')
     with tempfile.TemporaryDirectory(prefix='crashfs-test-') as folder:
         for name in names:
             shutil.copy(EXAMPLES / f'{name}.script', folder)
         data = [word for name in files for word in ('--data', f'{name}={EXAMPLES / name}')]
-        said = output_of(['rt', 'try', '--cases', folder, *data, '--', *files.words()], CRATE)
+        said = output_of(
+            ['rt', 'try', '--cases', folder, *data, '--', *files.script_command()], CRATE
+        )
     replies = dict(CASE.findall(said))
     for name in names:
-        compare_example(outcome, f'{name}.replies', replies.get(f'{name}.script', said))
+        count_example(outcome, f'{name}.replies', replies.get(f'{name}.script', said))
     outcome.seconds = time.monotonic() - begin
     return outcome

@@ -25,7 +25,8 @@ memory for. It prints a line for each part, then what it could not run, and last
 
 
 def parts_with_rt() -> Dict[str, Part]:
-    """The crates, and the scripts of the examples if no program is built."""
+    """The parts that need the toolchain, by name: the tests of each crate that `rt try` can run,
+    and the scripts of the examples if no program is built."""
     parts: Dict[str, Part] = {
         crate.name: partial(try_tests, crate)
         for crate in crates_with_tests()
@@ -38,43 +39,45 @@ def parts_with_rt() -> Dict[str, Part]:
 
 
 def not_run_without_rt() -> List[str]:
-    """What can't be run without the toolchain."""
+    """What is not run without the toolchain, with the reason."""
     tests = sum(crate.tests for crate in crates_with_tests())
     return [f'the {tests} tests of the crates: they need `rt`, the command of the toolchain']
 
 
 def not_run_with_rt() -> List[str]:
-    """The crates that only the gate tests."""
+    """What is not run even with the toolchain, since only the gate can, with the reason."""
     tests = {crate.name: crate.tests for crate in crates_with_tests()}
     return [f'the {tests[name]} tests of {name}: {why}' for name, why in LEFT_CRATES.items()]
 
 
 def all_outcomes(has_rt: bool, count: int) -> Iterator[Outcome]:
-    """The tools' tests and the examples first, since they take least, and then the crates."""
+    """Runs all parts, `count` crates at once; the outcome of each as it ends. The tools' tests and
+    the examples come first, since they take least."""
     yield from run_parts({'tools': try_tools, 'examples': partial(try_examples, has_rt)}, 2)
     if has_rt:
         yield from run_parts(parts_with_rt(), count)
 
 
 def main() -> int:
-    words = argparse.ArgumentParser(
+    """Runs tools/test with the words of its command line, and returns its status."""
+    parser = argparse.ArgumentParser(
         description=DESCRIPTION, formatter_class=argparse.RawDescriptionHelpFormatter
     )
     default = parts_at_once(os.cpu_count() or 1, gigabytes_available())
-    words.add_argument(
+    parser.add_argument(
         '--jobs',
         type=int,
         default=default,
         metavar='N',
         help=f'how many crates are tested at once ({default} here)',
     )
-    given = words.parse_args()
+    given = parser.parse_args()
     has_rt = shutil.which('rt') is not None
     left = not_run_with_rt() if has_rt else not_run_without_rt()
     passed = failed = 0
     for one in all_outcomes(has_rt, max(1, given.jobs)):
         passed, failed, left = passed + one.passed, failed + one.failed, left + one.left
-        print(one.line(), flush=True)
+        print(one.summary_line(), flush=True)
         if one.output:
             print(one.output.rstrip('\n'), file=sys.stderr, flush=True)
     for what in left:

@@ -8,8 +8,8 @@ from typing import List
 
 @dataclass
 class Outcome:
-    """The counts of a part of the tests. left says which tests were not run, and
-    why; output is what to print of those that failed."""
+    """The counts of a part of the tests. left says which tests were not run, and why; output is
+    what to print of those that failed."""
 
     name: str
     passed: int = 0
@@ -19,8 +19,8 @@ class Outcome:
     left: List[str] = field(default_factory=list)
     output: str = ''
 
-    def line(self) -> str:
-        """One line, such as `cs_tar: 3 passed, 24 s`."""
+    def summary_line(self) -> str:
+        """The outcome as a line, such as `cs_tar: 3 passed, 24 s`; counts of 0 are left out."""
         counts = [(self.passed, 'passed'), (self.failed, 'FAILED'), (self.skipped, 'skipped')]
         shown = [f'{count} {word}' for count, word in counts if count or word == 'passed']
         return f'{self.name}: {", ".join(shown)}, {self.seconds:.0f} s'

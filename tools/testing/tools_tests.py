@@ -17,7 +17,8 @@ SKIPPED = re.compile(r'^(.*): the tests that need it are skipped$', re.M)
 
 
 def outcome_of(printed: str, status: int) -> Outcome:
-    """What unittest printed. A run that ends without its last lines has failed."""
+    """The outcome of the tools' tests, from what unittest printed and its status. A run that ends
+    without its last lines has failed."""
     ran = RAN.search(printed)
     last = printed.rstrip().rpartition('\n')[2]
     counts = {word: int(count) for word, count in COUNTS.findall(last)}
@@ -34,7 +35,7 @@ def outcome_of(printed: str, status: int) -> Outcome:
 
 
 def try_tools() -> Outcome:
-    """Runs the tests of the tools."""
+    """Runs the tests of the tools in a process, and returns their outcome."""
     begin = time.monotonic()
     ran = subprocess.run(
         [sys.executable, '-m', 'unittest', 'discover', '-s', 'tools', '-t', 'tools'],

@@ -10,19 +10,24 @@ from .support import TOOLS
 
 TOP = TOOLS.parent
 PAGES = [TOP / name for name in ('README.md', 'SECURITY.md')]
-PAGES += sorted((TOP / 'docs').rglob('*.md'))
+PAGES += sorted((TOP / 'docs').rglob('*.md')) + sorted((TOP / 'helpers').glob('*/README.md'))
 BLOCK = re.compile(r'(?<=\n\n)(?:    .*\n|\n+(?=    ))+')
 FENCE = re.compile(r'^```.*?^```$', re.M | re.S)
 FIRST_WORD = re.compile(
-    r'(?:\$ )?(?:tools/[\w-]+|crashfs[\w-]*|rt|apt-get|array=\S+|cd|\(cd|git|ls|man|mkdir|mount|'
-    r'parallel|PATH=\S+|pip|pipx|python3|rm|sbatch|sleep|sqlite3|strace|sudo|tar|truncate|'
+    r'(?:\$ )?(?:tools/[\w-]+|crashfs[\w-]*|rt|apt-get|array=\S+|cargo|cd|\(cd|g\+\+|git|go|ls|man|'
+    r'mkdir|mount|PATH=\S+|pip|pipx|python3|rm|sbatch|sleep|sqlite3|strace|sudo|tar|truncate|'
     r'/usr/bin/time|#!/bin/sh)'
     r'(?=\s|$)'
 )
 # A synopsis, and not a command.
 SYNOPSIS = re.compile(r'\[OPTION\]|TRACE --|TRACE\]')
 # Pages whose commands other tests run, one after the other: see there.
-ELSEWHERE = {'docs/TUTORIAL.md': 'test_tutorial.py'}
+ELSEWHERE = {
+    'docs/TUTORIAL.md': 'test_tutorial.py',
+    'helpers/cpp/README.md': 'test_testing_page.py',
+    'helpers/go/README.md': 'test_testing_page.py',
+    'helpers/rust/README.md': 'test_testing_page.py',
+}
 # Commands that no test runs, with the reason. A key is the beginning of a command.
 NOT_RUN = {
     'README.md': {
@@ -33,22 +38,18 @@ NOT_RUN = {
     'docs/CONTRIBUTING.md': {
         'python3 -m unittest': 'they run tests, these too',
         '(cd crates/crashfs && rt try': 'it needs the toolchain; the gate builds the program',
-        'apt-get install ./crashfs_': 'there is no release; test_release.py makes its archives',
-        'cd /usr/share/doc/crashfs': 'the same',
-        'tar -xzf crashfs-': 'the same',
-        'PATH="$PWD/crashfs-': 'the same',
-        'cd crashfs-': 'the same',
     },
     'docs/DISKS.md': {
         'sudo tools/measure disks': 'it needs root and hours; test_measure_disks.py runs its parts',
         'truncate -s 120M image': 'it needs root and btrfs, and shows what one kernel did',
-        'printf xxxxx': 'the same',
+        'printf': 'the same',
         'truncate -s 0 disk': 'the same',
+        'touch disk/other': 'the same',
         'cp --sparse=always image': 'the same',
-        'cat disk/d/b': 'the same',
+        'cat disk/': 'the same',
     },
     'docs/how-to/ci.md': {
-        'parallel crashfs-check': 'it needs GNU parallel; the parts are run as those of Slurm',
+        'crashfs-campaign --time-limit 3600': 'it takes an hour; test_examples.py has two sessions',
         'array=$(sbatch': 'it needs Slurm; the parts are run here, one after the other',
         'sbatch --dependency': 'the same',
     },
@@ -65,6 +66,7 @@ NOT_RUN = {
     },
     'docs/how-to/testing.md': {
         'pip install': 'it needs a network; test_pytest_plugin.py uses the plugin of the clone',
+        '#!/bin/sh -e': 'test_testing_page.py runs it',
     },
     'docs/internals/BENCHMARKS.md': {
         'tools/measure': 'it needs programs that the toolchain builds; test_measure.py',

@@ -133,17 +133,17 @@ class PlainRules:
 
     def covers(self, sync: SyncPoint, one: Micro) -> bool:
         if isinstance(sync, RangeSync):
-            if one.file != sync.file:
+            if one.file != sync.number:
                 return False
             if isinstance(one, WriteBlock):
                 return sync.offset <= one.begin and one.begin + len(one.data) <= sync.end
             return isinstance(one, ChangeSize)
         if isinstance(sync, DataSync):
-            return one.file == sync.file and isinstance(one, (WriteBlock, ChangeSize))
+            return one.file == sync.number and isinstance(one, (WriteBlock, ChangeSize))
         if isinstance(sync, FileSync):
-            return one.file == sync.file
+            return one.file == sync.number
         if isinstance(sync, DirectorySync):
-            return self.is_in_directory(one, sync.directory)
+            return self.is_in_directory(one, sync.number)
         return True
 
     def is_in_directory(self, one: Micro, directory: int) -> bool:
@@ -178,18 +178,20 @@ class PlainRules:
         begin = self.syncs[place - 1].at if place else 0
         since = self.operations[begin : sync.at]
         if isinstance(sync, DirectorySync):
-            own = ('dir', sync.directory)
+            own = ('dir', sync.number)
             return any(
-                self.is_in_directory(one, sync.directory) or own in one.handled for one in since
+                self.is_in_directory(one, sync.number) or own in one.handled for one in since
             )
         if isinstance(sync, DataSync):
             return any(
-                (isinstance(one, ChangeSize) and one.file == sync.file)
-                or (isinstance(one, CreateEntry) and one.node == ('file', sync.file))
+                (isinstance(one, ChangeSize) and one.file == sync.number)
+                or (isinstance(one, CreateEntry) and one.node == ('file', sync.number))
                 for one in since
             )
         if isinstance(sync, FileSync):
-            return any(one.file == sync.file or ('file', sync.file) in one.handled for one in since)
+            return any(
+                one.file == sync.number or ('file', sync.number) in one.handled for one in since
+            )
         return True
 
     def are_halves(self, i: int, j: int) -> bool:

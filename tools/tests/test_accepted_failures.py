@@ -47,9 +47,11 @@ class Files(InFolder):
     def test_numbers_and_random_parts_do_not_count_and_all_else_does(self) -> None:
         entry = AcceptedFailure('lost: row 3', 'unlink /log.17', 'say', 'why')
         found = AcceptedFailures('f', [entry], TODAY)
-        self.assertEqual(found.of(entry._replace(cause='lost: row 4', lost='unlink /log.8')), entry)
+        self.assertEqual(
+            found.entry_for(entry._replace(cause='lost: row 4', lost='unlink /log.8')), entry
+        )
         for change in ({'cause': 'lost: table 3'}, {'lost': 'creat /log.17'}, {'kept': ''}):
-            self.assertIsNone(found.of(entry._replace(**change)), change)
+            self.assertIsNone(found.entry_for(entry._replace(**change)), change)
 
     def test_an_entry_counts_through_its_last_day(self) -> None:
         for until, is_over in ((None, False), ('2026-11-29', False), ('2026-11-28', True)):

@@ -7,7 +7,7 @@ from crashfs_tools.checker.findings.advice import Advice, Tried
 from crashfs_tools.checker.findings.swaps import moved_lines
 from crashfs_tools.checker.findings.sync_points import sync_points
 from crashfs_tools.checker.report.text import ReportText
-from crashfs_tools.common.trace_text import read_text, with_syncs
+from crashfs_tools.common.trace_lines import read_text, with_syncs
 
 from .support import FAKE
 from .test_check_command import InStore
@@ -46,6 +46,38 @@ class Points(unittest.TestCase):
         )
         self.assertEqual(sync_points([(2, 5), (3, 5)], lines), {2: '/a', 3: '/b'})
         self.assertEqual(sync_points([(4, 5)], lines), {4: '/'})
+
+    def test_a_file_is_synced_while_its_path_names_it(self):
+        creat, log = line('creat', '/a'), line('creat', '/log')
+        link = [write('/a', 'x'), line('link', **{'from': '/a', 'to': '/c'})]
+        for before, number in [
+            ([*link, line('unlink', '/a'), creat], 6),
+            ([*link, rename('/x', '/a')], 5),
+            ([write('/a', 'x'), rename('/a', '/c'), creat], 5),
+        ]:
+            lines = lines_of(*before, write('/a', 'x'), log)
+            kept = number + 1
+            self.assertEqual(
+                sync_points([(2, kept), (number, kept)], lines), {2: '/a', number: '/a'}
+            )
+        lines = lines_of(*link, rename('/c', '/a/b'), write('/a', 'x'), log)
+        self.assertEqual(sync_points([(2, 6), (5, 6)], lines), {5: '/a'})
+
+    def test_a_directory_is_synced_while_its_path_names_it(self):
+        for end in (rename('/d', '/e'), rename('/d/f', '/e'), line('rmdir', '/d/f')):
+            lines = lines_of(
+                write('/d/f/a', 'x'),
+                line('creat', '/d/f/b'),
+                end,
+                line('mkdir', '/d/f'),
+                write('/d/f/a', 'x'),
+                line('creat', '/d/f/b'),
+                line('creat', '/log'),
+            )
+            self.assertEqual(
+                sync_points([(2, 8), (3, 8), (6, 8), (7, 8)], lines),
+                {2: '/d/f/a', 3: '/d/f', 6: '/d/f/a', 7: '/d/f'},
+            )
 
     def test_two_paths_may_be_synced_after_one_line(self):
         text = with_syncs('1\n2\n3', [(2, '/b'), (2, '/a'), (3, '/')])

@@ -3,7 +3,7 @@
 from __future__ import annotations
 
 import unittest
-from typing import Any, FrozenSet, List
+from typing import Any, List, Sequence
 from unittest import mock
 
 from crashfs_tools.checker.states import all_sets as choices
@@ -13,21 +13,25 @@ from crashfs_tools.common.program import ProgramFault
 from .support import InFolder
 from .test_every import H1, HEADERS, RIGHTS, creat, say
 
-OPTIONS = frozenset(['--every', '--different', '--most', '--count'])
 TRACE = [HEADERS['blocks'], creat('/a'), say('1')]
 START = f'{{"start":"file","path":"/s",{RIGHTS},"text":"twelve bytes"}}'
 
 
 class Program:
-    """Lists two sets, or refuses by a text."""
+    """Lists two sets, or refuses by a text, or lacks some options."""
 
-    def __init__(self, options: FrozenSet[str] = OPTIONS, refusal: str = '') -> None:
-        self.picks_options = options
+    unproved = False
+
+    def __init__(self, refusal: str = '', lacks: Sequence[str] = ()) -> None:
         self.refusal = refusal
+        self.lacks = lacks
         self.asked: List[List[str]] = []
 
     def output_of(self, words: List[str], _: Any) -> str:
         self.asked.append(words[3:])
+        for option in self.lacks:
+            if option in words:
+                raise ProgramFault(2, f"error: unexpected argument '{option}' found\n".encode())
         if self.refusal:
             raise ProgramFault(1, f'crashfs: {self.refusal}\n'.encode())
         return '[]\n[0,1]\n'
@@ -41,40 +45,44 @@ class Choices(InFolder):
     def test_the_program_lists_the_states_of_a_trace_of_version_3(self) -> None:
         program = Program()
         sets = self.sets(program, TRACE)
-        self.assertFalse(sets.is_read)
-        self.assertEqual(sets.different(9), [0b00, 0b11])
+        self.assertFalse(sets.are_read)
+        self.assertEqual(sets.different_sets(9), [0b00, 0b11])
         self.assertEqual(program.asked, [['--every', '--different', '--most', '9']])
 
     def test_more_states_than_are_wanted_are_none(self) -> None:
         for refusal in ('more than 9 sets', 'too many sets to compare', 'too many sets to count'):
             with self.subTest(refusal):
-                self.assertIsNone(self.sets(Program(refusal=refusal), TRACE).different(9))
+                self.assertIsNone(self.sets(Program(refusal=refusal), TRACE).different_sets(9))
 
     def test_any_other_refusal_is_a_fault(self) -> None:
         with self.assertRaises(ProgramFault):
-            self.sets(Program(refusal='out of memory'), TRACE).different(9)
+            self.sets(Program(refusal='out of memory'), TRACE).different_sets(9)
 
-    def test_the_second_reading_lists_those_of_older_traces_and_for_older_programs(self) -> None:
-        for program, lines in (
-            (Program(), [H1, *TRACE[1:]]),
-            (Program(OPTIONS - {'--different'}), TRACE),
-        ):
-            sets = self.sets(program, lines)
-            self.assertTrue(sets.is_read)
-            self.assertEqual(len(sets.different(9) or []), 4)
-            self.assertEqual(program.asked, [])
+    def test_the_second_reading_lists_those_of_older_traces(self) -> None:
+        program = Program()
+        sets = self.sets(program, [H1, *TRACE[1:]])
+        self.assertTrue(sets.are_read)
+        self.assertEqual(len(sets.different_sets(9) or []), 4)
+        self.assertEqual(program.asked, [])
+
+    def test_the_second_reading_lists_those_for_older_programs(self) -> None:
+        program = Program(lacks=['--different', '--count', '--sample'])
+        sets = self.sets(program, TRACE)
+        self.assertEqual(len(sets.different_sets(9) or []), 4)
+        self.assertTrue(sets.are_read)
+        self.assertEqual(sets.count_sets(), 4)
+        self.assertEqual(len(sets.drawn_sets(7, 1) or []), 7)
+        self.assertNotIn(['--every', '--count'], program.asked)
 
     def test_the_second_reading_lists_those_of_a_large_start(self) -> None:
         lines = [TRACE[0], START, *TRACE[1:]]
         for most, is_read in ((12, False), (11, True)):
             with self.subTest(most), mock.patch.object(choices, 'START_BYTES', most):
-                self.assertEqual(self.sets(Program(), lines).is_read, is_read)
+                self.assertEqual(self.sets(Program(), lines).are_read, is_read)
 
-    def test_what_the_program_lacks_is_read(self) -> None:
-        program = Program()
-        sets = self.sets(program, TRACE)
-        self.assertEqual(len(sets.different(9, 'ordered') or []), 4)
-        self.assertEqual(program.asked, [])
+    def test_those_of_another_profile_are_read(self) -> None:
+        read = ReadSets(self.write('a.trace', '\n'.join(TRACE) + '\n'))
+        self.assertEqual(len(read.different_sets(9, 'ordered') or []), 4)
 
 
 if __name__ == '__main__':

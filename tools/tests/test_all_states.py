@@ -50,7 +50,7 @@ def wanted_trials(text: str) -> Set[Tuple[object, int]]:
 class Listing(InFolder):
     def planner(self, program: Any, most: int = 20_000) -> Planner:
         options: Any = SimpleNamespace(
-            **OPTIONS, has_every=True, most_states=most, profile=None, draws=50
+            **OPTIONS, has_every=True, most_states=most, profile=None, draw_count=50
         )
         guard: Any = SimpleNamespace(directory=self.temporary, environment=None)
         return Planner(options, program, guard)
@@ -64,7 +64,7 @@ class Listing(InFolder):
         trees = StateList(read(text.encode())).trees
         firsts: Dict[Trial, int] = {}
         for state in planned.plan.states:
-            firsts.setdefault(Trial(state.same, state.says), state.number)
+            firsts.setdefault(state.trial, state.number)
         kept = [planned.plan.kept[number] for number in firsts.values()]
         return [(trees.digest(one), trees.count_says(one)) for one in kept]
 
@@ -84,7 +84,7 @@ class AllListed(Listing):
         for name, text in trace_texts():
             whole = self.planned(text)
             size = len(whole.plan.operations) + 4
-            holes = whole.plan.needs.holes
+            holes = whole.plan.needs.hole_count
             with self.subTest(name), mock.patch.object(limits, 'STATES', size + holes):
                 parts = self.planned(text)
                 self.assertEqual(parts.plan.listed, whole.plan.listed)
@@ -93,7 +93,7 @@ class AllListed(Listing):
     def test_the_program_gives_each_state_of_each_part_the_tree_of_its_set(self) -> None:
         text = (EXAMPLES / 'rights.trace').read_text('utf-8')
         planned = self.planned(text)
-        size = len(planned.plan.operations) + 4 + planned.plan.needs.holes
+        size = len(planned.plan.operations) + 4 + planned.plan.needs.hole_count
         with mock.patch.object(limits, 'STATES', size):
             planned = self.planned(text)
         self.assertGreater(len(planned.parts), 1)
@@ -128,7 +128,7 @@ class AllListed(Listing):
             self.assertEqual(len(plan.all_states.drawn), 0 if are_listed else 50)
             families = plan_of(read(text.encode()), holes=True)
             self.assertGreaterEqual(len(plan.families), len(families.states))
-            firsts = {Trial(one.same, one.says) for one in plan.states}
+            firsts = {one.trial for one in plan.states}
             self.assertEqual(len(firsts) == 256, are_listed)
 
     def test_more_states_than_a_plan_takes_are_laid_out(self) -> None:
@@ -170,13 +170,19 @@ class Reported(InFolder):
     def test_the_report_says_who_found_the_states(self) -> None:
         program = self.write(
             'crashfs',
-            '#!/bin/sh\ncase "$1 $2" in "picks --help") exit 0;; esac\n'
+            '#!/bin/sh\ncase "$*" in picks*--every*) echo "error: no" >&2; exit 2;; esac\n'
             f'exec python3 -S {FAKE} "$@"\n',
             0o755,
         )
         for words, line in [
-            (['--unproved'], 'unproved: a Python program computed these states, not crashfs'),
-            (['--crashfs', program], 'unproved: a Python program found which states there are, '),
+            (
+                ['--unproved'],
+                'unproved: the Python implementation computed these states, not crashfs',
+            ),
+            (
+                ['--crashfs', program],
+                'unproved: the Python implementation found which states there are, ',
+            ),
         ]:
             self.assertIn(line, self.check('--every', *words)[0])
             self.assertEqual(len(self.check('--every', *words)), 2)

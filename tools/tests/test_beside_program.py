@@ -6,7 +6,7 @@ from pathlib import Path
 from crashfs_tools.common.program import Crashfs
 from crashfs_tools.reading import ReadingFault, plan_of, read
 from crashfs_tools.reading.listing import listing
-from crashfs_tools.reading.picking import lines_of
+from crashfs_tools.reading.picking import printed_lines
 
 from .random_traces import RandomTrace
 from .support import EXAMPLE_TRACES, InFolder, needed
@@ -93,4 +93,4 @@ def read_of(words, text):
         return str(fault)
     if words[0] == 'list':
         return ''.join(listing(plan, True, True))
-    return ''.join(lines_of(plan.reading, dict.fromkeys(words[1:], True)))
+    return ''.join(printed_lines(plan.reading, dict.fromkeys(words[1:], True)))

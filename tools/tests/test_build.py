@@ -15,9 +15,9 @@ from typing import Dict, List, Optional, Tuple
 from unittest import mock
 
 from building import checks, main, proving
-from building.checks import Check, memory_of_machine, memory_text, run_check
+from building.checks import Check, memory_of_machine, killed_text, run_check
 from building.order import MANY_BELOW, Work, libraries
-from building.proving import build_program, has_library, prove_in
+from building.proving import build_program, is_library_current, prove_in
 from building.sharing import give_library
 
 GIGABYTE = 2**30
@@ -82,14 +82,14 @@ class Order(unittest.TestCase):
             (crate / 'out' / 'rlib').mkdir(parents=True)
             text, library = crate / 'src' / 'lib.rt', crate / 'out' / 'rlib' / 'stamp'
             text.write_text('fn f() {}')
-            self.assertFalse(has_library(Path(room), 'a'))
+            self.assertFalse(is_library_current(Path(room), 'a'))
             library.write_text('')
             os.utime(crate / 'src', (100, 100))
             os.utime(text, (100, 100))
             os.utime(library, (200, 200))
-            self.assertTrue(has_library(Path(room), 'a'))
+            self.assertTrue(is_library_current(Path(room), 'a'))
             os.utime(text, (300, 300))
-            self.assertFalse(has_library(Path(room), 'a'))
+            self.assertFalse(is_library_current(Path(room), 'a'))
 
     def test_the_libraries_are_all_that_the_program_uses(self) -> None:
         below = libraries()
@@ -172,7 +172,7 @@ class Checks(unittest.TestCase):
 
     def test_a_check_has_its_status_and_what_it_printed(self) -> None:
         check = self.ended('sys.exit(1)')
-        self.assertEqual((check.status, check.was_killed), (1, False))
+        self.assertEqual((check.status, check.is_killed), (1, False))
         self.assertEqual(check.output, b'so far: 0 of 9 functions checked\n')
 
     def test_its_memory_is_that_of_its_largest_process(self) -> None:
@@ -184,17 +184,17 @@ class Checks(unittest.TestCase):
             self.assertLess(check.most, 2 * size)
 
     def test_a_process_that_the_system_killed_is_seen_in_each_form(self) -> None:
-        self.assertTrue(self.ended('os.kill(os.getpid(), 9)').was_killed)
+        self.assertTrue(self.ended('os.kill(os.getpid(), 9)').is_killed)
         for status in (-9, 137, 247):
-            self.assertTrue(Check(status, b'', 0).was_killed)
+            self.assertTrue(Check(status, b'', 0).is_killed)
         for status in (0, 1, 2, -signal.SIGTERM):
-            self.assertFalse(Check(status, b'', 0).was_killed)
+            self.assertFalse(Check(status, b'', 0).is_killed)
 
     def test_the_text_has_the_crate_its_memory_and_what_to_do(self) -> None:
         check = Check(247, b'', 5 * GIGABYTE)
         with mock.patch.object(checks, 'memory_of_machine', return_value=8 * GIGABYTE):
-            text = memory_text('cs_session', check, 3, 4)
-            alone = memory_text('crashfs', check, 1, 1)
+            text = killed_text('cs_session', check, 3, 4)
+            alone = killed_text('crashfs', check, 1, 1)
         self.assertRegex(text, '^cs_session: the system killed its check, .* memory ran out')
         self.assertIn('with 3 jobs, had 5.0 GB; the machine has 8.0 GB', text)
         self.assertTrue(text.endswith(': run tools/build --processors 2'))

@@ -5,7 +5,7 @@ from __future__ import annotations
 import os
 import unittest
 from pathlib import Path
-from typing import Any, List
+from typing import Any, List, Tuple
 
 from crashfs_tools.checker.running.cache import (
     OutcomeCache,
@@ -14,7 +14,7 @@ from crashfs_tools.checker.running.cache import (
     read_checked,
     write_checked,
 )
-from crashfs_tools.checker.running.command_files import opened_paths
+from crashfs_tools.checker.running.command_files import command_name, opened_paths
 from crashfs_tools.checker.running.runner import BAD, GOOD, NO_ANSWER, Outcome
 from crashfs_tools.common.command import Refused
 
@@ -68,12 +68,22 @@ class Files(InFolder):
         cache = OutcomeCache(self.folder, 'n')
         for key, result in (('a', GOOD), ('b', BAD), ('c', NO_ANSWER), ('d', BAD)):
             cache.add(key, Outcome(result, 'cause', 'output'))
-        cache.forget('d')
+        cache.drop('d')
         cache.save()
         later = OutcomeCache(self.folder, 'n')
         self.assertEqual(later.outcome('a'), Outcome(GOOD, 'cause', 'output'))
         self.assertEqual(later.outcome('b'), Outcome(BAD, 'cause', 'output'))
         self.assertEqual([later.outcome(key) for key in 'cd'], [None, None])
+
+    def test_each_outcome_of_an_earlier_check_counts_once(self) -> None:
+        cache = OutcomeCache(self.folder, 'n')
+        cache.add('a', Outcome(GOOD, '', ''))
+        self.assertEqual((cache.outcome('a'), cache.hits), (Outcome(GOOD, '', ''), 0))
+        cache.save()
+        later = OutcomeCache(self.folder, 'n')
+        for _ in range(2):
+            later.outcome('a')
+        self.assertEqual(later.hits, 1)
 
     def test_the_source_of_a_compiled_module_is_looked_at(self) -> None:
         os.mkdir(self.path('__pycache__'))
@@ -88,6 +98,37 @@ class Files(InFolder):
         found = list(opened_paths(lines))
         wanted = [source, '/nowhere', '/bin/true']
         self.assertEqual(found, list(map(os.path.realpath, wanted)))
+
+
+@needs_strace
+class Cuts(InFolder):
+    """A run under strace that the check has ended: late, or printing too much."""
+
+    LATE = Outcome(NO_ANSWER, 'it had not ended after 5 seconds')
+
+    def name(self, lines: str) -> str:
+        """The name of a command by a run that is late and has this log."""
+
+        def run(words: List[str], state: int) -> Tuple[Outcome, str]:
+            Path(words[words.index('-o') + 1]).write_text(lines, 'utf-8')
+            return self.LATE, self.path('state')
+
+        return command_name(self.folder, ['recover'], [0], run)
+
+    def test_the_files_of_a_command_that_was_cut_are_not_kept(self) -> None:
+        script = self.write('recover', '')
+        started = f'12 execve("{script}", ["recover"], 0x7ffe /* 3 vars */) = 0\n'
+        for more in ('', '13 +++ exited with 0 +++\n', '12 +++ killed by SIGKILL +++\n'):
+            with self.assertRaisesRegex(Refused, 'no answer under strace: .* after 5 seconds'):
+                self.name(started + more)
+        self.assertEqual([one for one in os.listdir(self.folder) if 'command' in one], [])
+
+    def test_the_files_of_a_command_that_leaves_a_process_are_whole(self) -> None:
+        script = self.write('recover', '')
+        started = f'12 execve("{script}", ["recover"], 0x7ffe /* 3 vars */) = 0\n'
+        first = self.name(started + '12 +++ exited with 1 +++\n')
+        self.write('recover', 'changed')
+        self.assertNotEqual(self.name(started + '12 +++ exited with 1 +++\n'), first)
 
 
 class Keys(Listing):
@@ -146,6 +187,20 @@ class Checks(InFolder):
         self.assertGreaterEqual(count, 28)
         self.assertIn('none fails', second.stdout)
         self.assertEqual(self.check()[1], 0)
+
+    def test_a_command_that_gives_no_answer_under_strace_is_refused(self) -> None:
+        rule = self.write('rule', 'good')
+        is_alone = "grep -q '^TracerPid:.0$' /proc/self/status"
+        command = self.write(
+            'slow.sh', f'#!/bin/sh\n{is_alone} || exec yes\ngrep good {rule}\n', 0o755
+        )
+        words = '--prefixes', str(CONFIG), '--', command
+        self.assertIn('none fails', self.run_tool('crashfs-check', *words).stdout)
+        for _ in range(2):
+            ran = self.run_tool('crashfs-check', '--cache', 'cache', *words)
+            self.assertEqual(ran.returncode, 2)
+            self.assertIn('--cache: COMMAND gave no answer under strace: it printed', ran.stderr)
+        self.assertEqual(os.listdir(self.path('cache')), [])
 
     def test_other_options_share_the_outcomes(self) -> None:
         self.check()

@@ -7,7 +7,7 @@ import unittest
 from typing import Dict, List, Set, Tuple
 
 from crashfs_tools.common.trace import Creat, Mkdir, Operation
-from crashfs_tools.recorder.directory import scan
+from crashfs_tools.recorder.directory import scan_directory
 from crashfs_tools.recorder.live_files import LiveFiles, StartConditions
 from crashfs_tools.recorder.log_filter import LogFilter
 from crashfs_tools.recorder.recording import Recording, TraceSettings
@@ -31,7 +31,7 @@ OF_ROOT = {'chown_', 'chown_symlink', 'chroot_'}
 
 def recording_of_log(path: str, top: str) -> Recording:
     """What a kept log becomes; the directory is empty at the start."""
-    start = scan(top, lambda _: True)
+    start = scan_directory(top, lambda _: True)
     recording = Recording(start.header, TraceSettings())
     files = LiveFiles(recording, StartConditions(top, 0o022, 'u', 'u'), start, lambda _: False)
     with open(path, encoding='ascii') as lines:
@@ -65,7 +65,7 @@ def reported_in(recording: Recording) -> Tuple[Dict[str, List[str]], Set[str]]:
     """What is reported of each case's files, with how many times, and what is reported beside."""
     found: Dict[str, List[str]] = {}
     elsewhere = set()
-    for trouble in recording.troubles.all_found():
+    for trouble in recording.troubles:
         match = re.match('/([^/]+)/(.*)', trouble.where)
         if match:
             times = f' {len(trouble.lines)}' if len(trouble.lines) > 1 else ''

@@ -6,22 +6,25 @@ import shutil
 import signal
 import unittest
 from pathlib import Path
+from unittest import mock
 
+from crashfs_tools.campaign import main
 from crashfs_tools.campaign.book import failure_key
-from crashfs_tools.campaign.sessions import Failure
+from crashfs_tools.campaign.options import read_options
+from crashfs_tools.campaign.sessions import Checked, Failure
 from crashfs_tools.campaign.shrinking import says_in
 
 from .support import PATIENCE, InFolder
 
 # Saves a file whole, four times. With the seeds 3 and 5 the third save doesn't sync the directory,
-# and with the seed 4 the file itself.
+# with the seed 4 the file itself; with the seed 7 the first one doesn't sync the directory.
 SESSION = """\
 #!/bin/sh
 for version in 1 2 3 4; do
     echo "version $version" > config.new
     test $CRASHFS_SEED$version = 43 || sync config.new
     mv config.new config
-    case $CRASHFS_SEED$version in 33|53) ;; *) sync . ;; esac
+    case $CRASHFS_SEED$version in 33|53|71) ;; *) sync . ;; esac
     echo "version $version"
 done
 """
@@ -93,6 +96,50 @@ class Campaigns(InFolder):
         again = self.campaign('--seeds', '3-5')
         self.assertEqual((again.stdout, again.stderr), (ran.stdout, ''))
 
+    def test_a_later_session_that_fails_with_fewer_lines_is_kept_instead(self):
+        first = self.campaign('--seeds', '3-3')
+        self.assertIn(
+            '    in 1 session, first with seed 3; kept: 3 acknowledged lines of 4\n', first.stdout
+        )
+        for seed, stderr in [
+            ('5', ''),
+            ('7', 'seed 7: shorter: 1 acknowledged line of 4 with seed 7: '),
+        ]:
+            ran = self.campaign('--seeds', f'{seed}-{seed}')
+            self.assertEqual(ran.stderr, stderr and f'crashfs-campaign: {stderr}{LOST}\n')
+        kept = 'kept: 1 acknowledged line of 4 with seed 7\n'
+        self.assertIn(f'    in 3 sessions, first with seed 3; {kept}', ran.stdout)
+        self.assertEqual(self.read('found/entry-1.trace').count('"op":"say"'), 1)
+        self.assertIn('acknowledged &quot;version 1&quot;', self.read('found/entry-1.html'))
+        self.assertIn('acknowledged "version 1"', ran.stdout)
+
+    def test_now_and_then_a_line_says_how_many_sessions_were_tried(self):
+        words = [self.path('found'), '--', self.session, '--', self.recover]
+        campaign = main.Campaign(read_options(words))
+        campaign.sessions = mock.Mock(
+            **{'record.return_value': '', 'check.return_value': Checked()}
+        )
+        with mock.patch.object(main, 'print_line') as printed:
+            campaign.try_seed(1)
+            self.assertEqual(printed.call_args_list, [])
+            campaign.printed -= main.EVERY_SECONDS
+            campaign.try_seed(2)
+            campaign.try_seed(3)
+        line = 'seed 2: 2 sessions: none fails'
+        self.assertEqual(printed.call_args_list, [mock.call('crashfs-campaign', line)])
+
+    def test_the_page_has_the_commands_and_seeds_and_shows_all_text_as_text(self):
+        words = ('--seeds', '2-2', '--html', self.path('page.html'), self.path('found'))
+        commands = ('--', self.session, '\033[1m<b>', '--', self.recover)
+        ran = self.run_tool('crashfs-campaign', '--check=--prefixes', *words, *commands)
+        self.assertEqual((ran.returncode, ran.stderr), (0, ''))
+        page = self.read('page.html')
+        self.assertIn('<h1>Campaign of 1 session: none fails</h1>', page)
+        shown = r'&#x27;\x1b[1m&lt;b&gt;&#x27;'
+        self.assertIn(f'SESSION: {self.session} {shown}<br>', page)
+        self.assertIn(f'<br>RECOVERY: {self.recover}<br>seeds up to 2; crashfs-campaign ', page)
+        self.assertNotIn('\033', page)
+
     def test_a_store_that_is_right_has_the_status_of_none(self):
         ran = self.campaign('--seeds', '1-2')
         self.assertEqual((ran.returncode, ran.stderr), (0, ''))
@@ -124,6 +171,13 @@ class Campaigns(InFolder):
         self.assertIn('crashfs-campaign: stopped by SIGTERM\n', err)
         self.assertIn(f'\n  {LOST}\n', out)
         self.assertFalse(os.path.exists(self.path('found', 'work')))
+
+    def test_a_campaign_with_a_time_limit_has_no_last_seed(self):
+        commands = ['found', '--', 'true', '--', 'true']
+        self.assertEqual(read_options(commands).seeds, (1, 100))
+        self.assertGreater(read_options(['--time-limit', '3600', *commands]).seeds[1], 10**9)
+        words = ['--time-limit', '3600', '--seeds', '5-7', *commands]
+        self.assertEqual(read_options(words).seeds, (5, 7))
 
     def test_two_commands_are_needed(self):
         ran = self.run_tool('crashfs-campaign', self.path('found'), '--', self.session)

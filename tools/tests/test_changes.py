@@ -11,7 +11,7 @@ from crashfs_tools.checker.states.changes import Changes, read_changes
 from crashfs_tools.common.archive import ArchiveFault, members
 from crashfs_tools.common.entry import Entries
 from crashfs_tools.reading import plan_of, read
-from crashfs_tools.recorder.directory import scan
+from crashfs_tools.recorder.directory import scan_directory
 
 from .support import EXAMPLES, FAKE, InFolder, needed
 from .test_tar import BUILT, EXAMPLE_TRACES
@@ -122,7 +122,7 @@ class OfTheSecondReading(InFolder):
             subprocess.run(['sh', '-e', '-c', script], cwd=self.folder, check=True)
             found = {
                 one.path: (one.mode, one.data)
-                for one in scan(self.path(str(number)), lambda path: False).entries
+                for one in scan_directory(self.path(str(number)), lambda path: False).entries
             }
             wanted = {
                 '/' + path: (entry.mode, entry.data)

@@ -117,7 +117,7 @@ class Checks(InStore):
         new = f'exec {sys.executable} -S {FAKE} "$@"\n'
         text = self.read('bad.trace')
         wanted = (
-            'unproved: a Python program computed these states, '
+            'unproved: the Python implementation computed these states, '
             'as crashfs takes no traces of version 4 yet\n'
         )
         self.write('refuses', f'#!/bin/sh\n{old}{new}', 0o755)

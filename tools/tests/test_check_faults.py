@@ -10,8 +10,8 @@ import unittest
 from pathlib import Path
 from unittest import mock
 
+from crashfs_tools.checker import main
 from crashfs_tools.checker.running.saving import Saver
-from crashfs_tools.common.own_faults import run_guarded
 
 from .support import FAKE, PATIENCE, TOOLS
 from .test_check_command import InStore
@@ -219,15 +219,15 @@ class OfItsOwn(InStore):
                 self.assertNotIn('Traceback', ran.stderr)
 
     def test_a_fault_is_a_line_and_its_traceback_is_asked_for(self):
-        def fails():
-            raise KeyError('a bug\x1b')
-
+        fails = mock.Mock(side_effect=KeyError('a bug\x1b'))
         for variable in ('', '1'):
             read, write = os.pipe()
             with mock.patch.dict(os.environ, CRASHFS_TRACEBACK=variable), mock.patch(
                 'sys.stderr', os.fdopen(write, 'w')
-            ) as stream:
-                self.assertEqual(run_guarded('crashfs-check', fails, 3), 3)
+            ) as stream, mock.patch.multiple(
+                main, run_command=fails, stop_by_exception=mock.Mock()
+            ):
+                self.assertEqual(main.main(['t.trace', '--', 'true']), 3)
                 stream.close()
             with open(read, encoding='utf-8') as printed:
                 lines = printed.read().splitlines()

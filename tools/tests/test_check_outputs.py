@@ -13,7 +13,7 @@ from crashfs_tools.checker.states.layout import lay_out
 from crashfs_tools.checker.states.rewriting import rewrite
 from crashfs_tools.common.command import Refused, write_whole
 from crashfs_tools.common.entry import Entry
-from crashfs_tools.recorder.log_stream import open_log
+from crashfs_tools.recorder.log_stream import create_log
 
 from .support import EXAMPLES, InFolder
 from .test_check_command import InStore
@@ -24,7 +24,7 @@ class Outputs(InStore):
         trace = self.write('own.trace', (EXAMPLES / 'store.trace').read_text(encoding='utf-8'))
         os.symlink('own.trace', self.path('link'))
         before = self.read('own.trace')
-        for option in ('--json', '--junit', '--html'):
+        for option in ('--json', '--junit', '--tap', '--html'):
             for path in ('own.trace', './own.trace', 'link'):
                 ran = self.check(option, path, trace, command=['true'])
                 self.assertEqual((ran.returncode, ran.stdout), (2, ''))
@@ -55,8 +55,9 @@ class Outputs(InStore):
             trace = self.write(
                 'own.trace', (EXAMPLES / 'store.trace').read_text(encoding='utf-8'), mode
             )
-            names = ['r.json', 'r.xml', 'r.html']
-            words = [f'--{kind}={name}' for kind, name in zip(('json', 'junit', 'html'), names)]
+            names = ['r.json', 'r.xml', 'r.tap', 'r.html']
+            kinds = 'json', 'junit', 'tap', 'html'
+            words = [f'--{kind}={name}' for kind, name in zip(kinds, names)]
             for _ in range(2):
                 self.check('--prefixes', *words, trace, command=['true'])
                 self.assertEqual({self.mode(name) for name in names}, {wanted})
@@ -86,7 +87,7 @@ class Outputs(InStore):
             with self.assertRaisesRegex(OSError, 'another user made it'):
                 write_whole(path, ['x'])
             with self.assertRaisesRegex(OSError, 'another user made it'):
-                open_log(path)
+                create_log(path)
         os.chown(self.path('shared', 'link'), 0, 0, follow_symlinks=False)
         write_whole(self.path('shared', 'link'), ['mine'])
         self.assertEqual(self.read('victim'), 'mine')

@@ -12,6 +12,7 @@ from crashfs_tools.checker.running.runner import BAD, GOOD, NO_ANSWER, Outcome
 
 from .support import FAKE, PATIENCE, PROGRESS
 from .test_check_command import InStore
+from .test_windows import log_of
 
 # Writes down each state that it is run in.
 COUNT = 'echo $CRASHFS_STATE >> {0}; '
@@ -259,23 +260,27 @@ class Stops(InCounted):
 
 class Archives(InStore):
     def test_an_archive_that_ends_early_is_reported_with_what_ended_its_program(self):
+        """All trees of a small plan are read before the first is tried; of a large one the trees
+        that are tried first are shorter, and whole unless the status says more."""
+        large = self.write('large.trace', log_of(150))
         for end, told in [
             ('kill $$', 'was ended by SIGTERM'),
             ('exit 5', 'ended with status 5'),
             ('exit 0', 'ended with status 0; what it wrote is no archive: it ends ' 'early'),
         ]:
-            cut = self.write(
-                'cut',
-                f'#!/bin/sh\ntest $1 = tar || exec {FAKE} "$@"\n'
-                f'{FAKE} "$@" | head -c 3000\n{end}\n',
-                0o755,
-            )
-            ran = self.run_tool('crashfs-check', '--crashfs', cut, self.good, '--', 'true')
-            # The trees that are tried first are shorter, and whole unless the status says more.
-            in_the_middle = end == 'exit 0'
-            self.assertEqual(ran.returncode, 3 if in_the_middle else 2, ran.stdout)
-            self.assertEqual('(stopped by a fault)' in ran.stdout, in_the_middle)
-            self.assertIn(f'crashfs-check: crashfs tar {told}', ran.stderr)
+            for trace, most in ((self.good, 3000), (large, 6000)):
+                cut = self.write(
+                    'cut',
+                    f'#!/bin/sh\ntest $1 = tar || exec {FAKE} "$@"\n'
+                    f'{FAKE} "$@" | head -c {most}\n{end}\n',
+                    0o755,
+                )
+                words = ['--crashfs', cut, '--prefixes', trace, '--', 'true']
+                ran = self.run_tool('crashfs-check', *words)
+                in_the_middle = end == 'exit 0' and trace == large
+                self.assertEqual(ran.returncode, 3 if in_the_middle else 2, ran.stdout)
+                self.assertEqual('(stopped by a fault)' in ran.stdout, in_the_middle)
+                self.assertIn(f'crashfs-check: crashfs tar {told}', ran.stderr)
 
     def test_a_program_may_write_its_archive_to_the_end(self):
         slow = self.write(
@@ -294,11 +299,11 @@ class Progress(unittest.TestCase):
     def test_without_a_terminal_a_line_comes_every_half_minute(self):
         stream, now = io.StringIO(), [0.0]
         shown = progress.Progress(stream, lambda: now[0])
-        shown.begin(100)
+        shown.begin_part(100)
         for step in range(1, 66):
             now[0] = step
-            shown.step(Outcome(BAD if step == 2 else GOOD))
-        shown.end()
+            shown.add_outcome(Outcome(BAD if step == 2 else GOOD))
+        shown.end_part()
         self.assertEqual(
             stream.getvalue().splitlines(),
             [
@@ -311,11 +316,11 @@ class Progress(unittest.TestCase):
         stream, now = io.StringIO(), [0.0]
         shown = progress.Progress(stream, lambda: now[0])
         for window in range(4):
-            shown.begin(10, f'part {window}: ')
+            shown.begin_part(10, f'part {window}: ')
             for _ in range(10):
                 now[0] += 1
-                shown.step(Outcome(GOOD))
-            shown.end()
+                shown.add_outcome(Outcome(GOOD))
+            shown.end_part()
         self.assertEqual(
             stream.getvalue().splitlines(),
             ['crashfs-check: part 2: 10 of 10 tried, 0 fail, about 0 seconds left'],
@@ -330,7 +335,7 @@ class Progress(unittest.TestCase):
             (3600, '1 hour'),
             (9000, '2 hours'),
         ]:
-            self.assertEqual(progress.duration(seconds), shown)
+            self.assertEqual(progress.duration_text(seconds), shown)
 
 
 if __name__ == '__main__':

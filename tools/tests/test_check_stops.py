@@ -13,27 +13,43 @@ from .support import FAKE, PATIENCE, TOOLS
 from .test_check_command import InStore
 
 
-# A signal comes right after one of two calls of a guard that begins.
+# A signal comes to a command as its guard begins: when the directory has just been made, or when a
+# process has just been forked, in the first process.
 EARLY = """\
 import os, signal, sys, tempfile
 from unittest import mock
 from crashfs_tools.common.guard import Guard, Stopped, stop_by_exception
 
 stop_by_exception()
+command = os.getpid()
 call = os.fork if sys.argv[1] == 'os.fork' else tempfile.mkdtemp
 
 def call_and_stop(**words):
     made = call(**words)
     if made != 0:
-        os.kill(os.getpid(), signal.SIGTERM)
+        os.kill(command, signal.Signals[sys.argv[2]])
     return made
 
 try:
-    with mock.patch(sys.argv[1], call_and_stop), Guard('crashfs-check-'):
+    with mock.patch(sys.argv[1], call_and_stop), Guard('crashfs-check'):
         print('begun')
 except Stopped as stopped:
     print(stopped, os.listdir(tempfile.gettempdir()))
 """
+
+
+def stop_early(call, stop, folder):
+    """What a command prints that a signal stops as its guard begins, and its status."""
+    ran = subprocess.run(
+        [sys.executable, '-c', EARLY, call, stop],
+        cwd=TOOLS,
+        env={**os.environ, 'TMPDIR': folder},
+        stdout=subprocess.PIPE,
+        text=True,
+        check=False,
+        timeout=PATIENCE,
+    )
+    return ran.stdout, ran.returncode
 
 
 class Stops(InStore):
@@ -69,16 +85,14 @@ class Stops(InStore):
 
     def test_a_stop_before_the_first_state_leaves_nothing(self):
         for call in ('tempfile.mkdtemp', 'os.fork'):
-            ran = subprocess.run(
-                [sys.executable, '-c', EARLY, call],
-                cwd=TOOLS,
-                env={**os.environ, 'TMPDIR': self.path('tmp')},
-                stdout=subprocess.PIPE,
-                text=True,
-                check=True,
-                timeout=PATIENCE,
-            )
-            self.assertEqual(ran.stdout, 'SIGTERM []\n', call)
+            ended = stop_early(call, 'SIGTERM', self.temporary)
+            self.assertEqual(ended, ('SIGTERM []\n', 0), call)
+
+    def test_a_kill_before_the_first_state_leaves_nothing(self):
+        for call in ('tempfile.mkdtemp', 'os.fork'):
+            ended = stop_early(call, 'SIGKILL', self.temporary)
+            self.assertEqual(ended, ('', -signal.SIGKILL), call)
+            self.wait_until(lambda: os.listdir(self.temporary) == [], f'nothing left after {call}')
 
     def test_a_hangup_that_is_ignored_stops_nothing(self):
         child = self.begin(ignored='HUP')

@@ -3,7 +3,7 @@
 import os
 import unittest
 
-from crashfs_tools.checker.findings.swaps import replaces_bytes
+from crashfs_tools.checker.findings.swaps import has_replaced_bytes
 from crashfs_tools.checker.findings.tree_diff import different_lines
 from crashfs_tools.checker.states.steps import Session
 from crashfs_tools.common.entry import Entry
@@ -126,7 +126,7 @@ class Checks(InFolder):
         self.assertNotIn('not tried', ran.stdout)
         self.assertIn(
             '  2 recoveries: 6 different states of a second crash, none fails\n'
-            '  unproved: a Python program computed the states of 2 of these\n',
+            '  unproved: the Python implementation computed the states of 2 of these\n',
             ran.stdout,
         )
         self.assertEqual(ran.stdout.count('unproved'), 1)
@@ -136,7 +136,9 @@ class Checks(InFolder):
         ran = self.run_tool(
             *('crashfs-check', '--crashfs', program, '--prefixes', 'store.trace', '--', 'true')
         )
-        self.assertIn('unproved: a Python program computed these states, as crashfs ', ran.stdout)
+        self.assertIn(
+            'unproved: the Python implementation computed these states, as crashfs ', ran.stdout
+        )
 
 
 class Differences(unittest.TestCase):
@@ -160,7 +162,7 @@ class Differences(unittest.TestCase):
             (zeros, SparseBytes(1 << 30, [(1 << 29, b'abc')]), 1 << 29),
             (SparseBytes(1 << 30, [(5000, b'x')]), zeros, 5000),
             (zeros, SparseBytes((1 << 30) - 5), (1 << 30) - 5),
-            (b'abcd', SparseBytes.of(b'abxd'), 2),
+            (b'abcd', SparseBytes.copy_of(b'abxd'), 2),
             (b'abc', b'abcd', 3),
             (bytes(9000), bytes(8999) + b'x', 8999),
         ):
@@ -177,7 +179,7 @@ class Differences(unittest.TestCase):
         ):
             new = old.copy()
             new.write(at, data)
-            self.assertEqual(replaces_bytes(old, new), expected, at)
+            self.assertEqual(has_replaced_bytes(old, new), expected, at)
 
 
 class Pieces(unittest.TestCase):

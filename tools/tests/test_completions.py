@@ -15,7 +15,7 @@ from inventory.command_lines import (
     HELP,
     TOOLS,
     Option,
-    about,
+    command_help,
     commands_of_program,
     options_of_tool,
 )
@@ -55,6 +55,18 @@ class Lines(unittest.TestCase):
             self.assertEqual(fish_option('p', option), line)
 
 
+class OfTools(unittest.TestCase):
+    def test_each_option_of_a_parser_is_in_its_help_and_no_other(self) -> None:
+        for command, parser in TOOLS.items():
+            printed = re.findall(r'^  (--?[a-z].*)$', parser().format_help(), re.M)
+            names = {
+                name for line in printed for name in re.findall(r'(?<![\w-])--?[a-z][\w-]*', line)
+            }
+            options = options_of_tool(command)
+            self.assertEqual({name for it in options for name in it.names} - names, set(), command)
+            self.assertEqual(len(printed), len(options), command)
+
+
 @needs_program
 class OfProgram(unittest.TestCase):
     """The options that are read from the program's source are those of its help."""
@@ -85,7 +97,7 @@ class OfProgram(unittest.TestCase):
         printed = dict(re.findall(r'^  (\w+) +(.*)$', self.help_of(), re.M))
         self.assertEqual(printed.keys() - {'help'}, set(commands_of_program()))
         for command in commands_of_program():
-            self.assertEqual(about(command), printed[command])
+            self.assertEqual(command_help(command), printed[command])
 
 
 @needs_zsh

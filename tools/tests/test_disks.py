@@ -2,6 +2,7 @@
 
 from __future__ import annotations
 
+import errno
 import os
 import signal
 import subprocess
@@ -10,7 +11,7 @@ import tempfile
 import unittest
 from collections import Counter
 from pathlib import Path
-from typing import Dict, List, Set
+from typing import Callable, Dict, List, Optional, Set
 from unittest import mock
 
 from crashfs_tools.checker.findings.read_trees import entries_of
@@ -19,8 +20,8 @@ from crashfs_tools.common.entry import Entries, Entry
 from crashfs_tools.common.sparse import SparseBytes
 from crashfs_tools.common.trace import KINDS, Trace
 from crashfs_tools.common.trace_read import read_trace, replay
-from crashfs_tools.disks import disk, filesystems, images
-from crashfs_tools.disks.levers import Lever, Pull, pulls
+from crashfs_tools.disks import disk, filesystems, images, own_mounts
+from crashfs_tools.disks.levers import Lever
 from crashfs_tools.disks.moments import Moment, moments
 from crashfs_tools.disks.owners import FIRST_UNKNOWN, Owners
 from crashfs_tools.disks.pool import DiskPool
@@ -95,12 +96,6 @@ class Moments(unittest.TestCase):
         self.assertEqual(found[-1], Moment(21, 3, 3, 25))
         self.assertEqual(len(found), len(trace.operations) + 1 - 3)
 
-    def test_a_lever_is_pulled_as_often_as_it_makes_sense(self) -> None:
-        self.assertEqual(list(pulls(Lever.ONE, 3)), [Pull(Lever.ONE, place) for place in range(3)])
-        self.assertEqual(list(pulls(Lever.ONE, 1)), [])
-        self.assertEqual(list(pulls(Lever.BYTES, 0)), [])
-        self.assertEqual(list(pulls(Lever.LOG, 0)), [Pull(Lever.LOG)])
-
 
 class InReplays(InFolder):
     def replayed(self, trace: Trace) -> Entries:
@@ -134,7 +129,7 @@ class Replays(InReplays):
 
     def test_a_number_with_two_names_is_read_as_the_first(self) -> None:
         owners = Owners(read_trace(ALL_KINDS))
-        with mock.patch.object(owners.users, 'known', return_value=0):
+        with mock.patch.object(owners.users, 'first_number', return_value=0):
             self.assertEqual(owners.users.number('toor'), 0)
         self.assertEqual(owners.users.name(0), 'root')
 
@@ -170,7 +165,7 @@ class Digests(unittest.TestCase):
             whole = b'x' * 5 + bytes(size - 6) + b'y'
             digests = {
                 disk.digest_of({'/a': Entry('u', 'g', 0o644, data)})
-                for data in (whole, bytearray(whole), SparseBytes.of(whole))
+                for data in (whole, bytearray(whole), SparseBytes.copy_of(whole))
             }
             self.assertEqual(len(digests), 1, size)
 
@@ -198,6 +193,47 @@ class Names(unittest.TestCase):
             )
 
 
+@unittest.skipIf(os.geteuid() != 0, 'chroot needs root')
+class OwnMounts(InFolder):
+    def in_chroot(self, call: Callable[[], Optional[str]]) -> str:
+        """What a function returns in a process whose root is a directory of the test."""
+        reading, writing = os.pipe()
+        process = os.fork()
+        if process == 0:
+            try:
+                os.chroot(self.path(''))
+                os.write(writing, str(call()).encode())
+            finally:
+                os._exit(0)
+        os.close(writing)
+        os.waitpid(process, 0)
+        with open(reading, encoding='utf-8') as pipe:
+            return pipe.read()
+
+    def test_a_root_that_is_no_mount_point_is_a_missing_requirement(self) -> None:
+        def required() -> Optional[str]:
+            with self.assertRaises(Refused) as refused:
+                filesystems.require_filesystems(['ext4'])
+            return str(refused.exception)
+
+        said = "a process can't have mounts of its own: / is not a mount point"
+        self.assertEqual(self.in_chroot(own_mounts.missing_own_mounts), said)
+        self.assertEqual(self.in_chroot(required), f'--disks: {said}')
+
+    def test_what_the_system_forbids_is_named(self) -> None:
+        with mock.patch.object(own_mounts, 'unshare_mounts', return_value=errno.EPERM):
+            said = "a process can't have mounts of its own: Operation not permitted"
+            self.assertEqual(own_mounts.missing_own_mounts(), said)
+            with self.assertRaisesRegex(Refused, f'--disks: {said}'):
+                own_mounts.use_own_mounts()
+
+    @unittest.skipIf(own_mounts.missing_own_mounts() is not None, 'no mounts of its own here')
+    def test_trying_leaves_the_mounts_of_this_process(self) -> None:
+        before = os.readlink('/proc/self/ns/mnt')
+        self.assertIsNone(own_mounts.missing_own_mounts())
+        self.assertEqual(os.readlink('/proc/self/ns/mnt'), before)
+
+
 @needs_disks
 class Disks(InFolder):
     def test_every_disk_of_ext4_is_an_allowed_set(self) -> None:
@@ -218,42 +254,6 @@ class Disks(InFolder):
         levers = Counter(crash.lever for one in found for crash in one.crashes)
         self.assertEqual(levers[Lever.NOTHING], len(made.tasks()))
         self.assertEqual(mounted_below(self.path('')), [])
-
-    def test_a_rename_that_is_not_synced_is_lost_unless_the_log_is_written(self) -> None:
-        text = '\n'.join(
-            [
-                *ALL_KINDS.splitlines()[:3],
-                '{"op":"rename","from":"/d/f","to":"/d/g"}',
-                '{"op":"say","text":"renamed"}',
-            ]
-        )
-        made = DiskPool([filesystems.KNOWN['ext4']], read_trace(text), self.path(''))
-        trees = {
-            crash.lever: '/d/g' in one.tree
-            for one in made.disks(1, lambda *_: None)['ext4']
-            for crash in one.crashes
-            if crash.moment.most == 1
-        }
-        self.assertEqual(trees[Lever.NOTHING], False)
-        self.assertEqual(trees[Lever.LOG], True)
-
-    def test_a_lever_works_without_the_ones_before_it(self) -> None:
-        lines = [
-            *ALL_KINDS.splitlines()[:3],
-            '{"op":"write","path":"/d/f","offset":0,"text":"HELLO"}',
-        ]
-        pool = DiskPool(
-            [filesystems.KNOWN['ext4']],
-            read_trace('\n'.join(lines)),
-            self.path(''),
-            [Lever.BYTES],
-        )
-        found = [
-            (one.tree['/d/f'].data, crash.lever)
-            for one in pool.disks(1, lambda *_: None)['ext4']
-            for crash in one.crashes
-        ]
-        self.assertEqual(found, [(b'HELLO', Lever.BYTES)])
 
     def test_syncs_of_data_make_what_they_cover_durable(self) -> None:
         for sync in ('"offset":0,"length":9000', '"offset":4096,"length":4096', ''):
@@ -314,13 +314,13 @@ class Copies(InFolder):
             file.truncate(1 << 24)
             file.seek(1 << 20)
             file.write(b'x' * 5000)
-        images.copy(self.path('a'), self.path('b'))
+        images.copy_image(self.path('a'), self.path('b'))
         self.assertEqual(Path(self.path('a')).read_bytes(), Path(self.path('b')).read_bytes())
         self.assertLess(os.stat(self.path('b')).st_blocks * 512, 1 << 20)
 
     def test_a_program_that_fails_is_named_with_its_first_line(self) -> None:
         with self.assertRaisesRegex(Refused, '--disks: sh: no'):
-            images.run(['sh', '-c', 'echo no; echo yes; exit 4'])
+            images.run_program(['sh', '-c', 'echo no; echo yes; exit 4'])
 
 
 if __name__ == '__main__':

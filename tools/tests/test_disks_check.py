@@ -2,16 +2,19 @@
 
 from __future__ import annotations
 
+import io
 import json
 import os
 import shutil
 import signal
 import unittest
 from pathlib import Path
-from typing import Set
+from typing import Any, Dict, List, Set, Tuple
 from unittest import mock
 from xml.etree import ElementTree
 
+from crashfs_tools.api.reports import Report
+from crashfs_tools.checker.checking import Check, check_trace
 from crashfs_tools.checker.findings import disk_search
 from crashfs_tools.checker.findings.sightings import (
     OUTSIDE,
@@ -20,12 +23,16 @@ from crashfs_tools.checker.findings.sightings import (
     Sightings,
     sentence,
 )
+from crashfs_tools.checker.options import Options, Shard
 from crashfs_tools.checker.report.junit import junit_lines
 from crashfs_tools.checker.report.page import page
 from crashfs_tools.checker.report.report import CheckReport
+from crashfs_tools.checker.running.progress import Progress
 from crashfs_tools.checker.running.results import Head
 from crashfs_tools.checker.running.runner import BAD, Outcome
 from crashfs_tools.common.entry import Entry
+from crashfs_tools.common.guard import Guard, TimeUp
+from crashfs_tools.disks import filesystems
 from crashfs_tools.disks.disk import Crash
 from crashfs_tools.disks.levers import Lever
 from crashfs_tools.disks.moments import Moment
@@ -86,14 +93,55 @@ class Explanations(unittest.TestCase):
     def test_a_search_that_was_cut_off_says_how_many_states_it_saw(self) -> None:
         trace = (CONFIG / 'config.trace').read_bytes()
         with mock.patch.object(disk_search, 'MOST_STATES', 3):
-            result = disk_search.search(trace, {('none', 0)})
+            result = disk_search.search_trees(trace, {('none', 0)})
         self.assertEqual(
             result.explanation(('none', 0)).text,
             'none of the 3 crash states that were looked through has this tree',
         )
-        self.assertEqual(
-            disk_search.search(trace, {('none', 0)}).explanation(('none', 0)), Explanation(OUTSIDE)
-        )
+        whole = disk_search.search_trees(trace, {('none', 0)})
+        self.assertEqual(whole.explanation(('none', 0)), Explanation(OUTSIDE))
+
+
+class NotDone(InStore):
+    """What a check that ends early says of what was asked for besides its states."""
+
+    def checked(self, time_limit: float, **more: Any) -> Tuple[List[str], Dict[str, Any]]:
+        """The report's lines, and its JSON."""
+        options = Options(str(CONFIG / 'config.trace'), unproved=True, jobs=1, **more)
+        options.command = ['sh', '-c', 'sleep 0.2'] if time_limit else [str(CONFIG / 'check.sh')]
+        options.time_limit = time_limit or None
+        with mock.patch.object(filesystems, 'require_filesystems'):
+            with Guard('crashfs-check', may_reap=False) as guard:
+                found = check_trace(options, guard, Progress(io.StringIO()))
+        report = Report(found.report)
+        report.write_json(self.path('r.json'))
+        return report.lines, json.loads(Path(self.path('r.json')).read_text('utf-8'))
+
+    def test_disks_and_recoveries_that_no_time_is_left_for_are_named(self) -> None:
+        lines, fields = self.checked(0.7, disks=['ext4'], nested=2)
+        self.assertIn('  --nested: 2 of 2 not tried (stopped by the time limit)', lines)
+        self.assertIn('  --disks: not tried (stopped by the time limit)', lines)
+        self.assertEqual(len(fields['not_done']), 2)
+
+    def test_a_time_limit_may_come_when_all_states_are_tried(self) -> None:
+        with mock.patch.object(Check, 'add_details', side_effect=TimeUp):
+            lines, fields = self.checked(0, disks=['ext4'])
+        self.assertIn('  --disks: not tried (stopped by the time limit)', lines)
+        self.assertNotIn('not tried', lines[1])
+        self.assertEqual(fields['stopped'], '')
+
+    def test_of_the_first_failure_and_of_shards_it_is_said_too(self) -> None:
+        for more, why in (
+            ({'fail_fast': True}, 'stopped by the first failure'),
+            ({'shard': Shard(1, 2)}, 'only a part of the states is'),
+        ):
+            lines, _ = self.checked(0, disks=['ext4'], **more)
+            self.assertIn(f'  --disks: not tried ({why})', lines)
+
+    def test_of_what_was_not_asked_for_nothing_is_said(self) -> None:
+        lines, fields = self.checked(0, fail_fast=True)
+        self.assertFalse([line for line in lines if line.startswith('  --')])
+        self.assertNotIn('not_done', fields)
 
 
 class Reports(unittest.TestCase):

@@ -9,8 +9,9 @@ from typing import Dict, List, Tuple
 
 from crashfs_tools.reading import StateList, ReadingFault, Reading, plan_of, read
 from crashfs_tools.reading.classes import Classes
-from crashfs_tools.reading.every import count_sets, every_set, sample
-from crashfs_tools.reading.order import Order, bits
+from crashfs_tools.reading.every import count_sets, drawn_sets, every_set
+from crashfs_tools.reading.order import Order
+from crashfs_tools.reading.place_sets import places_of
 
 from .random_traces import RandomTrace
 from .support import EXAMPLES
@@ -66,7 +67,7 @@ def every(lines: List[str]) -> List[str]:
 
 
 def text_of(places: int) -> str:
-    return json.dumps(list(bits(places)), separators=(',', ':'))
+    return json.dumps(list(places_of(places)), separators=(',', ':'))
 
 
 def count(lines: List[str]) -> int:
@@ -131,18 +132,28 @@ class Rows(unittest.TestCase):
         lines = [HEADERS['blocks'], say('1'), creat('/a')]
         self.assertEqual(every(lines), ['[]', '[0]', '[0,1]'])
         order = Order(reading_of(lines))
-        drawn = list(sample(order, 5, 1))
+        drawn = list(drawn_sets(order, 5, 1))
         self.assertEqual(len(drawn), 5)
         self.assertLessEqual(set(drawn), set(every_set(order)))
-        self.assertEqual(list(sample(order, 5, 1)), drawn)
+        self.assertEqual(list(drawn_sets(order, 5, 1)), drawn)
 
     def test_sets_that_two_profiles_allow(self) -> None:
         reading = reading_of([HEADERS['blocks'], creat('/a'), creat('/b')])
         self.assertEqual(
             list(map(text_of, every_set(Order(reading)))), ['[]', '[1]', '[0]', '[0,1]']
         )
-        both = Order(reading).within(reading, 'ordered')
+        both = Order(reading).also_under(reading, 'ordered')
         self.assertEqual(list(map(text_of, every_set(both))), ['[]', '[0]', '[0,1]'])
+
+    def test_what_one_of_two_profiles_makes_durable_is_not_pending(self) -> None:
+        # The fsync of /b writes the log, with the profile journal: /a is in it.
+        sync = '{"op":"fsync","path":"/b"}'
+        header = HEADERS['blocks'].replace('"trace":3', '"trace":4')
+        reading = reading_of([header, creat('/a'), creat('/b'), sync, creat('/c')])
+        blocks, both = Order(reading), Order(reading).also_under(reading, 'journal')
+        self.assertEqual(both.profile, 'journal')
+        self.assertEqual((blocks.pending(2), both.pending(2)), (0b11, 0))
+        self.assertEqual((blocks.pending(3), both.pending(3)), (0b111, 0b100))
 
 
 class AllSets(unittest.TestCase):
@@ -197,7 +208,7 @@ class AllSets(unittest.TestCase):
 
     def test_each_set_has_the_same_chance(self) -> None:
         order = Order(reading_of(RENAMED))
-        drawn = list(sample(order, 16_384, 7))
+        drawn = list(drawn_sets(order, 16_384, 7))
         counts = [drawn.count(places) for places in every_set(order)]
         self.assertEqual(sum(counts), 16_384)
         # Within five standard deviations of 16,384 / 17.

@@ -2,6 +2,7 @@
 
 import os
 import re
+import shutil
 import unittest
 
 from crashfs_tools.common.trace import WRITTEN_VERSION
@@ -76,6 +77,64 @@ class Recorded(InFolder):
         found = self.record('sqlite3', 'test.db', f'.read {example("sqlite", "session.sql")}')
         self.assertEqual(sum('"say"' in line for line in found), 4)
         self.assertEqual(sum('"unlink","path":"/test.db-journal"' in line for line in found), 4)
+
+
+@needs_strace
+class RareBugs(InFolder):
+    """The store of examples/campaign: each of its bugs is found in a session that has its path."""
+
+    BUGS = ('snapshot', 'compact', 'grow')
+
+    def report(self, seed: int, *bugs: str) -> str:
+        """The report of the session of a seed, by a store with these bugs only."""
+        os.mkdir(self.path('store'))
+        mended = ' '.join(bug for bug in self.BUGS if bug not in bugs)
+        variables = [
+            f'CRASHFS_SEED={seed}',
+            f'EXAMPLE_MENDED={mended}',
+            'PYTHONDONTWRITEBYTECODE=1',
+        ]
+        session = ['env', *variables, example('campaign', 'session.py')]
+        made = self.run_tool('crashfs-record', 'store', 'out.trace', '--', *session)
+        self.assertEqual(made.returncode, 0, made.stderr)
+        words = ('--crashfs', FAKE, '--quick', '--jobs', '2', 'out.trace')
+        recovery = ('env', 'PYTHONDONTWRITEBYTECODE=1', example('campaign', 'recover.py'))
+        return self.run_tool('crashfs-check', *words, '--', *recovery).stdout
+
+    def assert_one_entry(self, report: str, cause: str, *pieces: str) -> None:
+        """The report has one entry, with these pieces of text in their order."""
+        entries = re.findall('^  (?=[a-z]+:).*', report, re.M)
+        self.assertEqual([entry[2 : 2 + len(cause)] for entry in entries], [cause], report)
+        self.assertRegex(' '.join(report.split()), '.*'.join(map(re.escape, pieces)))
+
+    def test_a_snapshot_is_lost_without_a_sync_of_the_directory(self) -> None:
+        self.assert_one_entry(
+            self.report(6, 'snapshot'),
+            'lost: a snapshot',
+            '(rename /1.open to /1.log) was not durable',
+            'acknowledged "snapshot 1": fsync the directory / between them',
+        )
+
+    def test_compaction_loses_a_value_if_it_removes_logs_too_early(self) -> None:
+        self.assert_one_entry(
+            self.report(12, 'compact'),
+            'lost: a value',
+            '(rename /merged to /3.log) was not durable',
+            '(unlink /1.log) was: fsync the directory / between them',
+        )
+
+    def test_a_log_is_damaged_whose_header_was_written_before_it_had_its_size(self) -> None:
+        self.assert_one_entry(
+            self.report(12, 'grow'),
+            'corrupt: 2.open has 512 bytes, its header says 1392',
+            '(truncate /2.open, 1,392 bytes) was not durable',
+            '(write /2.open, 8 bytes at 0) was: fsync /2.open between them',
+        )
+
+    def test_without_its_bugs_the_store_is_right(self) -> None:
+        for seed in (6, 12):
+            self.assertRegex(self.report(seed), 'none fails\n$')
+            shutil.rmtree(self.path('store'))
 
 
 if __name__ == '__main__':

@@ -74,6 +74,12 @@ def log_with(**changed: str) -> str:
 
 
 @needs_git
+class QuickTests(unittest.TestCase):
+    def test_each_quick_module_is_there(self) -> None:
+        there = {path.stem for path in (TOOLS / 'tests').glob('test_*.py')}
+        self.assertEqual({f'test_{name}' for name in QUICK} - there, set())
+
+
 class Gate(InFolder):
     def setUp(self) -> None:
         super().setUp()

@@ -11,11 +11,10 @@ from crashfs_tools.checker.report.text import WIDTH, ReportText
 from crashfs_tools.checker.running.results import Head, Results
 from crashfs_tools.checker.running.runner import BAD, GOOD, Outcome
 from crashfs_tools.checker.states.plan import read_plan
-from crashfs_tools.common.trace_lines import TraceLine, without_numbers
-from crashfs_tools.common.trace_text import read_text, with_syncs
+from crashfs_tools.common.trace_lines import TraceLine, read_text, with_syncs, without_numbers
 from crashfs_tools.reading import plan_of, read
 from crashfs_tools.reading.listing import json_listing
-from crashfs_tools.reading.plan import different, file_sets, lost_sets
+from crashfs_tools.reading.plan import different_places, file_sets, lost_sets
 
 from .random_traces import RandomTrace
 from .support import FAKE
@@ -49,7 +48,8 @@ def plan_text(text, picks=True):
     """The plan with all families, as `list` prints it."""
     reading = read(text.encode())
     plain = plan_of(reading)
-    sets = [*different(lost_sets(plain)), *different(file_sets(plain))] if picks else []
+    families = (lost_sets(plain), file_sets(plain)) if picks else ()
+    sets = [one for family in families for one in different_places(family)]
     return ''.join(json_listing(plan_of(reading, True, sets)))
 
 
@@ -92,9 +92,8 @@ class Plans(unittest.TestCase):
             plan = read_plan(listed)
             third = text.replace('"trace":1', '"trace":3,"profile":"blocks","block":4096', 1)
             wanted = plan_of(read(third.encode()), True)
-            self.assertEqual(
-                [(plan.text(one), plan.kept[one.number]) for one in plan.states], wanted.states
-            )
+            found = [(plan.state_text(one), plan.kept[one.number]) for one in plan.states]
+            self.assertEqual(found, wanted.states)
             fewer += len(plan.states) < len(plan.listed)
         self.assertGreater(fewer, 50)
 
@@ -112,7 +111,7 @@ class Plans(unittest.TestCase):
                 [places for _, places in wanted],
             )
             self.assertEqual(plan.states, plan.listed)
-            self.assertTrue(all(map(plan.needs.allow, plan.kept.values())))
+            self.assertTrue(all(map(plan.needs.is_allowed, plan.kept.values())))
 
 
 class Groups(unittest.TestCase):
@@ -185,8 +184,8 @@ class Groups(unittest.TestCase):
         report, plan = reported(findings), findings.plan
         whole = '\n'.join(ReportText(report).lines())
         for group in report.groups():
-            lacking = [bin(plan.lacking(state)).count('1') for state in group.states]
-            self.assertEqual(bin(plan.lacking(group.example)).count('1'), min(lacking))
+            lacking = [bin(plan.set_lost_by(state)).count('1') for state in group.states]
+            self.assertEqual(bin(plan.set_lost_by(group.example)).count('1'), min(lacking))
         self.assertIn(
             'line 4 (rename /t to /f) was not durable when line 6 acknowledged "one":', whole
         )

@@ -1,11 +1,20 @@
 """--ignore has the rules of .gitignore."""
 
+import os
+import shutil
+import subprocess
 import unittest
+import warnings
+from typing import List, Set, Tuple
 
 from crashfs_tools.recorder.ignore import Ignore
 
+from .support import InFolder, needed
+
+Case = Tuple[List[str], str, bool]
+
 # (the patterns, a path, whether it is left out)
-CASES = [
+CASES: List[Case] = [
     (['LOG'], '/db/LOG', True),
     (['LOG'], '/LOG', True),
     (['LOG'], '/LOGS', False),
@@ -38,22 +47,125 @@ CASES = [
     (['[[:digit:]]x'], '/7x', True),
     (['[[:digit:]]x'], '/ax', False),
     (['[]a]x'], '/]x', True),
-    (['[a'], '/[a', True),
-    (['[]'], '/[]', True),
     ([], '/x', False),
+    (['*', '!x'], '/', False),
+    (['**', '!x'], '/', False),
+    (['*/', '!x'], '/', False),
+    (['*', '!x'], '/x', False),
+    (['*', '!x'], '/y', True),
+    (['[!]a]x'], '/]x', False),
+    (['[\\]]x'], '/]x', True),
+    (['[a\\]b]x'], '/]x', True),
+    (['[\\\\]x'], '/\\x', True),
+    (['[\\a-c]x'], '/bx', True),
+    (['[a-\\c]x'], '/bx', True),
+    (['[a-\\c]x'], '/\\x', False),
+    (['[[a]x'], '/[x', True),
+    (['[a&&b]x'], '/&x', True),
+    (['[a||b]x'], '/|x', True),
+    (['[a~~b]x'], '/~x', True),
+    (['[a--b]x'], '/ax', True),
+    (['[a--b]x'], '/bx', True),
+    (['[a--b]x'], '/-x', False),
+    (['[--a]x'], '/Ax', True),
+    (['[a-]x'], '/-x', True),
+    (['[a-c-e]x'], '/dx', False),
+    (['[a-c-e]x'], '/-x', True),
+    (['[z-a]x'], '/zx', True),
+    (['[z-a]x'], '/mx', False),
+    (['[[:digit:]-a]x'], '/-x', True),
+    (['[[:punct:]]x'], '/-x', True),
+    (['[![:punct:]]x'], '/-x', False),
+    (['[[:]x'], '/:x', True),
+    (['[[:a]x'], '/[x', True),
+    (['[:digit:]x'], '/7x', False),
+    (['a**b'], '/a/x/b', False),
+    (['a**b'], '/axb', True),
+    (['/a**b'], '/a/x/b', False),
+    (['/foo**bar'], '/foo/bar', False),
+    (['/foo**bar'], '/fooxbar', True),
+    (['a**/b'], '/ax/b', True),
+    (['a/**b'], '/a/xb', True),
+    (['a/**b'], '/a/x/b', False),
+    (['a/***/b'], '/a/x/y/b', True),
+    (['a/**\\/b'], '/a/x/y/b', True),
+    (['a/**\\/b'], '/a/b', False),
+    (['**'], '/a/b', True),
+    (['**x'], '/a/bx', True),
 ]
+# Versions of git that compare `a` first, and take the rest as a whole pattern, say otherwise.
+OWN_CASES: List[Case] = [(['a**/b'], '/ax/y/b', False), (['a**/b'], '/ab', False)]
+# The classes that git knows, and patterns that match nothing in git, with why they are refused.
+CLASSES = 'alnum alpha blank cntrl digit graph lower print punct space upper xdigit'.split()
+NEVER_MATCH = {
+    '[a': 'has no end',
+    '[]': 'has no end',
+    '[!]': 'has no end',
+    'x[a\\]': 'has no end',
+    '[a\\': 'has no end',
+    '[[:digit:]': 'has no end',
+    '[[:word:]]': 'is no class of letters',
+    '[[::]]': 'is no class of letters',
+    'a\\': 'ends in a backslash',
+}
 
 
 class Patterns(unittest.TestCase):
     def test_what_each_pattern_leaves_out(self):
-        for globs, path, wanted in CASES:
-            with self.subTest(f'{globs} {path}'):
+        for globs, path, wanted in [*CASES, *OWN_CASES]:
+            with self.subTest(f'{globs} {path}'), warnings.catch_warnings():
+                warnings.simplefilter('error')
                 self.assertEqual(Ignore(globs)(path), wanted)
 
-    def test_a_set_that_has_no_meaning_is_refused(self):
-        for glob in ('[z-a]', 'x[b-a]y'):
-            with self.subTest(glob), self.assertRaisesRegex(ValueError, 'is no set of letters'):
+    def test_a_pattern_that_never_matches_is_refused(self):
+        for glob, why in NEVER_MATCH.items():
+            with self.subTest(glob), self.assertRaisesRegex(ValueError, why):
                 Ignore([glob])
+
+
+@needed(shutil.which('git') is not None, 'git is not there')
+class AsGit(InFolder):
+    """What git itself says, which has each list of patterns in a directory of its own."""
+
+    def ignored(self, cases: List[Case]) -> Set[int]:
+        """The places of the cases whose path git leaves out."""
+        environment = {**os.environ, 'GIT_CONFIG_GLOBAL': os.devnull, 'GIT_CONFIG_NOSYSTEM': '1'}
+        subprocess.run(['git', 'init', '-q', self.folder], check=True, env=environment)
+        paths = []
+        for place, (globs, path, _) in enumerate(cases):
+            os.mkdir(self.path(f'{place}'))
+            self.write(f'{place}/.gitignore', ''.join(f'{glob}\n' for glob in globs))
+            paths.append(f'{place}{path}'.rstrip('/') + '\0')
+        ran = subprocess.run(
+            ['git', 'check-ignore', '--no-index', '-z', '--stdin'],
+            input=''.join(paths),
+            cwd=self.folder,
+            env=environment,
+            stdout=subprocess.PIPE,
+            text=True,
+            check=False,
+        )
+        self.assertIn(ran.returncode, (0, 1))
+        return {int(path.split('/')[0]) for path in ran.stdout.split('\0') if path}
+
+    def assert_as_git(self, cases: List[Case]) -> None:
+        found = self.ignored(cases)
+        for place, (globs, path, wanted) in enumerate(cases):
+            with self.subTest(f'{globs} {path}'):
+                self.assertEqual(place in found, wanted)
+
+    def test_git_leaves_the_same_out(self) -> None:
+        self.assert_as_git(CASES)
+
+    def test_each_class_has_the_letters_of_gits(self) -> None:
+        letters = [chr(code) for code in range(1, 128) if chr(code) != '/']
+        patterns = [(f'[[:{name}:]]x', letter) for name in CLASSES for letter in letters]
+        self.assert_as_git(
+            [([glob], f'/{letter}x', Ignore([glob])(f'/{letter}x')) for glob, letter in patterns]
+        )
+
+    def test_git_leaves_nothing_out_by_what_is_refused(self) -> None:
+        self.assert_as_git([([glob], f'/{glob}', False) for glob in NEVER_MATCH])
 
 
 if __name__ == '__main__':

@@ -134,6 +134,16 @@ class Checks(InterfaceCase):
         self.assertEqual(report.status, 3)
         self.assertEqual(report.entries[0].cause, 'it had not ended after 5 seconds')
 
+    def test_what_a_function_starts_can_be_ended_by_the_guard(self) -> None:
+        outer = os.environ.get('CRASHFS_GUARD')
+
+        def recovery_with_token(folder: str, lines: List[str]) -> None:
+            assert os.environ['CRASHFS_GUARD'] != outer, 'the token of the check is missing'
+
+        trace = str(EXAMPLES / 'config' / 'config.trace')
+        report = check(trace, recovery_with_token, unproved=True, prefixes=True)
+        self.assertEqual(report.entries, [])
+
     def test_children_of_the_caller_are_left_alone(self) -> None:
         child = os.spawnlp(os.P_NOWAIT, 'sleep', 'sleep', '600')
         try:
@@ -148,10 +158,12 @@ class Checks(InterfaceCase):
         report = check(CONFIG, lost_version)
         report.write_json(self.path('r.json'))
         report.write_junit(self.path('r.xml'))
+        report.write_tap(self.path('r.tap'))
         report.write_html(self.path('r.html'))
         fields = json.loads(self.read('r.json'))
         self.assertEqual(fields['groups'][0]['text'][0], SENTENCE)
         self.assertIn('<failure', self.read('r.xml'))
+        self.assertIn(f'\n#   {SENTENCE}\n', self.read('r.tap'))
         self.assertIn(
             '<canvas' if '<canvas' in self.read('r.html') else '<h2>', self.read('r.html')
         )

@@ -5,7 +5,7 @@ import tempfile
 import unittest
 
 from inventory.command import older_files
-from inventory.pages import BEGIN, END, calls_shown, cell, page_with
+from inventory.pages import BEGIN, END, calls_shown, page_with, table_cell
 from inventory.sources import Word, contracts_in, examples_in, words_in
 
 TESTS = '''\
@@ -97,14 +97,15 @@ class Inventories(unittest.TestCase):
         self.assertNotIn('IsKnown', found['List::sort'])
 
     def test_a_bar_and_many_calls_stay_in_their_cell(self):
-        self.assertEqual(cell('a || b'), 'a \\|\\| b')
+        self.assertEqual(table_cell('a || b'), 'a \\|\\| b')
         self.assertEqual(calls_shown(list('abcdef')), '`a`, `b`, `c`, `d` and 2 more')
 
     def test_a_part_is_put_between_its_marks_alone(self):
         page = page_with(f'head\n{BEGIN}\nold\n{END}\ntail\n', 'new')
         self.assertEqual(page, f'head\n{BEGIN}\n\nnew\n\n{END}\ntail\n')
-        with self.assertRaises(ValueError):
-            page_with('no marks', 'new')
+        for text in ('no marks', f'{END} {BEGIN}', f'{BEGIN} {END} not made {BEGIN} {END}'):
+            with self.assertRaises(ValueError):
+                page_with(text, 'new')
 
     def test_a_file_that_is_older_than_its_text_is_found(self):
         older, same = self.written('old'), self.written('same')

@@ -96,7 +96,7 @@ def listing(directory: str):
 
 def fresh(tree, directory):
     one = KeptTree(directory)
-    one.bring(tree)
+    one.change_to(tree)
     found = listing(directory)
     one.remove()
     return found
@@ -126,12 +126,12 @@ class Kept(InFolder):
             kept, wanted = KeptTree(self.place), fresh(TREE, self.path('fresh'))
             for deed in DEEDS:
                 with self.subTest(deed):
-                    kept.bring(TREE)
+                    kept.change_to(TREE)
                     self.assertEqual(listing(self.place), wanted)
                     kept.has_times = has_times
-                    kept.begin()
+                    kept.note_start()
                     subprocess.run(['sh', '-c', deed], cwd=self.place, check=True)
-            kept.bring(TREE)
+            kept.change_to(TREE)
             self.assertEqual(listing(self.place), wanted)
             kept.remove()
             self.assertFalse(os.path.exists(self.place))
@@ -140,48 +140,48 @@ class Kept(InFolder):
         kept = KeptTree(self.place)
         for place in (self.place, '/dev/shm/' + os.path.basename(self.folder)):
             kept = KeptTree(place)
-            kept.bring(TREE)
+            kept.change_to(TREE)
             self.addCleanup(kept.remove)
-            kept.begin()
+            kept.note_start()
             subprocess.run(['python3', '-S', '-c', STORE], cwd=place, check=True)
             self.assertEqual(listing(place)['a'][2], b'Xne')
-            kept.bring(TREE)
+            kept.change_to(TREE)
             self.assertEqual(listing(place)['a'][2], b'one')
 
     def test_a_store_through_a_mapping_into_a_large_file_is_seen(self):
         for place in (self.place, '/dev/shm/' + os.path.basename(self.folder)):
             kept = KeptTree(place)
             self.addCleanup(kept.remove)
-            kept.bring({'': folder(), 'a': file('x' * 70_000)})
-            kept.begin()
+            kept.change_to({'': folder(), 'a': file('x' * 70_000)})
+            kept.note_start()
             subprocess.run(['python3', '-S', '-c', STORE], cwd=place, check=True)
-            kept.bring({'': folder(), 'a': file('x' * 69_000 + 'y' * 1_000)})
+            kept.change_to({'': folder(), 'a': file('x' * 69_000 + 'y' * 1_000)})
             self.assertEqual(listing(place)['a'][2], b'x' * 69_000 + b'y' * 1_000)
 
     def test_what_nobody_changed_stays(self):
         kept = KeptTree(self.place)
-        kept.bring(TREE)
+        kept.change_to(TREE)
         before = self.times()
-        kept.begin()
-        kept.bring(TREE)
+        kept.note_start()
+        kept.change_to(TREE)
         self.assertEqual(self.times(), before)
-        kept.begin()
+        kept.note_start()
         subprocess.run(['sh', '-c', 'echo >> a; rm b'], cwd=self.place, check=True)
-        kept.bring(TREE)
+        kept.change_to(TREE)
         self.assertEqual(
             [path for path in before if self.times()[path] == before[path]], ['d/c', 'd/e/f']
         )
 
     def test_a_file_that_was_written_in_the_same_tick_is_written_again(self):
         kept = KeptTree(self.place)
-        kept.bring(TREE)
-        kept.begin()
+        kept.change_to(TREE)
+        kept.note_start()
         changed = {**TREE, 'a': file('new')}
-        kept.bring(changed)
+        kept.change_to(changed)
         kept.started = os.stat(self.path('kept', 'a')).st_ctime_ns
         before = self.times()
         time.sleep(kept_tree.TICK_SECONDS)
-        kept.bring(changed)
+        kept.change_to(changed)
         self.assertNotEqual(self.times()['a'], before['a'])
         self.assertEqual(self.times()['d/c'], before['d/c'])
 
@@ -189,7 +189,7 @@ class Kept(InFolder):
         whole = bytes(range(256)) * 1_024
         tree = {'': folder(), 'a': replace(file(''), data=whole)}
         kept = KeptTree(self.place)
-        kept.bring(tree)
+        kept.change_to(tree)
         kept.has_times = True
         for deed, data, pieces in (
             ('true', whole[:50_000] + b'changed' + whole[50_007:], [3]),
@@ -201,9 +201,9 @@ class Kept(InFolder):
         ):
             with self.subTest(deed), mock.patch('os.pwrite', side_effect=os.pwrite) as written:
                 node = os.stat(self.path('kept', 'a')).st_ino
-                kept.begin()
+                kept.note_start()
                 subprocess.run(['sh', '-c', deed], cwd=self.place, check=True)
-                kept.bring({**tree, 'a': replace(tree['a'], data=data)})
+                kept.change_to({**tree, 'a': replace(tree['a'], data=data)})
                 with open(self.path('kept', 'a'), 'rb') as stream:
                     self.assertEqual(stream.read(), data)
                 places = [call.args[2] >> 14 for call in written.mock_calls]
@@ -213,11 +213,11 @@ class Kept(InFolder):
                     self.assertEqual(os.stat(self.path('kept', 'a')).st_ino, node)
                 self.assertEqual(os.listdir(self.place), ['a'])
         kept.remove()
-        kept.bring(tree)
+        kept.change_to(tree)
         kept.has_times = False
-        kept.begin()
+        kept.note_start()
         with mock.patch('os.pwrite', side_effect=os.pwrite) as written:
-            kept.bring({**tree, 'a': replace(tree['a'], data=whole[::-1])})
+            kept.change_to({**tree, 'a': replace(tree['a'], data=whole[::-1])})
         self.assertEqual(sum(len(call.args[1]) for call in written.mock_calls), len(whole))
         kept.remove()
 
@@ -227,7 +227,7 @@ class Kept(InFolder):
         tree = {'': folder(), 'a': replace(file(''), data=sparse)}
         for has_times in (True, False):
             kept = KeptTree(self.place)
-            kept.bring(tree)
+            kept.change_to(tree)
             kept.has_times = has_times
             for deed, data in (
                 ('true', other),
@@ -237,9 +237,9 @@ class Kept(InFolder):
                 ('cp --sparse=always a b; mv b a', other),
             ):
                 with self.subTest(deed, has_times=has_times):
-                    kept.begin()
+                    kept.note_start()
                     subprocess.run(['sh', '-c', deed], cwd=self.place, check=True)
-                    kept.bring({**tree, 'a': replace(tree['a'], data=data)})
+                    kept.change_to({**tree, 'a': replace(tree['a'], data=data)})
                     with open(self.path('kept', 'a'), 'rb', buffering=0) as stream:
                         self.assertEqual(file_bytes(stream.fileno()), data)
                         self.assertLess(os.fstat(stream.fileno()).st_blocks, 1_000)
@@ -248,23 +248,23 @@ class Kept(InFolder):
     def test_a_large_file_with_a_new_attribute_is_made_again(self):
         tree = {'': folder(), 'a': file('x' * 70_000)}
         kept = KeptTree(self.place)
-        kept.bring(tree)
-        kept.begin()
+        kept.change_to(tree)
+        kept.note_start()
         try:
             os.setxattr(self.path('kept', 'a'), 'user.mark', b'1')
         except OSError as error:
             self.skipTest(f'{error}')
-        kept.bring({**tree, 'a': file('y' * 70_000)})
+        kept.change_to({**tree, 'a': file('y' * 70_000)})
         self.assertEqual(os.listxattr(self.path('kept', 'a')), [])
 
     def test_a_file_that_is_another_one_is_written_again(self):
         """Also if its times say nothing."""
         kept = KeptTree(self.place)
-        kept.bring(TREE)
-        kept.begin()
+        kept.change_to(TREE)
+        kept.note_start()
         before = self.times()
         kept.files['a'] = kept.files['a']._replace(signature=(0,))
-        kept.bring(TREE)
+        kept.change_to(TREE)
         self.assertEqual([path for path in before if self.times()[path] != before[path]], ['a'])
 
     def test_one_tree_after_another(self):
@@ -281,9 +281,9 @@ class Kept(InFolder):
             self.patch('LARGE_BYTES', large)
             kept = KeptTree(self.place)
             for tree in trees:
-                kept.bring(tree)
+                kept.change_to(tree)
                 self.assertEqual(listing(self.place), fresh(tree, self.path('fresh')))
-                kept.begin()
+                kept.note_start()
             kept.remove()
 
 

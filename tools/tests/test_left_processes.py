@@ -142,10 +142,7 @@ class Reapers(InRuns):
     def test_without_a_reaper_the_mark_in_the_environment_finds_what_is_left(self):
         word = long_time()
         script = f'! pgrep -fx "sleep {word}" || exit 1; setsid sleep {word} &'
-        with mock.patch(
-            'crashfs_tools.checker.running.workers.become_reaper',
-            side_effect=descendants.NoReaper,
-        ):
+        with mock.patch('crashfs_tools.checker.running.workers.become_reaper', return_value=False):
             outcomes = self.outcomes_of(script, range(5))
         self.assertEqual([one.result for one in outcomes.values()], [GOOD] * 5)
         self.assertEqual(processes(word), [])
@@ -157,7 +154,7 @@ class Reapers(InRuns):
             f'echo >> ../runs; setsid sleep {word} & until pgrep -fx "sleep {word}"; do :; done'
         )
         self.addCleanup(lambda: [os.kill(one, signal.SIGKILL) for one in processes(word)])
-        with mock.patch.object(descendants, 'kill'), mock.patch.object(
+        with mock.patch.object(descendants, 'kill_with_group'), mock.patch.object(
             descendants, 'ENDING_SECONDS', 0.3
         ):
             outcomes = self.outcomes_of(script, range(3))
@@ -177,7 +174,7 @@ class Children(unittest.TestCase):
                     descendants.children(), descendants.children_by_parents(os.getpid())
                 )
                 with mock.patch('builtins.open', side_effect=self.no_lists), mock.patch.object(
-                    descendants, 'has_lists', return_value=False
+                    descendants, 'has_children_lists', return_value=False
                 ):
                     found = descendants.children()
                 self.assertIn(child.pid, found)

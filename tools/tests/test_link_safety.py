@@ -90,13 +90,13 @@ class Safety(InFolder):
         for number, deed in enumerate(DEEDS):
             with self.subTest(deed), mock.patch.object(kept_tree, 'TICK_SECONDS', 0.0):
                 kept = KeptTree(self.path(f'kept-{number}'))
-                kept.bring(TREE)
+                kept.change_to(TREE)
                 self.assertEqual(self.found(kept.directory), self.wanted)
-                kept.begin()
+                kept.note_start()
                 self.do(deed, kept.directory)
                 self.assert_untouched()
                 try:
-                    kept.bring(TREE)
+                    kept.change_to(TREE)
                     self.assertEqual(self.found(kept.directory), self.wanted)
                     kept.remove()
                     self.assertFalse(os.path.lexists(kept.directory))
@@ -127,7 +127,7 @@ class Safety(InFolder):
                     lay_out(self.path('bad'), tree.items())
                 remove_tree(self.path('bad'))
                 with self.assertRaises(OSError):
-                    KeptTree(self.path('bad')).bring(tree)
+                    KeptTree(self.path('bad')).change_to(tree)
                 remove_tree(self.path('bad'))
                 self.assert_untouched()
 

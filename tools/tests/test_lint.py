@@ -10,10 +10,10 @@ from unittest import mock
 
 from inventory.pages import BEGIN, END
 from linting import python
-from linting.command import LINTERS, Faults, lint
+from linting.command import LINTERS, Faults, run_linters
 from linting.crates_page import crate_page_faults
 from linting.layout import CODE_COLUMNS, long_functions, long_lines
-from linting.python import install, run, unexplained_in
+from linting.python import faults_of_linter, install_packages, unexplained_in
 from linting.words import (
     Line,
     names_in_python,
@@ -98,17 +98,19 @@ class Python(unittest.TestCase):
             self.assertEqual(unexplained_in({'a.py': line}), [], line)
 
     def test_what_a_linter_prints_counts_only_if_it_fails(self) -> None:
-        self.assertEqual(run(['true'], []), [])
-        self.assertEqual(run(['sh', '-c', 'echo a; echo b >&2; exit 1'], []), ['a', 'b'])
-        self.assertEqual(run(['false'], []), ['false: status 1'])
-        self.assertIsNone(run(['no-such-linter'], []))
+        self.assertEqual(faults_of_linter(['true'], []), [])
+        self.assertEqual(
+            faults_of_linter(['sh', '-c', 'echo a; echo b >&2; exit 1'], []), ['a', 'b']
+        )
+        self.assertEqual(faults_of_linter(['false'], []), ['false: status 1'])
+        self.assertIsNone(faults_of_linter(['no-such-linter'], []))
 
     def test_only_root_installs_and_only_what_is_missing(self) -> None:
         for user, names, calls in ((0, ['mypy'], 1), (0, [], 0), (1000, ['mypy'], 0)):
             with mock.patch.object(python.os, 'geteuid', return_value=user), mock.patch.object(
                 python.shutil, 'which', return_value='/usr/bin/apt-get'
             ), mock.patch.object(python.subprocess, 'run') as started:
-                install(names)
+                install_packages(names)
             self.assertEqual(started.call_count, calls, (user, names))
 
 
@@ -135,7 +137,9 @@ class CratesPage(unittest.TestCase):
 class Command(unittest.TestCase):
     def linted(self, **linters: Faults) -> Tuple[int, str]:
         with contextlib.redirect_stdout(io.StringIO()) as printed:
-            status = lint({name: lambda found=found: found for name, found in linters.items()})
+            status = run_linters(
+                {name: lambda found=found: found for name, found in linters.items()}
+            )
         return status, printed.getvalue()
 
     def test_the_last_line_names_what_failed_and_what_was_skipped(self) -> None:

@@ -33,7 +33,7 @@ def new_files():
 
 def written(word, name='pwrite64'):
     """The second word of a call that writes, as it is kept."""
-    return read_log([f'7 {name}(3</d/f>, {word}, 5, 0) = 5\n']).calls[0].word(1)
+    return read_log([f'7 {name}(3</d/f>, {word}, 5, 0) = 5\n']).calls[0].argument(1)
 
 
 def write_slowly(descriptor, count):
@@ -55,7 +55,7 @@ class Words(unittest.TestCase):
             ('"a, 9', ['"a, 9']),
             ('', ['']),
         ):
-            self.assertEqual(arguments.split(text), words)
+            self.assertEqual(arguments.split_arguments(text), words)
 
     def test_only_texts_by_numbers_are_read(self):
         self.assertEqual(arguments.from_numbers('\\x61\\x00\\xff'), b'a\0\xff')
@@ -68,18 +68,18 @@ class Words(unittest.TestCase):
         piece = numbers(LARGE)
         for name in ('write', 'pwrite64'):
             word = written(f'"{piece}"', name)
-            self.assertEqual(arguments.data(word), LARGE.encode())
+            self.assertEqual(arguments.bytes_of_text(word), LARGE.encode())
             self.assertLess(sys.getsizeof(word), len(LARGE) + 200)
         vector = written(
             f'[{{iov_base="{piece}", iov_len=80000}}, {{iov_base="{numbers("z")}"}}]', 'writev'
         )
-        self.assertEqual(arguments.vector(vector), LARGE.encode() + b'z')
+        self.assertEqual(arguments.bytes_of_vector(vector), LARGE.encode() + b'z')
         self.assertLess(sys.getsizeof(vector), len(LARGE) + 200)
 
     def test_what_has_no_bytes_in_the_log_stays_as_it_is(self):
         for word in ('0x7ffd', '"\\x61"...', '[{iov_base="\\x61"..., iov_len=9}]', '"\\x6"'):
             self.assertEqual(written(word), word)
-        self.assertEqual(arguments.data(written('""')), b'')
+        self.assertEqual(arguments.bytes_of_text(written('""')), b'')
 
     def test_a_text_that_is_not_by_numbers_is_reported(self):
         log = read_log(['7 write(1<pipe:[7]>, "abc", 3) = 3\n'])
@@ -98,7 +98,7 @@ class Words(unittest.TestCase):
         files = new_files()
         Translator(files, log).run()
         self.assertEqual(files.recording.trace.operations[1].data, LARGE.encode())
-        self.assertEqual([len(call.words) for call in log.calls], [4, 0])
+        self.assertEqual([len(call.arguments) for call in log.calls], [4, 0])
 
 
 class Needless(unittest.TestCase):
@@ -199,7 +199,7 @@ class Lines(unittest.TestCase):
             ]
         )
         self.assertEqual(
-            [(call.process, call.name, call.words, call.begin, call.end) for call in log.calls],
+            [(call.process, call.name, call.arguments, call.begin, call.end) for call in log.calls],
             [(8, 'close', ['4'], 2, 2), (7, 'read', ['0x3', '0x7ffc', '0x2'], 1, 3)],
         )
 

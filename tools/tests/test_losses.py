@@ -3,7 +3,7 @@
 import json
 import unittest
 
-from crashfs_tools.checker.findings.losses import Searches, search
+from crashfs_tools.checker.findings.losses import Searches, loss_search
 from crashfs_tools.checker.findings.pairs import Loss, Pair
 from crashfs_tools.checker.running.runner import BAD, GOOD, Outcome
 from crashfs_tools.checker.states.plan import State, read_plan
@@ -18,7 +18,7 @@ def searched(plan, kept, fails):
     """The loss that a search finds, and the sets that it asks for."""
     state = State(0, 'pick', (), 0, 0)
     plan.kept[0] = kept
-    asked, one = [], search(plan, state)
+    asked, one = [], loss_search(plan, state)
     try:
         asked.append(next(one))
         while True:
@@ -59,7 +59,7 @@ class Searched(unittest.TestCase):
         whole = (1 << len(plan.operations)) - 1
 
         def fails(kept):
-            self.assertTrue(plan.needs.allow(kept))
+            self.assertTrue(plan.needs.is_allowed(kept))
             return not kept >> 2 & 1
 
         loss, _ = searched(plan, whole & ~0b1100, fails)
@@ -127,7 +127,7 @@ class Guesses(InStore):
             """Answers from the trees in the place of COMMAND."""
 
             def try_sets(self, sets):
-                says = findings.plan.says
+                says = findings.plan.say_places
                 for kept in sets:
                     files = set(trees.tree(kept))
                     found = cause(files, bin(kept & says).count('1'))
@@ -135,7 +135,7 @@ class Guesses(InStore):
                     runs.append(kept)
 
         states = [group.example for group in guesses]
-        findings.take_losses(Trees(None, None, findings).run(states))
+        findings.add_losses(Trees(None, None, findings).run(states))
         self.assertFalse([group for group in findings.groups if group.pair.is_guess])
         self.assertLess(len(runs), 12 * len(states))
         for group in findings.groups:

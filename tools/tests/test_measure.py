@@ -9,9 +9,14 @@ import sys
 import unittest
 from typing import List
 
-from measuring.memory import crowd, growth, idle, journal
+from measuring.memory import (
+    fill_with_connections,
+    fill_with_runs,
+    fill_with_writes,
+    growth_of,
+)
 from measuring.programs import Programs
-from measuring.servers import free_address, halves, listening
+from measuring.servers import free_address, listening, processor_halves
 
 from .fake_server import KEPT
 from .support import FAKE as READING
@@ -139,22 +144,22 @@ class Memory(InFolder):
     def grown(self, fill) -> int:
         address = free_address()
         with listening([FAKE, address, '9', 'forgets']) as server:
-            more, count = growth(server, lambda: fill(address))
+            more, count = growth_of(server, lambda: fill(address))
         # Not all: a system that lacks memory takes other pages of a server away meanwhile.
         self.assertGreater(more, KEPT // 2)
         return count
 
     def test_connections_come_to_a_run_and_wait(self) -> None:
-        self.assertEqual(self.grown(lambda address: idle(address, 3)), 3)
+        self.assertEqual(self.grown(lambda address: fill_with_connections(address, 3)), 3)
 
     def test_runs_are_spread_over_connections(self) -> None:
-        self.assertEqual(self.grown(lambda address: crowd(address, 7, 3)), 7)
+        self.assertEqual(self.grown(lambda address: fill_with_runs(address, 7, 3)), 7)
 
     def test_writes_go_on_until_one_is_refused(self) -> None:
-        self.assertEqual(self.grown(lambda address: journal(address, 1_000)), 10)
+        self.assertEqual(self.grown(lambda address: fill_with_writes(address, 1_000)), 10)
 
     def test_writes_end_where_none_is_refused(self) -> None:
-        self.assertEqual(self.grown(lambda address: journal(address, 8)), 8)
+        self.assertEqual(self.grown(lambda address: fill_with_writes(address, 8)), 8)
 
 
 class Addresses(unittest.TestCase):
@@ -177,7 +182,7 @@ class Addresses(unittest.TestCase):
 
 class Processors(InFolder):
     def test_servers_and_clients_have_half_of_the_processors_each(self) -> None:
-        servers, clients = halves()
+        servers, clients = processor_halves()
         self.assertTrue(servers and clients)
         if len(os.sched_getaffinity(0)) > 1:
             self.assertFalse(set(servers) & set(clients))

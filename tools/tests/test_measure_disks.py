@@ -19,11 +19,10 @@ from crashfs_tools.disks.levers import Lever
 from crashfs_tools.disks.moments import Moment
 from crashfs_tools.reading import read
 from crashfs_tools.reading.every import every_set
-from crashfs_tools.reading.order import Order
-from crashfs_tools.reading.profiles import Profiles
+from crashfs_tools.reading.order import Order, Profiles
 from crashfs_tools.reading.states import States
 from measuring.command import main
-from measuring.disk_sessions import SessionResult, session_result, table, text_of
+from measuring.disk_sessions import SessionResult, session_result, table_lines, trace_text
 from measuring.random_sessions import session
 
 from .support import PATIENCE, TOOLS, InFolder, needed
@@ -38,7 +37,7 @@ def disk_of(tree: Entries, says: int) -> Disk:
 
 def disks_of(trace: Trace, profile: str) -> List[Disk]:
     """A disk for each of the first sets that a profile may leave."""
-    reading = read(text_of(trace).encode())
+    reading = read(trace_text(trace).encode())
     states, profiles = States(reading), Profiles(reading)
     return [
         disk_of(entries_of(states.tree(one)), states.count_says(one))
@@ -52,8 +51,8 @@ class Sessions(unittest.TestCase):
         found = set()
         for seed in range(150):
             trace = session(seed, OPERATIONS)
-            self.assertEqual(text_of(trace), text_of(session(seed, OPERATIONS)))
-            self.assertGreater(len(read(text_of(trace).encode()).operations), 1)
+            self.assertEqual(trace_text(trace), trace_text(session(seed, OPERATIONS)))
+            self.assertGreater(len(read(trace_text(trace).encode()).operations), 1)
             found.update(map(type, trace.operations))
         self.assertEqual(set(KINDS.values()) - found, {Chmod, Chown})
 
@@ -73,7 +72,7 @@ class Judgements(unittest.TestCase):
         for disk in disks_of(trace, 'blocks')[:10]:
             odd = {**disk.tree, '/odd': disk.tree['/']}
             late = disk_of(disk.tree, 9)
-            result = session_result('btrfs', 3, trace, [disk_of(odd, disk.says[0]), late])
+            result = session_result('btrfs', 3, trace, [disk_of(odd, disk.line_counts[0]), late])
             self.assertEqual((len(result.outside), result.allowed['blocks']), (2, 0))
             self.assertIn('/odd directory', result.outside[0])
             self.assertTrue(result.outside[0].startswith('line 5, nothing more written: '))
@@ -91,7 +90,7 @@ class Judgements(unittest.TestCase):
 
     def test_the_table_has_a_row_for_each_file_system(self) -> None:
         one = SessionResult('ext4', 1, 1000, 20, 99, {'blocks': 20, 'ordered': 19, 'journal': 18})
-        rows = list(table([one, one, SessionResult('xfs', 1, 1, 1, 1, dict(one.allowed))]))
+        rows = list(table_lines([one, one, SessionResult('xfs', 1, 1, 1, 1, dict(one.allowed))]))
         self.assertEqual(rows[2], '| ext4 | 2 | 2,000 | 40 | 40 | 38 | 36 |')
         self.assertEqual([row.split(' ')[1] for row in rows[2:]], ['ext4', 'xfs'])
 

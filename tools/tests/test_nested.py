@@ -119,17 +119,19 @@ class Chosen(unittest.TestCase):
         outcomes = {number: Outcome(GOOD) for number in (0, 1, 2, 3, 4, 5, 8, 9, 10)}
         outcomes[2] = Outcome(BAD, 'lost: row 1')
         results = Results(plan, outcomes)
-        findings = SimpleNamespace(plan=plan, results=results, by_state=results.of_states({}))
+        findings = SimpleNamespace(
+            plan=plan, results=results, by_state=results.outcomes_by_state({})
+        )
         for count in (1, 2, 5, 6, 9, 20):
             nested = Nested(count)
-            chosen = [state.number for state in nested.choose(findings)]
+            chosen = [state.number for state in nested.chosen_states(findings)]
             self.assertEqual(len(chosen), len(set(chosen)))
             self.assertEqual(len(chosen), min(count, 9))
             if count >= 6:
                 self.assertEqual(
                     nested.seen,
                     set().union(
-                        *(Nested.features(findings, plan.state(number)) for number in outcomes)
+                        *(Nested.features_of(findings, plan.state(number)) for number in outcomes)
                     ),
                 )
             if count == 1:

@@ -16,7 +16,8 @@ from .support import EXAMPLES, PATIENCE, TOOLS, InFolder, needs_strace
 
 TOP = TOOLS.parent
 DOCS = TOP / 'docs'
-PAGES = [TOP / 'README.md', *sorted(DOCS.rglob('*.md'))]
+READMES = sorted((TOP / 'helpers').glob('*/README.md'))
+PAGES = [TOP / 'README.md', *sorted(DOCS.rglob('*.md')), *READMES]
 README = (TOP / 'README.md').read_text('utf-8')
 MOST_LINES = 120
 BLOCK = re.compile(r'(?<=\n\n)(?:    .*\n|\n+(?=    ))+')
@@ -33,6 +34,8 @@ STORES = {
     'Redis': 'redis/aof',
     'LMDB': 'lmdb/rows',
 }
+# The suffixes of files that may name a page; commands have none.
+NAMING = ('', '.antt', '.go', '.hpp', '.py', '.rs', '.rt', '.sh')
 IMAGE = re.compile(r'!\[([^]]*)\]\(([^)]*)\)')
 
 
@@ -130,7 +133,11 @@ class Figures(unittest.TestCase):
         cell = rows_of('CONTRIBUTING.md')['a first build by `tools/build`'][0]
         self.assertEqual(cell, '150 processor minutes, 40 or more on four cores; 10 GB')
         text = ' '.join(README.split())
-        for words in ('150 minutes of processor time', 'on four cores 40 or more', '10 GB'):
+        for words in (
+            '150 minutes of processor time',
+            'at least 40 minutes on four cores',
+            '10 GB',
+        ):
             self.assertIn(words, text)
 
 
@@ -146,6 +153,24 @@ class Links(unittest.TestCase):
                 self.assertTrue(place.exists(), f'{page.name}: {target}')
                 if anchor:
                     self.assertIn(anchor, headings(place), f'{page.name}: {target}')
+
+    def test_each_page_that_a_program_names_exists(self) -> None:
+        found = named_pages()
+        self.assertGreater(len(found), 20)
+        self.assertEqual([it for it in found if not (TOP / it[1]).exists()], [])
+
+
+def named_pages() -> List[Tuple[Path, str]]:
+    """Each page of docs/ that a program, a crate, an example or a helper names, with the file that
+    names it."""
+    folders = ('tools', 'crates', 'examples', 'helpers', '.ci')
+    files = [path for folder in folders for path in (TOP / folder).rglob('*') if path.is_file()]
+    files = [it for it in files if it.suffix in NAMING and 'out' not in it.relative_to(TOP).parts]
+    return [
+        (path, name)
+        for path in [*files, TOP / 'action.yml', TOP / 'Dockerfile']
+        for name in re.findall(r'docs/[\w/-]+\.md', path.read_text('utf-8', 'ignore'))
+    ]
 
 
 def images() -> List[Tuple[Path, str, Path]]:

@@ -69,7 +69,7 @@ class Listed(unittest.TestCase):
         self.assertEqual(plan.operations[3].text, 'op 3 move_dir_entry /a b /c\nd')
         self.assertEqual(plan.operations[4].text, 'op 4 say')
         self.assertEqual(plan.listed[9], State(9, 'hole', (1, 5), 1, 8))
-        self.assertEqual(plan.text(plan.listed[9]), 'hole 1 5')
+        self.assertEqual(plan.state_text(plan.listed[9]), 'hole 1 5')
         self.assertEqual(plan.listed[12].numbers, ())
 
     def test_modes_owners_and_files_without_a_path_are_read(self):
@@ -92,9 +92,9 @@ class Listed(unittest.TestCase):
             plan.operations[3], MicroOperation(43, 'move_dir_entry', '/a b', '/c\nd', 14)
         )
         self.assertEqual(plan.state(109), State(109, 'hole', (1, 5), 8, 108))
-        self.assertEqual(plan.text(plan.state(109)), 'hole 41 45')
+        self.assertEqual(plan.state_text(plan.state(109)), 'hole 41 45')
         self.assertEqual(
-            [plan.has(number) for number in (99, 100, 112, 113)], [False, True, True, False]
+            [plan.has_state(number) for number in (99, 100, 112, 113)], [False, True, True, False]
         )
 
     def test_equal_trees_are_tried_once_for_each_number_of_says(self):

@@ -10,8 +10,9 @@ from pathlib import Path
 from typing import Dict
 from xml.dom import minidom
 
-from picturing.pictures import TOP, pictures
-from picturing.states import RESULTS, rows_of, runs_of
+from picturing.checked import check_example
+from picturing.pictures import EXAMPLES, TOP, pictures
+from picturing.states import RESULTS, rows_of_holes, runs_of
 from picturing.svg import COLOURS, WIDTH, Picture
 
 from .support import needs_sqlite
@@ -86,16 +87,22 @@ class Pictures(unittest.TestCase):
 
 
 class Parts(unittest.TestCase):
+    def test_an_example_of_which_no_state_fails_has_no_picture(self) -> None:
+        with ProcessPoolExecutor(1, get_context('fork')) as pool:
+            checking = pool.submit(check_example, str(EXAMPLES / 'store.trace'), ['/bin/true'])
+            with self.assertRaisesRegex(ValueError, 'no state of .*store.trace fails'):
+                checking.result()
+
     def test_a_row_has_the_holes_of_one_micro_operation(self) -> None:
         drawing = {'prefixes': 'ggb', 'holes': ['', ' ', 'gb'], 'numbers': [], 'picks': []}
-        self.assertEqual(rows_of(drawing), ['ggb', '  g', '  b'])
+        self.assertEqual(rows_of_holes(drawing), ['ggb', '  g', '  b'])
 
     def test_equal_signs_side_by_side_are_one_run(self) -> None:
         self.assertEqual(runs_of('ggbg', 'g'), [range(0, 2), range(3, 4)])
         self.assertEqual(runs_of('ggbg', 'n'), [])
 
     def test_each_colour_has_a_light_and_a_dark_value(self) -> None:
-        text = Picture('t', 'a < b').svg()
+        text = Picture('t', 'a < b').svg_file()
         light, dark = text.split('prefers-color-scheme: dark')
         for name, (in_light, in_dark) in COLOURS.items():
             self.assertIn(f'--{name}: {in_light};', light)

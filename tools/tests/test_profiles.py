@@ -7,13 +7,13 @@ import unittest
 from types import SimpleNamespace
 from typing import Any, Dict, List, Set, Tuple
 
-from crashfs_tools.checker.report.profiles import profiles_text
+from crashfs_tools.checker.report.text import profiles_text
 from crashfs_tools.checker.states.plan import Planned
 from crashfs_tools.checker.states.planning import Planner
 from crashfs_tools.common.command import Refused
 from crashfs_tools.reading import StateList, read
 from crashfs_tools.reading.every import every_set
-from crashfs_tools.reading.profiles import orders_in
+from crashfs_tools.reading.order import orders_in
 
 from .support import FAKE, InFolder
 from .test_all_states import OPTIONS, trace_texts
@@ -45,7 +45,7 @@ def allowed_trees(text: str) -> Dict[TreeAndCount, Set[str]]:
 class Planning(InFolder):
     def planned(self, text: str, profile: str = '', program: Any = None) -> Planned:
         options: Any = SimpleNamespace(
-            **OPTIONS, has_every=True, most_states=20_000, profile=profile, draws=50
+            **OPTIONS, has_every=True, most_states=20_000, profile=profile, draw_count=50
         )
         guard: Any = SimpleNamespace(directory=self.temporary, environment=None)
         return Planner(options, program or Reader(), guard).plan(self.write('a.trace', text))
@@ -53,7 +53,7 @@ class Planning(InFolder):
     def trees_of(self, text: str, planned: Planned) -> Dict[TreeAndCount, Set[str]]:
         trees, plan = StateList(read(text.encode())).trees, planned.plan
         return {
-            (trees.digest(plan.kept[one.number]), one.says): set(plan.profiles_of(one))
+            (trees.digest(plan.kept[one.number]), one.says): set(plan.profile_names_of(one))
             for one in plan.states
         }
 
@@ -66,7 +66,7 @@ class Planning(InFolder):
         planned = self.planned(REMOVED)
         firsts = {one.same for one in planned.plan.states if planned.plan.kept[one.number] == 0b100}
         (first,) = (one for one in planned.plan.states if one.number in firsts and not one.says)
-        self.assertEqual(planned.plan.profiles_of(first), ['blocks', 'ordered'])
+        self.assertEqual(planned.plan.profile_names_of(first), ['blocks', 'ordered'])
 
     def test_only_the_states_of_a_profile_are_tried(self) -> None:
         for name, text in [*trace_texts(), ('torn', TORN)]:
@@ -136,6 +136,25 @@ class Reports(InFolder):
             self.check('--in', 'ordered', '--shard', f'{part}/2', '--json', path)
         merged = self.run_tool('crashfs-check', '--merge', *shards)
         self.assertIn('all 6 crash states under ordered: none fails', merged.stdout)
+
+    def test_a_prefix_that_a_profile_does_not_allow_has_no_outcome(self) -> None:
+        """The first half of a rename into another directory is a prefix of `blocks` only."""
+        rights = '"owner":"u","group":"u"'
+        lines = ['{"trace":4,"profile":"blocks","block":4096,%s,"mode":"755"}' % rights]
+        lines += ['{"start":"dir","path":"/%s",%s,"mode":"755"}' % (it, rights) for it in 'ab']
+        lines += ['{"start":"file","path":"/a/f",%s,"mode":"644","text":""}' % rights]
+        lines += ['{"op":"rename","from":"/a/f","to":"/b/f"}']
+        lines += ['{"op":"creat","path":"/%s",%s,"mode":"644"}' % (it, rights) for it in 'cd']
+        trace = self.write('renamed.trace', ''.join(f'{line}\n' for line in lines))
+        script = 'test -e a/f || test -e c -a -e d || { echo "lost: c or d"; exit 1; }'
+        found = {}
+        for words in ([], ['--in', 'journal']):
+            command = [*words, trace, '--', 'sh', '-c', script]
+            ran = self.run_tool('crashfs-check', '--unproved', *command)
+            self.assertEqual((ran.returncode, ran.stderr), (1, ''), ran.stdout)
+            found[' '.join(words)] = ran.stdout
+        self.assertIn('all 12 crash states (12 sets): 3 fail: 3 lost', found[''])
+        self.assertIn('all 4 crash states under journal: 2 fail: 2 lost', found['--in journal'])
 
     def test_the_text_counts_where_not_all_are_allowed(self) -> None:
         def text(are_all: bool = True, **under: int) -> str:

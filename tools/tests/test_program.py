@@ -4,7 +4,7 @@ import os
 import sys
 import unittest
 
-from crashfs_tools.common.program import BUILT, Crashfs, program_beside
+from crashfs_tools.common.program import BUILT, Crashfs, program_of_tools
 
 from .support import InFolder
 
@@ -38,11 +38,11 @@ class Places(InFolder):
         library = self.path('usr', 'lib', 'crashfs')
         os.makedirs(library)
         os.makedirs(self.path('usr', 'bin'))
-        self.assertIsNone(program_beside(library))
+        self.assertIsNone(program_of_tools(library))
         program = self.write('usr/bin/crashfs', '#!/bin/sh\n', 0o644)
-        self.assertIsNone(program_beside(library))
+        self.assertIsNone(program_of_tools(library))
         os.chmod(program, 0o755)
-        self.assertEqual(program_beside(library), program)
+        self.assertEqual(program_of_tools(library), program)
 
     def test_that_of_another_folder_is_not_taken(self):
         self.write('crashfs', '#!/bin/sh\n', 0o755)
@@ -54,7 +54,7 @@ class Places(InFolder):
             self.path('lib', 'tools'),
             self.path('src', 'crashfs'),
         ):
-            self.assertEqual(program_beside(library), built)
+            self.assertEqual(program_of_tools(library), built)
 
 
 if __name__ == '__main__':

@@ -1,45 +1,39 @@
-"""The names of the crates' public calls: each is where ARCHITECTURE says."""
+"""The names by which users of the crates look for a call or a type: each is where the list says."""
 
 from __future__ import annotations
 
 import re
 import unittest
 from pathlib import Path
-from typing import Dict, List, NamedTuple, Set, Tuple
+from typing import Dict, List, NamedTuple
 
 TOP = Path(__file__).resolve().parents[2]
 LISTED = TOP / 'tools' / 'tests' / 'data' / 'public_calls.txt'
 PAGE = TOP / 'docs' / 'internals' / 'ARCHITECTURE.md'
+# A name that users look for, what it is called, and the crate that has it, if these are others.
+LISTED_NAME = re.compile(r'(\w+)(?:=(\w+))?(?:@(\w+))?')
 
 
-# What the table says of names that a crate doesn't have itself.
-ELSEWHERE = re.compile(r'((?:`\w+`(?:, )?)+)(?: in (\w+))?(?: is `(\w+)`)?')
-
-
-class Row(NamedTuple):
-    """A part of a row: names that one expects in a crate, and where they are."""
+class Call(NamedTuple):
+    """A name that users look for in a crate, what it is called, and the crate that has it."""
 
     crate: str
-    names: List[str]
+    name: str
+    called: str
     where: str
-    called: List[str]
 
 
-def rows_of(page: str) -> List[Row]:
-    """What the table of the public surface says, by names that are in one place."""
-    section = page.split('## The public surface', 1)[1].split('\n## ', 1)[0]
-    rows = []
-    for line in section.splitlines():
-        cells = [cell.strip() for cell in line.strip('|').split('|')]
-        if len(cells) == 3 and cells[0].startswith('cs_'):
-            crate, own = cells[0], re.findall('`([^`]+)`', cells[1])
-            rows.append(Row(crate, own, crate, own))
-            for part in filter(None, cells[2].split('; ')):
-                found = ELSEWHERE.match(part)
-                assert found is not None, part
-                names = re.findall(r'\w+', found[1])
-                rows.append(Row(crate, names, found[2] or crate, [found[3]] if found[3] else names))
-    return rows
+def listed_calls(text: str) -> List[Call]:
+    """The calls and types that a list has, a crate on each line with its names."""
+    found = []
+    for line in text.splitlines():
+        crate, *names = line.split()
+        for written in names if crate != '#' else []:
+            match = LISTED_NAME.fullmatch(written)
+            assert match is not None, written
+            name, called, where = match.groups()
+            found.append(Call(crate, name, called or name, where or crate))
+    return found
 
 
 def source_of(crate: str) -> str:
@@ -58,19 +52,32 @@ def is_public(name: str, source: str) -> bool:
 
 
 class PublicCalls(unittest.TestCase):
-    def test_each_listed_name_has_a_row(self) -> None:
-        """Each name that users look for in a crate is in a row of that crate, and in only one."""
-        wanted: Set[Tuple[str, str]] = set()
-        for line in LISTED.read_text('utf-8').splitlines():
-            crate, *names = line.split()
-            wanted |= {(crate, name) for name in names}
-        rows = rows_of(PAGE.read_text('utf-8'))
-        found = [(row.crate, name) for row in rows for name in row.names]
-        self.assertEqual(sorted(found), sorted(wanted))
+    calls = listed_calls(LISTED.read_text('utf-8'))
 
-    def test_each_row_names_what_its_crate_has(self) -> None:
+    def test_a_listed_name_says_where_it_is(self) -> None:
+        self.assertEqual(
+            listed_calls('# a b\ncs_a B C=d E@cs_f G=h@cs_i\n'),
+            [
+                Call('cs_a', 'B', 'B', 'cs_a'),
+                Call('cs_a', 'C', 'd', 'cs_a'),
+                Call('cs_a', 'E', 'E', 'cs_f'),
+                Call('cs_a', 'G', 'h', 'cs_i'),
+            ],
+        )
+
+    def test_no_name_is_twice_in_a_crate(self) -> None:
+        names = [(call.crate, call.name) for call in self.calls]
+        self.assertGreater(len(names), 80)
+        self.assertEqual(sorted(names), sorted(set(names)))
+
+    def test_each_name_is_where_the_list_says(self) -> None:
         sources: Dict[str, str] = {}
-        for row in rows_of(PAGE.read_text('utf-8')):
-            source = sources.setdefault(row.where, source_of(row.where))
-            for name in row.called:
-                self.assertTrue(is_public(name, source), f'{row.where} has no {name}')
+        for call in self.calls:
+            source = sources.setdefault(call.where, source_of(call.where))
+            self.assertTrue(is_public(call.called, source), f'{call.where} has no {call.called}')
+
+    def test_the_page_names_only_listed_calls_as_uncalled(self) -> None:
+        """Those that no command calls are in the list."""
+        section = PAGE.read_text('utf-8').split('public_calls.txt', 1)[1].split('\n\n', 1)[0]
+        known = {call.name for call in self.calls}
+        self.assertLessEqual(set(re.findall('`(\\w+)`', section)), known)

@@ -12,7 +12,7 @@ from contextlib import contextmanager
 from typing import IO, Iterator, Tuple
 
 from crashfs_tools.common.program import Crashfs
-from measuring.client import Client, Refused, write
+from measuring.client import Client, Refused, write_request
 
 from .support import PATIENCE, InFolder, needed
 
@@ -107,13 +107,13 @@ class Publishing(InFolder):
             client = self.listening(child)
             attached(client, 0, '0/x')
             client.open(0, 1, 'f')
-            client.ask(write(1, b'HI'))
+            client.ask(write_request(1, b'HI'))
             with self.assertRaisesRegex(Refused, '^A4 state not published$'):
                 client.attach(2, f'{LAST}/x')
             termios.tcflow(terminal, termios.TCOON)
             self.assertRegex(line(printed), rb'^published \d+ of 1276\r\n')
             attached(client, 2, f'{LAST}/x')
-            client.end()
+            client.close()
             out, _ = child.communicate(timeout=PATIENCE)
             self.assertEqual(
                 (child.returncode, out),
@@ -128,6 +128,6 @@ class Publishing(InFolder):
             termios.tcflow(terminal, termios.TCOON)
             client = self.listening(child)
             client.attach(0, f'{LAST}/x')
-            client.end()
+            client.close()
             child.communicate(timeout=PATIENCE)
             self.assertEqual(child.returncode, 0)

@@ -6,9 +6,9 @@ import subprocess
 import unittest
 from pathlib import Path
 
-from crashfs_tools.reading import ReadingFault, count_states, plan_of, read
+from crashfs_tools.reading import ReadingFault, plan_of, read
 from crashfs_tools.reading.listing import listing
-from crashfs_tools.reading.plan import different, file_sets, read_picks
+from crashfs_tools.reading.plan import different_places, file_sets, read_picks
 
 from .random_traces import RandomTrace
 from .support import EXAMPLES, FAKE, InFolder
@@ -53,7 +53,7 @@ class Rows(unittest.TestCase):
         text = text.replace(',"note":"main (kv.py:85)"', '').replace(
             '"trace":3,"profile":"blocks","block":4096', '"trace":1'
         )
-        self.assertEqual(count_states(text), 25)
+        self.assertEqual(len(plan_of(read(text.encode()), holes=True).states), 25)
         plan = plan_of(read(text.encode()), True)
         lacking = [
             name
@@ -101,19 +101,20 @@ class Rows(unittest.TestCase):
         self.assertIn('op 0 write_block 0 0 0 1 line 4 /f\n', text)
 
     def test_a_sync_of_a_range_takes_away_what_it_covers_from_the_files_family(self):
-        sets = list(different(file_sets(plan_of(read(row('row45.trace').encode())))))
+        sets = list(different_places(file_sets(plan_of(read(row('row45.trace').encode())))))
         self.assertIn([0, 1, 3, 4, 5], sets)
         self.assertNotIn([0, 5], sets)
 
     def test_a_set_of_the_files_family_is_given_once(self):
         """The second write is synced and needs the first, so that both prefixes leave the same."""
-        sets = different(file_sets(plan_of(read(NEEDS_LOST.encode()))))
+        sets = different_places(file_sets(plan_of(read(NEEDS_LOST.encode()))))
         self.assertEqual(list(sets), [[0], [0, 1, 3]])
 
     def test_a_sync_after_a_prefix_has_not_ended_in_it(self):
         text = HEADERS[3] + A + '{"op":"write","path":"/a","offset":0,"text":"row"}\n' + B
         text += '{"op":"fsync","path":"/a"}\n{"op":"say","text":"row"}\n'
-        self.assertEqual(list(different(file_sets(plan_of(read(text.encode()))))), [[0], [0, 3]])
+        sets = different_places(file_sets(plan_of(read(text.encode()))))
+        self.assertEqual(list(sets), [[0], [0, 3]])
 
 
 def contents_of(tree):
@@ -251,10 +252,10 @@ class Faults(unittest.TestCase):
         says = HEADERS[1] + '{"op":"say","text":""}\n' * 1025
         self.assertEqual(fault_of(says), 'too many micro-operations')
         many = HEADERS[1] + A + '{"op":"write","path":"/a","offset":0,"bytes":"00"}\n'
-        self.assertEqual(count_states(many), 7)
+        self.assertEqual(len(plan_of(read(many.encode()), holes=True).states), 7)
         wide = HEADERS[1] + ''.join(CREAT % f'/{number}' for number in range(200))
         with self.assertRaisesRegex(ReadingFault, '^plan too large$'):
-            count_states(wide)
+            plan_of(read(wide.encode()), holes=True)
 
     def test_picks_are_arrays_of_places(self):
         self.assertEqual(read_picks(b'[0,1]\r\n\n[]\n'), [[0, 1], []])
@@ -303,14 +304,21 @@ class AsAProgram(InFolder):
             ['list', '--trace', 'a', '--count'],
             *(
                 ['tar', '--trace', str(EXAMPLES / 'store.trace'), '--states', states]
-                for states in ('', '3-1', '3-', 'x', '1,,2')
+                for states in ('', '3-1', '3-', 'x', '1,,2', '²', '١', '9' * 5000)
             ),
         ):
             ran = self.run_reading(*words)
             self.assertEqual((ran.returncode, ran.stdout), (2, ''), words)
             self.assertTrue(ran.stderr.startswith('error: '), ran.stderr)
-        ran = self.run_reading('tar', '--trace', str(EXAMPLES / 'store.trace'), '--state', '99')
-        self.assertEqual((ran.returncode, ran.stderr), (1, 'crashfs: no such state\n'))
+        for option, states in (
+            ('--state', '99'),
+            ('--states', '0-99'),
+            ('--states', '0-99999999999999'),
+            ('--states', f'1,{2**64 - 1}'),
+        ):
+            words = 'tar', '--trace', str(EXAMPLES / 'store.trace'), option, states
+            ran = self.run_reading(*words)
+            self.assertEqual((ran.returncode, ran.stderr), (1, 'crashfs: no such state\n'), words)
 
     def test_a_reader_that_leaves_is_no_fault_to_report(self):
         reader, writer = os.pipe()

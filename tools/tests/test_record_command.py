@@ -1,5 +1,6 @@
 """crashfs-record as its users run it, with strace."""
 
+import json
 import os
 import shutil
 import sys
@@ -161,6 +162,7 @@ class Records(InRecordings):
         )
         self.assertEqual(ran.returncode, 0, ran.stderr)
         self.assertEqual(len(ran.stdout.splitlines()), 4)
+        self.assertIn(' 3 micro-operations, 7 states, ', ran.stderr)
         os.mkfifo(self.path('pipe'))
         reader = threading.Thread(target=lambda: seen.append(self.read('pipe')))
         seen = []
@@ -212,6 +214,16 @@ class Records(InRecordings):
             '!/b',
         )
         self.assertEqual((ran.returncode, len(self.operations())), (0, 2), ran.stderr)
+
+    def test_a_list_of_what_is_recorded_keeps_the_syncs_of_the_directory(self):
+        script = 'echo 1 > data; echo 2 > other; sync data .'
+        ran = self.record(script, '--ignore', '*', '--ignore', '!data')
+        self.assertEqual(ran.returncode, 0, ran.stderr)
+        lines = map(json.loads, self.operations())
+        found = [(line['op'], line['path']) for line in lines if line['op'] != 'say']
+        synced = [path for operation, path in found if operation.startswith('fsync')]
+        self.assertEqual(synced, ['/data', '/'])
+        self.assertEqual({path for _, path in found}, {'/data', '/'})
 
     def test_a_difference_at_the_end_is_reported(self):
         child = self.start_recording('echo $$ > ../pid; until test -e other; do sleep 0.05; done')

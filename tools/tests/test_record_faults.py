@@ -70,7 +70,7 @@ class WithoutStrace(InRecordings):
         with mock.patch.dict(os.environ, {own_faults.TRACEBACK: '1'}):
             status, shown = self.fails_in(place, KeyError('ours'), *words)
         self.assertIn('Traceback', shown)
-        place = 'crashfs_tools.recorder.summary.last_line'
+        place = 'crashfs_tools.recorder.summary.summary_line'
         for error, told in [
             (RecursionError('deep'), 'internal error: RecursionError: deep; the trace is'),
             (OSError(5, 'Input/output error', 'x'), 'x: Input/output error; the trace is written'),
@@ -87,7 +87,7 @@ class WithoutStrace(InRecordings):
             recording = recording_of(log, start)
         self.assertEqual(len(recording.trace.start), 2)
         self.assertEqual(len(recording.trace.operations), 1)
-        (told,) = map(str, recording.troubles.all_found())
+        (told,) = map(str, list(recording.troubles))
         self.assertEqual(
             told,
             '/: the start tree leaves out 1 of its files and directories: a trace has 2 at most',

@@ -16,7 +16,7 @@ from functools import lru_cache
 from pathlib import Path
 from typing import Dict, Set
 
-from building.order import libraries
+from building.order import crates_below, libraries, uses_by_crate
 from crashfs_tools import VERSION
 from releasing.archives import control_of, for_debian, write_package, write_tarball
 from releasing.layout import TOP, Item, Items, items_with
@@ -25,18 +25,17 @@ from releasing.statements import (
     BUILT,
     GIVEN,
     NOT_RUN,
-    Made,
-    attestation,
+    Provenance,
+    attestation_text,
     built_module,
-    checksums,
-    linked_by,
-    spdx,
+    checksum_lines,
+    spdx_document,
 )
 
 from .support import InFolder, needed
 
 SECONDS = 1_700_000_000
-MADE = Made(
+MADE = Provenance(
     '1.2.3',
     'c0ffee',
     'kit-1 logic ab',
@@ -72,7 +71,7 @@ def packages_of(text: str) -> Dict[str, str]:
 
 class Statements(InFolder):
     def test_the_attestation_has_the_checksums_of_what_was_linked(self) -> None:
-        text = attestation(MADE, b'object', PROGRAM)
+        text = attestation_text(MADE, b'object', PROGRAM)
         fields = dict(line.split(': ', 1) for line in text.splitlines())
         self.assertEqual(
             fields,
@@ -87,12 +86,12 @@ class Statements(InFolder):
                 'program-sha256': hashlib.sha256(PROGRAM).hexdigest(),
             },
         )
-        plain = Made('1', 'c', 'k', SECONDS)
+        plain = Provenance('1', 'c', 'k', SECONDS)
         self.assertEqual((plain.gate, plain.objects), (NOT_RUN, BUILT))
 
     def test_the_checksums_are_checked_by_sha256sum(self) -> None:
         paths = [Path(self.write(name, name)) for name in ('b', 'a')]
-        self.write('sums', checksums(paths))
+        self.write('sums', checksum_lines(paths))
         ran = subprocess.run(
             ['sha256sum', '--check', '--strict', 'sums'],
             cwd=self.folder,
@@ -146,7 +145,7 @@ class Installed(InFolder):
 class Linked(unittest.TestCase):
     def test_the_list_has_each_library_of_the_program_and_no_other(self) -> None:
         crates = (TOP / 'crates.txt').read_text()
-        found = packages_of(spdx(MADE, crates))
+        found = packages_of(spdx_document(MADE, crates))
         own = set(libraries()) - {'crashfs'}
         of_kit = {'rattle-standard-library', 'glibc', 'libgcc'}
         self.assertTrue(own < set(found))
@@ -162,10 +161,12 @@ class Linked(unittest.TestCase):
 
     def test_the_libraries_of_libraries_are_linked(self) -> None:
         crates = 'low: k # a comment\nmid: low\n# none: low\nprogram: mid l\n' 'tests: program t\n'
-        self.assertEqual(linked_by('program', crates), {'mid', 'low', 'k', 'l'})
+        uses = uses_by_crate(crates)
+        self.assertEqual(uses['low'], ['k'])
+        self.assertEqual(crates_below(uses, 'program'), {'mid', 'low', 'k', 'l'})
 
     def test_each_is_related_to_the_program(self) -> None:
-        document = json.loads(spdx(MADE, 'crashfs: a\na: b_c\n'))
+        document = json.loads(spdx_document(MADE, 'crashfs: a\na: b_c\n'))
         names = {it['SPDXID'] for it in document['packages']}
         self.assertLessEqual({'SPDXRef-a', 'SPDXRef-b-c', 'SPDXRef-crashfs'}, names)
         linked = {

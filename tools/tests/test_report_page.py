@@ -12,9 +12,9 @@ from crashfs_tools.checker.report.drawing import drawing_of
 from crashfs_tools.checker.report.junit import junit_lines
 from crashfs_tools.checker.report.page import page
 from crashfs_tools.checker.report.json_report import json_pieces
+from crashfs_tools.checker.report.tap import tap_lines
 from crashfs_tools.checker.report.text import ReportText
 from crashfs_tools.checker.running.runner import BAD, GOOD, NO_ANSWER, Outcome
-from crashfs_tools.checker.states.plan import Trial
 from crashfs_tools.common.entry import Entry
 from crashfs_tools.common.trace_lines import TraceLine
 
@@ -77,8 +77,8 @@ class Pages(unittest.TestCase):
         found = map(findings.by_state.get, (one.number for one in drawn))
         failing = sum(one is not None and one.result == BAD for one in found)
         self.assertEqual(signs.count('b'), failing)
-        trials = {Trial(one.same, one.says) for one in drawn}
-        others = {Trial(one.same, one.says) for one in findings.plan.states} - trials
+        trials = {one.trial for one in drawn}
+        others = {one.trial for one in findings.plan.states} - trials
         self.assertEqual(len(data['picks']), len(others))
         self.assertEqual(
             sorted(lacks for *_, lacks in data['picks']), [it[2] for it in data['picks']]
@@ -106,6 +106,7 @@ class Pages(unittest.TestCase):
             'report': '\n'.join(ReportText(report).lines()),
             'page': ''.join(page(report)),
             'junit': ''.join(junit_lines(report)),
+            'tap': ''.join(tap_lines(report)),
             'json': ''.join(json_pieces(report)),
         }
         for name, text in shown.items():
@@ -230,6 +231,15 @@ class JUnit(unittest.TestCase):
             text = ''.join(junit_lines(report))
             minidom.parseString(text.encode())
             self.assertNotIn('\u202e', text)
+
+    def test_what_was_not_tried_is_an_error(self):
+        report = odd_report()
+        report.head.stopped = 'the time limit'
+        suite = minidom.parseString(''.join(junit_lines(report))).documentElement
+        (error,) = suite.getElementsByTagName('error')
+        self.assertEqual(suite.getAttribute('errors'), '1')
+        self.assertRegex(error.parentNode.getAttribute('name'), '^all other states')
+        self.assertRegex(error.getAttribute('message'), '^a.trace: .* micro-operations, ')
 
     def test_a_state_without_an_answer_is_an_error(self):
         findings = odd_findings()

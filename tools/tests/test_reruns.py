@@ -1,9 +1,10 @@
 """Failures that don't come again: a port that is taken, a file that several runs share."""
 
 import json
+import os
 import unittest
 
-from .support import FAKE
+from .support import FAKE, needs_strace
 from .test_check_command import InStore
 from .test_groups import THIRD, line, write
 
@@ -18,11 +19,22 @@ done
 test "$CRASHFS_SAYS" = 0 || test -s log || {{ echo 'lost: the row'; exit 1; }}
 """
 
+# Fails in its sixth run. It counts by directories, which are no files that it opens.
+COUNTS = """\
+#!/bin/sh
+number=1
+while ! mkdir {runs}/$number 2> /dev/null; do number=$((number + 1)); done
+test "$number" -ne 6 || {{ echo "bind: the address is in use"; exit 1; }}
+"""
+
 
 class Reruns(InStore):
-    def check(self, failing, *words):
+    def trace(self):
         text = THIRD + line('creat', '/log') + line('fsync', '/') + write('/log', 'row')
-        trace = self.write('log.trace', text + line('say', text='stored'))
+        return self.write('log.trace', text + line('say', text='stored'))
+
+    def check(self, failing, *words):
+        trace = self.trace()
         runs = self.write('runs', '')
         script = FLAKY.format(runs=runs, failing=failing)
         command = self.write('flaky.sh', script, 0o755)
@@ -72,6 +84,27 @@ class Reruns(InStore):
         self.check('4', '--json', 'r.json')
         ran = self.run_tool('crashfs-check', '--merge', 'r.json')
         self.assertIn('    not reproducible: another run passed', ran.stdout.splitlines())
+
+    @needs_strace
+    def test_a_failure_that_does_not_come_again_is_not_cached(self):
+        os.mkdir(self.path('counted'))
+        command = self.write('counts.sh', COUNTS.format(runs=self.path('counted')), 0o755)
+        words = '--crashfs', FAKE, '--jobs', '1', '--cache', 'cache', self.trace(), '--', command
+        first = self.run_tool('crashfs-check', *words)
+        self.assertIn('    not reproducible: another run passed', first.stdout.splitlines())
+        second = self.run_tool('crashfs-check', *words)
+        self.assertIn('none fails', second.stdout)
+        self.assertIn('outcomes from earlier checks (--cache)', second.stdout)
+
+    def test_second_runs_are_merged_from_all_reports_in_any_order(self):
+        self.check('', '--shard', '1/2', '--json', 's1.json')
+        self.check('4', '--shard', '2/2', '--json', 's2.json')
+        (first, second) = [
+            self.run_tool('crashfs-check', '--merge', *names)
+            for names in (('s1.json', 's2.json'), ('s2.json', 's1.json'))
+        ]
+        self.assertIn('    not reproducible: another run passed', first.stdout.splitlines())
+        self.assertEqual(first.stdout, second.stdout)
 
 
 if __name__ == '__main__':

@@ -3,16 +3,20 @@
 from __future__ import annotations
 
 import argparse
+import contextlib
+import io
 import shutil
+import signal
 import unittest
 from pathlib import Path
-from typing import Any, Dict, List
+from typing import Any, Dict, List, Tuple
 from unittest import mock
 
+from crashfs_tools.common.guard import Stopped
 from crashfs_tools.reading import read
 from crashfs_tools.reading.every import count_sets
 from crashfs_tools.reading.order import Order
-from inventory.results import cells, results, table
+from inventory.results import results_part, row_cells, table_lines
 from measuring import stores
 from measuring.store_rows import STORES, ResultsFile, disks_of, keys
 from measuring.stores import Check, Session, sessions, version_of
@@ -22,6 +26,8 @@ from .support import FAKE, InFolder
 # Committed traces are smaller, and those with at most so many sets are counted again.
 MOST_BYTES, MOST_SETS = 150_000, 2_000
 ROWS: List[Dict[str, Any]] = ResultsFile().rows()
+# The options of a check that say what is tried besides states.
+DISK_WORDS = ('--time-limit', '--prefixes', '--disks')
 
 
 def row(**changes: Any) -> Dict[str, Any]:
@@ -81,7 +87,7 @@ class Tables(unittest.TestCase):
     def test_a_row_has_its_states_failures_profiles_and_disks(self) -> None:
         seen = {'ext4': {'trees': 9, 'failing': 0, 'outside': 0}}
         seen['xfs'] = {'trees': 1000, 'failing': 2, 'outside': 1}
-        (_, _, line) = table([row(disks=seen)])
+        (_, _, line) = table_lines([row(disks=seen)])
         self.assertEqual(
             line,
             '| KV 1.2 | [three puts](../examples/stores/kv) | 100 (1,234) '
@@ -89,15 +95,20 @@ class Tables(unittest.TestCase):
         )
 
     def test_a_check_that_was_not_whole_says_how_many_were_tried(self) -> None:
-        some = list(cells(row(is_whole=False, sets=None, causes={'lost': 12})))
+        some = list(row_cells(row(is_whole=False, sets=None, causes={'lost': 12})))
         self.assertEqual(some[2:4], ['100 tried (of uncounted)', '12 lost'])
-        self.assertEqual(list(cells(row(failing=0, causes={})))[3:6], ['none', '', ''])
+        self.assertEqual(list(row_cells(row(failing=0, causes={})))[3:6], ['none', '', ''])
 
-    def test_the_page_has_each_row_and_the_first_failure(self) -> None:
-        text = results()
+    def test_the_page_has_each_row_and_the_first_failure_of_each_store(self) -> None:
+        text = results_part()
+        first: Dict[str, str] = {}
         for one in ROWS:
             self.assertIn(f'[{one["session"]}]', text)
-            self.assertEqual(f'(`{one["key"]}`)' in text, one['failing'] > 0, one['key'])
+            if one['failing']:
+                first.setdefault(one['store'], one['key'])
+        for one in ROWS:
+            is_shown = first.get(one['store']) == one['key']
+            self.assertEqual(f'(`{one["key"]}`)' in text, is_shown, one['key'])
 
 
 class Rows(InFolder):
@@ -128,10 +139,76 @@ class Rows(InFolder):
             with mock.patch.object(stores, 'MORE', ['--crashfs', FAKE]):
                 made = Check(session, words, Path(self.path(''))).row()
             (kept,) = (one for one in ROWS if one['key'] == name)
-            assert made is not None
-            self.assertEqual(
-                {**made, 'version': '', 'disks': {}}, {**kept, 'version': '', 'disks': {}}
+            report, seen = (
+                kept['report'][: len(made['report'])],
+                kept['report'][len(made['report']) :],
             )
+            # A check on disks says last where an entry was seen.
+            self.assertEqual(
+                [line[:12] for line in seen[:1]], ['    seen on '] * bool(kept['failing'])
+            )
+            wanted = {**kept, 'version': made['version'], 'disks': {}, 'report': report}
+            self.assertEqual(made, wanted)
+
+
+class Limited(InFolder):
+    def test_disks_have_a_check_of_their_own_if_the_time_for_the_states_is_limited(self) -> None:
+        (session,) = sessions(['config/durable'])
+        called: List[List[str]] = []
+
+        def output_of(words: List[str]) -> str:
+            called.append(words)
+            if '--json' in words:
+                Path(words[words.index('--json') + 1]).write_text('{"disks":%d}' % len(called))
+            return ''
+
+        words = argparse.Namespace(record=False, disks='ext4', jobs=1, time_limit='5')
+        with mock.patch.object(stores, 'output_of', side_effect=output_of):
+            with mock.patch.object(stores, 'row_of', return_value=row()):
+                with mock.patch.object(stores, 'disks_of', side_effect=lambda one: one['disks']):
+                    made = Check(session, words, Path(self.path(''))).row()
+        _, first, second = called
+        self.assertEqual([word for word in first if word in DISK_WORDS], ['--time-limit'])
+        self.assertEqual([word for word in second if word in DISK_WORDS], ['--prefixes', '--disks'])
+        self.assertEqual(made['disks'], 3)
+
+
+class NoRows(unittest.TestCase):
+    def measured(self, *words: str) -> Tuple[int, str]:
+        """The status of `measure stores`, which has no row to write, and what it says."""
+        said = io.StringIO()
+        with contextlib.redirect_stderr(said), mock.patch.object(stores, 'stop_by_exception'):
+            with mock.patch.object(ResultsFile, 'put', side_effect=AssertionError):
+                return stores.main(list(words)), said.getvalue()
+
+    def test_packages_that_a_session_needs_and_lacks_are_named(self) -> None:
+        def version(package: str) -> str:
+            return '' if package == 'python3-lmdb' else '1'
+
+        with mock.patch.object(stores, 'version_of', side_effect=version):
+            status, said = self.measured('lmdb/rows', 'lmdb/new')
+        wanted = [
+            f'lmdb/{name}: no result: not installed: python3-lmdb' for name in ('rows', 'new')
+        ]
+        self.assertEqual((status, said.splitlines()), (1, wanted))
+
+    def test_a_session_that_is_not_recorded_or_checked_has_its_reason(self) -> None:
+        for tool, reason in [('record.sh', 'record.sh made no trace'), ('', 'made no report')]:
+            words = ['--record'] if tool else []
+            with mock.patch.object(stores, 'output_of', return_value=''):
+                status, said = self.measured(*words, 'config/place')
+            self.assertEqual(status, 1)
+            self.assertRegex(said, f'^config/place: no result: .*{reason}\n$')
+
+    def test_a_stop_is_one_line_and_its_status(self) -> None:
+        with mock.patch.object(stores, 'output_of', side_effect=Stopped(signal.SIGTERM)):
+            ended = self.measured('config/place', 'config/rename')
+        self.assertEqual(ended, (143, 'measure stores: stopped by SIGTERM\n'))
+
+    def test_a_name_that_is_no_session_is_refused(self) -> None:
+        with self.assertRaises(SystemExit) as ended:
+            self.measured('config/place', 'config/nothing')
+        self.assertEqual(ended.exception.code, 2)
 
 
 class Versions(unittest.TestCase):

@@ -18,7 +18,7 @@ ROOMS: Dict[str, Set[str]] = {
     'common': {'reading'},
     'campaign': {'common'},
     'recorder.calls': {'common', 'recorder'},
-    'recorder': {'common', 'reading', 'recorder.calls'},
+    'recorder': {'common', 'recorder.calls'},
     'checker.states': {'common', 'reading', 'checker.options'},
     'checker.running': {'common', 'reading', 'checker.options', 'checker.states'},
     'disks': {'common'},

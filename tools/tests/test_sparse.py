@@ -38,7 +38,7 @@ class Sparse(unittest.TestCase):
                 self.assertEqual((bytes(sparse), len(sparse)), (whole, len(whole)))
                 self.assertEqual(sparse, whole)
                 self.assertEqual(SparseBytes(len(sparse), sparse.parts()), whole)
-                self.assertEqual(sparse.copy(), SparseBytes.of(whole))
+                self.assertEqual(sparse.copy(), SparseBytes.copy_of(whole))
 
     def test_files_that_differ_are_not_equal(self):
         one, other = SparseBytes(PAGE_BYTES), SparseBytes(PAGE_BYTES, [(7, b'x')])
@@ -48,12 +48,12 @@ class Sparse(unittest.TestCase):
 
     def test_parts_have_no_long_run_of_zeros(self):
         gap = bytes(GAP_BYTES)
-        sparse = SparseBytes.of(b'\0\0a\0\0b' + gap + b'c' + gap[1:] + b'd\0')
+        sparse = SparseBytes.copy_of(b'\0\0a\0\0b' + gap + b'c' + gap[1:] + b'd\0')
         self.assertEqual(sparse.parts(), [(2, b'a\0\0b'), (6 + GAP_BYTES, b'c' + gap[1:] + b'd')])
 
     def test_long_texts_are_parts(self):
         text = b'So long a text is a part: "it" takes half the room.\n'
-        sparse = SparseBytes.of(b'\1\2' + text + b'\3' + text[:9] + b'\xff' + text)
+        sparse = SparseBytes.copy_of(b'\1\2' + text + b'\3' + text[:9] + b'\xff' + text)
         self.assertEqual(
             sparse.parts(),
             [(0, b'\1\2'), (2, text), (54, b'\3' + text[:9] + b'\xff'), (65, text)],
@@ -68,7 +68,7 @@ class Sparse(unittest.TestCase):
         self.assertEqual((sparse.parts(), len(sparse.pages)), ([], 0))
 
     def test_what_was_cut_off_is_zero_when_the_file_grows_again(self):
-        sparse = SparseBytes.of(b'x' * 100)
+        sparse = SparseBytes.copy_of(b'x' * 100)
         sparse.resize(10)
         sparse.resize(100)
         self.assertEqual(bytes(sparse), b'x' * 10 + bytes(90))

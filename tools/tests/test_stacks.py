@@ -14,6 +14,7 @@ from crashfs_tools.common.trace import Header, Sync, Trace
 from crashfs_tools.common.trace_read import read_trace
 from crashfs_tools.recorder import stacks, summary
 from crashfs_tools.recorder.progress import CallProgress
+from crashfs_tools.recorder.strace_run import StraceRun
 from crashfs_tools.recorder.strace_log import read_log
 
 from .support import (
@@ -78,8 +79,8 @@ class Frames(unittest.TestCase):
         ]
         frames = stacks.program_frames(shown)
         wanted = 'put (store) < store+0x11bf < kv_put (libkv.so.2)'
-        self.assertEqual(stacks.note_of(frames, {}), wanted)
-        self.assertEqual(stacks.note_of(4 * frames, {}), wanted)
+        self.assertEqual(stacks.stack_text(frames, {}), wanted)
+        self.assertEqual(stacks.stack_text(4 * frames, {}), wanted)
 
     def test_the_runtime_s_functions_are_left_out(self):
         for shown, is_own in [
@@ -99,17 +100,17 @@ class Frames(unittest.TestCase):
             ('std::ostream::flush()', False),
             ('_start', False),
         ]:
-            self.assertEqual(stacks.is_own(shown), is_own, shown)
+            self.assertEqual(stacks.is_program_function(shown), is_own, shown)
         (frame,) = stacks.program_frames(['/a/lsm(os.(*File).Write+0x5) [0xc22a9]'])
         self.assertEqual(frame, ('os.(*File).Write', ('/a/lsm', 0xC22A9)))
 
     def test_operations_without_a_note_are_counted(self):
         trace = Trace(Header('u', 'u', 0o755), operations=[Sync(), Sync()], notes={0: 'a.c:1 f'})
-        (line,) = summary.operations_without_note(trace)
+        (line,) = summary.lines_on_missing_notes(trace)
         self.assertIn('1 operation without a note', line)
         self.assertIn('Rust with -C force-frame-pointers=yes', line)
         trace.notes[1] = 'a.c:2 f'
-        self.assertEqual(summary.operations_without_note(trace), [])
+        self.assertEqual(summary.lines_on_missing_notes(trace), [])
 
     def test_the_frames_of_a_signal_are_no_call_s(self):
         frame = ' > /opt/store(put+0x24) [0x119d]'
@@ -202,18 +203,20 @@ class Stacks(InFolder):
 
 
 class WhileItRuns(unittest.TestCase):
-    def printed(self, is_terminal: bool) -> str:
+    def test_a_line_comes_now_and_then(self):
         with mock.patch('sys.stderr', io.StringIO()) as out:
-            out.isatty = lambda: is_terminal
             with CallProgress('crashfs-record', lambda: 1204, 0.01):
-                deadline = time.monotonic() + (PATIENCE if is_terminal else 0.1)
+                deadline = time.monotonic() + PATIENCE
                 while not out.getvalue() and time.monotonic() < deadline:
                     time.sleep(0.01)
-            return out.getvalue()
+        self.assertTrue(out.getvalue().startswith('crashfs-record: 1,204 calls so far; Ctrl-C'))
 
-    def test_a_terminal_gets_a_line_now_and_then(self):
-        self.assertTrue(self.printed(True).startswith('crashfs-record: 1,204 calls so far; Ctrl-C'))
-        self.assertEqual(self.printed(False), '')
+    def test_only_a_terminal_gets_lines(self):
+        for is_terminal in (True, False):
+            with mock.patch('sys.stderr', io.StringIO()) as out:
+                out.isatty = lambda: is_terminal
+                progress = StraceRun([], mock.Mock(), mock.Mock(), mock.Mock()).progress()
+            self.assertEqual(isinstance(progress, CallProgress), is_terminal)
 
 
 if __name__ == '__main__':

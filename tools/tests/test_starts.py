@@ -51,16 +51,6 @@ class Starts(InFolder):
                 [it for it in starts if 'config.trace' in it and it[0] != 't'], [wanted]
             )
 
-    def test_a_plan_with_all_families_is_asked_for_in_three_steps(self) -> None:
-        starts = self.check('--families')
-        self.assertEqual(
-            [start.split()[0] for start in starts[:5]], ['list', 'picks', 'list', 'tar', 'tar']
-        )
-        # The example of the one entry is run again, twice.
-        again = [start for start in starts if starts.count(start) > 1]
-        self.assertEqual([again[0]] * 2, again)
-        self.assertRegex(again[0], '^tar .* --states 20$')
-
     def test_two_trees_are_asked_for_at_once(self) -> None:
         program = Crashfs(self.program)
         words = ['--trace', self.path('config.trace'), '--states', '0,3']

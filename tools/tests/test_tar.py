@@ -9,7 +9,7 @@ import unittest
 from crashfs_tools.common import limits
 from crashfs_tools.common.program import Crashfs
 from crashfs_tools.reading import plan_of, read
-from crashfs_tools.recorder.directory import scan
+from crashfs_tools.recorder.directory import scan_directory
 
 from .support import EXAMPLE_TRACES, EXAMPLES, FAKE, InFolder, needed
 
@@ -207,7 +207,7 @@ class Archives(InFolder):
         self.tar('-x', '-p', '--no-same-owner', '-f', self.path('archive'), '-C', self.path('out'))
         found = {
             one.path: (one.mode, one.data or b'')
-            for one in scan(self.path('out'), lambda path: False).entries
+            for one in scan_directory(self.path('out'), lambda path: False).entries
         }
         self.assertEqual(
             found,

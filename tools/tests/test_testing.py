@@ -7,6 +7,7 @@ import os
 import threading
 import unittest
 from contextlib import redirect_stderr, redirect_stdout
+from pathlib import Path
 from typing import Dict, Iterator, List, Optional
 from unittest import mock
 
@@ -107,6 +108,14 @@ class Examples(InFolder):
                 Files('store.trace', 'store.users'): ['recovery'],
             },
         )
+
+    def test_replies_are_compared_byte_for_byte(self) -> None:
+        self.write('one.replies', 'a\r\nb\n')
+        with mock.patch.object(examples, 'EXAMPLES', Path(self.folder)):
+            for printed, counts in (('a\r\nb\n', (1, 0)), ('a\nb\n', (0, 1))):
+                outcome = Outcome('examples')
+                examples.count_example(outcome, 'one.replies', printed)
+                self.assertEqual((outcome.passed, outcome.failed), counts)
 
     def test_replies_are_compared_with_those_that_are_kept(self) -> None:
         found = self.with_rt(f'cat {EXAMPLES}/$name.replies')

@@ -3,6 +3,7 @@
 from __future__ import annotations
 
 import os
+import shutil
 import signal
 import subprocess
 import sys
@@ -10,7 +11,7 @@ import threading
 import unittest
 from typing import List
 
-from gating.provers import Prover, ancestors, kind_of, provers_below
+from gating.provers import Prover, ancestors, kind_of_work, provers_below
 from gating.times import Share, Shares, add_sample, sample_until_end, table_of
 
 from .support import PATIENCE, TOOLS, InFolder
@@ -35,7 +36,7 @@ class Sums(unittest.TestCase):
             (['rattle', 'build', '--test'], '/x/crates/a', 'tests'),
             (['rattle', 'build', '--crate-checked'], '/x/crates/a', 'programs'),
         ):
-            self.assertEqual(kind_of(words, folder), kind)
+            self.assertEqual(kind_of_work(words, folder), kind)
 
     def test_ancestors_end_where_no_more_are_known(self) -> None:
         self.assertEqual(list(ancestors(3, {3: 2, 2: 1, 1: 0})), [3, 2, 1])
@@ -83,6 +84,17 @@ class Processes(InFolder):
         self.addCleanup(other.wait)
         self.addCleanup(other.kill)
         self.assertEqual(self.crates_below(other.pid), [])
+
+    def test_the_name_of_another_process_may_be_cut_within_a_letter(self) -> None:
+        self.start_prover('a')
+        name = self.path('ä' * 8)
+        os.symlink(shutil.which('sleep') or '', name)
+        other = subprocess.Popen([name, '300'])
+        self.addCleanup(other.wait)
+        self.addCleanup(other.kill)
+        self.wait_until(lambda: self.crates_below(os.getpid()) == ['cs_a'], 'the prover')
+        with open(f'/proc/{other.pid}/comm', 'rb') as file, self.assertRaises(UnicodeDecodeError):
+            file.read().decode()
 
     def test_it_ends_with_the_event_or_with_the_process(self) -> None:
         self.start_prover('a')

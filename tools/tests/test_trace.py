@@ -26,9 +26,9 @@ from crashfs_tools.common.trace import (
     Write,
 )
 from crashfs_tools.common.trace_read import read_trace, replay
-from crashfs_tools.common.trace_text import read_text
+from crashfs_tools.common.trace_lines import read_text
 from crashfs_tools.common.tree import Tree
-from crashfs_tools.recorder.comparison import ByProgram, Replayed, differences
+from crashfs_tools.recorder.comparison import ByProgram, Replayed, lines_on_differences
 from crashfs_tools.recorder.directory import Scan
 
 from .support import EXAMPLES, FAKE, InFolder
@@ -249,14 +249,14 @@ class Traces(unittest.TestCase):
         self.assertEqual(sorted(last), ['/log', '/table'])
         log = Start('/log', 'kv', 'kv', 0o640, b'')
         table = Start('/table', 'kv', 'kv', 0o640, b'a=2\n')
-        self.assertEqual(differences(scan(log, table), last, []), [])
-        self.assertEqual(len(differences(scan(log), last, [])), 1)
+        self.assertEqual(lines_on_differences(scan(log, table), last, []), [])
+        self.assertEqual(len(lines_on_differences(scan(log), last, [])), 1)
         self.assertEqual(
-            len(differences(scan(log, table, Start('/x', 'u', 'u', 0, b'')), last, [])), 1
+            len(lines_on_differences(scan(log, table, Start('/x', 'u', 'u', 0, b'')), last, [])), 1
         )
         other = Start('/table', 'u', 'kv', 0o600, b'a=3\n')
-        self.assertEqual(len(differences(scan(log, other), last, [])), 3)
-        self.assertEqual(differences(scan(log, other), last, ['/table']), [])
+        self.assertEqual(len(lines_on_differences(scan(log, other), last, [])), 3)
+        self.assertEqual(lines_on_differences(scan(log, other), last, ['/table']), [])
 
 
 class Fake(InFolder):

@@ -4,10 +4,9 @@ from __future__ import annotations
 
 import unittest
 
-from crashfs_tools.common.trace import Creat, Say, TraceError
+from crashfs_tools.common.trace import Creat, Say, TraceError, fields_of_lines
 from crashfs_tools.common.trace_read import read_numbered
-from crashfs_tools.common.trace_text import (
-    fields_of_lines,
+from crashfs_tools.common.trace_lines import (
     is_large_trace,
     read_text,
     root_owner,

@@ -15,7 +15,7 @@ class Calls(unittest.TestCase):
             with self.subTest(shown):
                 recording = recording_of(log, start)
                 self.assertEqual([short(one) for one in recording.trace.operations], wanted)
-                self.assertEqual(list(map(str, recording.troubles.all_found())), [])
+                self.assertEqual(list(map(str, list(recording.troubles))), [])
 
     def test_lines_of_standard_output_are_reported_whole_and_in_their_place(self):
         log = [
@@ -32,7 +32,7 @@ class Calls(unittest.TestCase):
             '1 write(3</d/a.tmp>, "hi", 2) = 2',
         ]
         recording = recording_of(log, [], lambda path: path.endswith('.tmp'))
-        self.assertEqual((recording.trace.operations, recording.troubles.all_found()), ([], []))
+        self.assertEqual((recording.trace.operations, list(recording.troubles)), ([], []))
 
     def test_a_trace_of_version_2_has_what_it_can_say(self):
         log = [
@@ -56,7 +56,7 @@ class Calls(unittest.TestCase):
             ],
         )
         self.assertEqual(
-            [str(one) for one in recording.troubles.all_found()],
+            [str(one) for one in list(recording.troubles)],
             [
                 '/f: a sync of a part is written as one of the file (after line 3)',
                 '/h: stays another name of /g, by a link',

@@ -7,13 +7,12 @@ from types import SimpleNamespace
 from typing import Any, List, Set
 
 from crashfs_tools.checker.options import Shard
-from crashfs_tools.checker.report.rest import shown_share
-from crashfs_tools.checker.running.pace import MEASURED, Pace, TooSlow
-from crashfs_tools.checker.running.progress import Progress
+from crashfs_tools.checker.report.summary import shown_share
+from crashfs_tools.checker.running.progress import MEASURED, Pace, Progress, TooSlow
 from crashfs_tools.checker.running.results import Results
 from crashfs_tools.checker.running.runner import GOOD_OUTCOME
 from crashfs_tools.checker.running.trials import Trials, Workplace
-from crashfs_tools.checker.running.turns import family_turns, turns
+from crashfs_tools.checker.running.turns import family_turns, states_in_turns
 from crashfs_tools.checker.states.plan import Planned
 
 from .support import EXAMPLES, FAKE
@@ -42,7 +41,7 @@ class TriedNowhere(Trials):
         super().__init__(Workplace(found, nothing, nothing, nothing, Progress()), planned)
         self.order: List[Set[int]] = []
 
-    def layout(self, many: bool = False) -> Any:
+    def new_layout(self, many: bool = False) -> Any:
         return None
 
     def run_workers(self, layout: Any, wanted: Set[int], on_outcome: Any) -> None:
@@ -56,15 +55,15 @@ class Order(Listing):
         for text in (MANY, TORN, (EXAMPLES / 'store.trace').read_text('utf-8')):
             planned = self.planned(text)
             results = Results(planned.plan)
-            found = turns(results, are_all=True)
+            found = states_in_turns(results, are_all=True)
             self.assertEqual(sum(map(len, found)), len(results.trials))
             self.assertEqual(set().union(*found), set(results.trials.values()))
-            families = set().union(*turns(results, are_all=False))
+            families = set().union(*states_in_turns(results, are_all=False))
             self.assertEqual(set().union(*found[:-1]), families - found[-1])
 
     def test_the_first_states_end_at_acknowledged_lines(self) -> None:
         plan = self.planned(TORN).plan
-        first = turns(Results(plan), are_all=True)[0]
+        first = states_in_turns(Results(plan), are_all=True)[0]
         kept = {plan.kept[number] for number in first}
         says = [place for place, one in enumerate(plan.operations) if one.kind == 'say']
         ends = {0, *((1 << place + 1) - 1 for place in says)}
@@ -76,17 +75,17 @@ class Order(Listing):
         blocks = [place for place, one in enumerate(plan.operations) if one.kind == 'write_block']
         self.assertEqual(len(blocks), 6)
         for place in blocks:
-            lost = plan.needs.full & ~plan.needs.needing(place)
+            lost = plan.needs.full & ~plan.needs.set_needing(place)
             self.assertEqual(lost in found, place in (blocks[0], blocks[3], blocks[5]), place)
 
     def test_states_that_would_take_too_long_are_left_out(self) -> None:
         planned = self.planned(MANY)
         for seconds, is_part in ((1e9, False), (0.0, True)):
             results = Results(planned.plan)
-            self.assertTrue(TriedNowhere(planned, seconds).run(results))
+            self.assertTrue(TriedNowhere(planned, seconds).try_all(results))
             self.assertEqual(results.is_part, is_part)
             self.assertTrue(results.is_whole)
-            families = set().union(*turns(results, are_all=False))
+            families = set().union(*states_in_turns(results, are_all=False))
             self.assertLessEqual(families, set(results.outcomes))
             wanted = len(results.trials) if not is_part else len(results.chosen or ())
             self.assertEqual(len(results.outcomes), wanted)
@@ -97,8 +96,8 @@ class Order(Listing):
         trials = TriedNowhere(planned, 1e9)
         trials.options.time_limit = 5.0
         results = Results(planned.plan)
-        trials.run(results)
-        self.assertEqual(trials.order, turns(results, are_all=True))
+        trials.try_all(results)
+        self.assertEqual(trials.order, states_in_turns(results, are_all=True))
         self.assertGreater(len(trials.order), 2)
 
 
@@ -112,7 +111,7 @@ class Paces(unittest.TestCase):
             for number in range(2 * MEASURED):
                 now[0] += each
                 try:
-                    pace.step()
+                    pace.note_tried()
                 except TooSlow:
                     found.append(number)
             self.assertEqual(found, [MEASURED - 1] if is_slow else [])

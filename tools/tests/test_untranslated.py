@@ -190,7 +190,7 @@ class Troubles(unittest.TestCase):
         for are_notes, rows in [(False, TROUBLES), (True, NOTES)]:
             for wanted, start, log in rows:
                 with self.subTest(wanted):
-                    told = recording_of(log, start).troubles.all_found()
+                    told = list(recording_of(log, start).troubles)
                     self.assertEqual(len(told), 1, told)
                     self.assertTrue(str(told[0]).startswith(wanted), str(told[0]))
                     self.assertEqual(told[0].is_note, are_notes)
@@ -199,7 +199,7 @@ class Troubles(unittest.TestCase):
         for wanted, start, log in OLD_TROUBLES:
             with self.subTest(wanted):
                 recording = recording_of(log, start, version=3)
-                told = recording.troubles.all_found()
+                told = list(recording.troubles)
                 self.assertEqual(len(told), 1, told)
                 self.assertTrue(str(told[0]).startswith(wanted), str(told[0]))
                 self.assertEqual((recording.trace.version, recording.trace.operations), (3, []))

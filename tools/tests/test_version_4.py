@@ -23,8 +23,8 @@ from crashfs_tools.reading.micro import (
     WriteBlock,
 )
 from crashfs_tools.reading.names import DIRECTORY, Inode
-from crashfs_tools.reading.order import Order, bits
-from crashfs_tools.reading.profiles import Profiles, order_in, profiles_of
+from crashfs_tools.reading.order import Order, Profiles, order_in, profile_names
+from crashfs_tools.reading.place_sets import places_of
 from crashfs_tools.reading.states import States
 
 from .plain_rules import chains
@@ -71,7 +71,7 @@ class Rules(unittest.TestCase):
     def test_needs_are_those_of_the_rules_one_by_one(self) -> None:
         for version in (1, 2, 3, 4):
             for _, reading in readings(version):
-                for profile in profiles_of(reading):
+                for profile in profile_names(reading):
                     self.assertEqual(Order(reading, profile).needs, list(chains(reading, profile)))
 
     def test_a_profile_allows_what_a_stricter_one_does_and_all_allow_prefixes(self) -> None:
@@ -192,7 +192,7 @@ class Trees(unittest.TestCase):
             states = States(reading)
             for places in members:
                 by_hand = ByHand(reading)
-                for place in bits(places):
+                for place in places_of(places):
                     by_hand.do(reading.operations[place])
                 self.assertEqual(shown_tree(states, places), by_hand.tree())
                 moved += bool(places & states.directory_moves)

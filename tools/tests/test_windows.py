@@ -9,17 +9,18 @@ from crashfs_tools.checker.findings.read_trees import entries_of
 from crashfs_tools.checker.report.report import CheckReport
 from crashfs_tools.checker.report.text import ReportText
 from crashfs_tools.checker.running.results import Head, Results, known_states
-from crashfs_tools.checker.states.plan import Offsets, Planned, places_of, read_plan
+from crashfs_tools.checker.states.place_sets import places_of
+from crashfs_tools.checker.states.plan import Offsets, Planned, read_plan
 from crashfs_tools.checker.states.planning import Planner
 from crashfs_tools.checker.states.steps import Session, Steps
 from crashfs_tools.checker.states.windows import Windows
 from crashfs_tools.common import limits
 from crashfs_tools.common.program import ProgramFault
-from crashfs_tools.common.trace_text import read_text
+from crashfs_tools.common.trace_lines import read_text
 from crashfs_tools.reading import ReadingFault, plan_of, read
 from crashfs_tools.reading.listing import json_listing
 from crashfs_tools.reading.main import read_options
-from crashfs_tools.reading.plan import different, file_sets, lost_sets, read_picks
+from crashfs_tools.reading.plan import different_places, file_sets, lost_sets, read_picks
 
 from .random_traces import RandomTrace
 from .support import EXAMPLE_TRACES, EXAMPLES, FAKE
@@ -63,7 +64,7 @@ def log_of(count):
 class Reader:
     """The second reading in this process, in the place of the program."""
 
-    picks_options = frozenset()
+    unproved = True
 
     @staticmethod
     def plan(options):
@@ -85,7 +86,7 @@ class Reader:
         if words[0] == 'list':
             return ''.join(json_listing(plan))
         family = lost_sets if '--lost' in options else file_sets
-        return ''.join(f'{places}\n' for places in different(family(plan)))
+        return ''.join(f'{places}\n' for places in different_places(family(plan)))
 
     def whole_tree(self, words, _environment=None):
         options = read_options(['tar', *words])
@@ -106,7 +107,7 @@ class InWindows(InStore):
         """The windows, and the results of each if nothing is tried."""
         windows = self.made(text, size, quick)
         results = []
-        for planned in windows.all():
+        for planned in windows.all_planned():
             known = known_states(results[-1].plan, planned.plan) if results else {}
             results.append(Results(planned.plan, known=known))
         for name in os.listdir(self.temporary):
@@ -141,18 +142,19 @@ class Tried(InWindows):
                 for one in results:
                     self.assert_same_operations(one.plan, whole)
                     tried |= {
-                        one.plan.kept[state.number] << one.plan.begin | (1 << one.plan.begin) - 1
+                        one.plan.kept[state.number] << one.plan.first_place
+                        | (1 << one.plan.first_place) - 1
                         for state in one.own
                     }
                     self.assert_all_within(one.plan, whole)
                 self.assertLessEqual(tried, {whole.kept[state.number] for state in whole.states})
-                ends = [one.plan.begin + len(one.plan.operations) for one in results]
+                ends = [one.plan.first_place + len(one.plan.operations) for one in results]
                 self.assertEqual(ends[-1], len(whole.operations))
         self.assertGreater(windows, 30)
 
     def assert_same_operations(self, part, whole):
         """But for the numbers of files, which texts of files don't have."""
-        same = whole.operations[part.begin : part.begin + len(part.operations)]
+        same = whole.operations[part.first_place : part.first_place + len(part.operations)]
         if part.operations:
             self.assertEqual(
                 [(one.place, one.kind, one.path, one.line) for one in part.operations],
@@ -161,7 +163,7 @@ class Tried(InWindows):
 
     def assert_all_within(self, part, whole):
         """Each prefix and hole of the whole that lies within a window is in it."""
-        begin, end = part.begin, part.begin + len(part.operations)
+        begin, end = part.first_place, part.first_place + len(part.operations)
         wanted = {
             tuple(number - begin for number in state.numbers)
             for state in whole.states
@@ -174,10 +176,10 @@ class Tried(InWindows):
             whole = read_plan(''.join(json_listing(plan_of(read(text.encode()), True))))
             with self.subTest(name):
                 for one in self.windows(text, 7)[1]:
-                    lead = (1 << one.plan.begin) - 1
+                    lead = (1 << one.plan.first_place) - 1
                     for state in one.own:
-                        kept = one.plan.kept[state.number] << one.plan.begin | lead
-                        self.assertTrue(whole.needs.allow(kept), list(places_of(kept)))
+                        kept = one.plan.kept[state.number] << one.plan.first_place | lead
+                        self.assertTrue(whole.needs.is_allowed(kept), list(places_of(kept)))
 
     def test_trees_says_and_lines_are_those_of_the_session(self):
         """COMMAND sees in the windows only what it sees in the whole, but for which state it is."""
@@ -195,7 +197,7 @@ class Tried(InWindows):
     def test_no_state_is_tried_twice(self):
         _, results = self.windows(log_of(12), 9)
         sets = [
-            one.plan.kept[state.number] << one.plan.begin | (1 << one.plan.begin) - 1
+            one.plan.kept[state.number] << one.plan.first_place | (1 << one.plan.first_place) - 1
             for one in results
             for state in one.own
             if state.family != 'pick'
@@ -215,14 +217,14 @@ class Cuts(InWindows):
             + '{"op":"say"',
         )
         windows, results = self.windows(text, 9)
-        begins = [(one.plan.begin, len(one.plan.operations)) for one in results]
+        begins = [(one.plan.first_place, len(one.plan.operations)) for one in results]
         self.assertEqual(begins[:3], [(0, 8), (7, 9), (16, 9)])
         self.assertEqual(windows.cut_off, [])
 
     def test_what_stays_pending_is_cut_off_after_half_a_window_and_reported(self):
         text = HEADER + ''.join(creat(f'/{number}') for number in range(20))
         windows, results = self.windows(text, 8)
-        self.assertEqual([one.plan.begin for one in results], [0, 4, 8, 12])
+        self.assertEqual([one.plan.first_place for one in results], [0, 4, 8, 12])
         self.assertEqual(
             [(one.line, one.tried) for one in windows.cut_off[:5]],
             [(2, 7), (3, 6), (4, 5), (5, 4), (6, 7)],
@@ -240,7 +242,7 @@ class Cuts(InWindows):
     def test_only_the_last_window_has_files(self):
         text = HEADER + ''.join(creat(f'/{number}') for number in range(20))
         windows = 0
-        for planned in self.made(text, 8).all():
+        for planned in self.made(text, 8).all_planned():
             name = os.path.basename(planned.trace)
             self.assertEqual(sorted(os.listdir(self.temporary)), [name, f'{name}.picks'])
             windows += 1
@@ -259,7 +261,7 @@ class Cuts(InWindows):
             ) as asked:
                 _, results = self.windows(text, 60)
             plans = [call for call in asked.mock_calls if '--holes' in call.args[1]]
-            self.assertEqual([one.plan.begin for one in results], begins)
+            self.assertEqual([one.plan.first_place for one in results], begins)
             self.assertEqual(len(plans), len(results))
 
     def test_links_stay_links_over_a_cut(self):
@@ -274,7 +276,7 @@ class Cuts(InWindows):
         text += write('/a', 130 * 4096, 3)
         session = Session('a', text)
         whole = read_plan(''.join(json_listing(plan_of(read(text.encode())))))
-        cut, lines = Steps(session).trace(len(session.steps))
+        cut, lines = Steps(session).trace_until(len(session.steps))
         plan = read_plan(''.join(json_listing(plan_of(read(cut.encode())))))
         self.assertEqual(
             [(one.text, lines[one.line - 1]) for one in plan.operations],
@@ -289,14 +291,14 @@ class Shown(InWindows):
     def test_progress_says_which_part_of_the_session_it_is(self):
         _, results = self.windows(log_of(12), 9)
         planned = [
-            Planned('', [], one.plan, Offsets(operations=one.plan.begin), is_last)
+            Planned('', [], one.plan, Offsets(operations=one.plan.first_place), is_last)
             for one, is_last in ((results[0], False), (results[1], True))
         ]
         self.assertEqual(
-            [one.part() for one in planned],
+            [one.part_text() for one in planned],
             ['micro-operations 0 to 8: ', 'micro-operations 9 to 17: '],
         )
-        self.assertEqual(Planned('', [], results[0].plan).part(), '')
+        self.assertEqual(Planned('', [], results[0].plan).part_text(), '')
 
 
 class Limits(InWindows):

@@ -31,6 +31,7 @@ RECORD: List[Tuple[str, int, str]] = [
     ('--block 5 d o -- true', 2, 'error: argument --block: invalid choice: 5 '),
     ('--profile x d o -- true', 2, "error: argument --profile: invalid choice: 'x' "),
     ('--say-fd x d o -- true', 2, 'error: argument --say-fd: x is neither a number nor `socket`'),
+    ('--say-fd \u00b2 d o -- true', 2, 'error: argument --say-fd: \u00b2 is neither a number nor'),
     ('--from-log l d o -- true', 2, 'error: --from-log goes with no COMMAND,'),
     ('--from-log l --mapped d o', 2, 'error: --from-log goes with no COMMAND,'),
     ('none o -- true', 1, 'none is no directory'),
@@ -60,7 +61,8 @@ CHECK: List[Tuple[str, int, str]] = [
     ('--state 3/ TRACE -- true', 2, 'error: argument --state: 3/ is neither N nor N/M'),
     ('--nested 0 TRACE -- true', 2, 'error: argument --nested: 0 is not a number from 1'),
     ('--nested 2 --shard 1/2 TRACE -- true', 2, 'error: --nested goes with no --serve, --shard'),
-    ('--crashfs /bin/echo TRACE -- true', 2, 'crashfs list printed: list --trace '),
+    ('--crashfs /bin/echo TRACE -- true', 2, 'crashfs picks printed: picks --trace '),
+    ('--quick --crashfs /bin/echo TRACE -- true', 2, 'crashfs list printed: list --trace '),
     ('--serve 5640 TRACE -- true', 2, 'error: argument --serve: 5640 is not HOST:PORT'),
     ('--uname ann TRACE -- true', 2, 'error: --uname goes with --serve'),
     ('--merge', 2, 'error: argument --merge: expected at least one argument'),
@@ -210,6 +212,13 @@ class WrongUsages(InFolder):
                 self.assertEqual(sorted(os.listdir(self.folder)), before)
                 self.assert_nothing_left()
 
+    def test_a_wrong_word_has_status_2_also_without_standard_output(self) -> None:
+        for words in ('crashfs-check --jobs x', 'crashfs-campaign --seeds x', 'crashfs-record -x'):
+            command = ['sh', '-c', f'exec {TOOLS}/{words} a -- true >&-']
+            ran = subprocess.run(command, stderr=subprocess.PIPE, text=True, check=False)
+            self.assertEqual(ran.returncode, 2, ran.stderr)
+            self.assertNotIn('standard output', ran.stderr)
+
     def test_of_the_recorder(self) -> None:
         self.check_rows('crashfs-record', RECORD)
 
@@ -309,7 +318,7 @@ class Programs(InFolder):
         ran = subprocess.run([FOUND.path, '--help'], capture_output=True, text=True, check=True)
         self.assertIn('Exit status: 0 success; 1 a fault', ran.stdout)
         ran = subprocess.run([FOUND.path, 'picks', '--help'], capture_output=True, text=True)
-        self.assertIn('For each operation the smallest disk that still has it', ran.stdout)
+        self.assertIn('For each operation the smallest set that still has it', ran.stdout)
 
     @needs_program
     def test_a_closed_pipe_is_silent(self) -> None:

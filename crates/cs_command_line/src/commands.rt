@@ -155,7 +155,7 @@ fn with_sample<'a>(alloc: Global, command: Command<'a>) -> Result<Command<'a>, A
 
 /// The command `picks` and its options.
 fn picks_command<'a>(alloc: Global) -> Result<Command<'a>, AllocError> {
-    let lost = "For each operation the smallest disk that still has it";
+    let lost = "For each operation the smallest set that still has it";
     let files = "For each prefix and each file, the disk without its changes that no sync covers";
     let sets = ArgGroup::new(alloc, "sets").required(true).multiple(true);
     let sets = sets.arg("lost")?.arg("files")?.arg("every")?.arg("sample")?;

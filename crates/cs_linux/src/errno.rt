@@ -37,7 +37,7 @@ pub enum Errno {
 }
 
 impl Errno {
-    /// The error that Linux has for the refusal by this rule, as docs/LINUX.md lists them.
+    /// The error that Linux has for the refusal by this rule: docs/reference/9p-server.md.
     pub fn of(rule: RuleId) -> Errno
         ensures { result ≡ errno_of rule }
     {

@@ -15,14 +15,12 @@
 package crashstates
 
 import (
-	"bufio"
-	"encoding/json"
-	"errors"
 	"fmt"
 	"io"
 	"os"
 	"os/exec"
 	"path/filepath"
+	"runtime/debug"
 	"strings"
 	"testing"
 )
@@ -32,56 +30,27 @@ import (
 type Session func(directory string, acknowledge func(line string)) error
 
 // A Recovery opens what a crash left in the directory, and compares it with the acknowledged lines.
-// It returns an error if something is missing or wrong. Reports count failures by the part of the
-// error's text before a colon.
+// It returns an error, or panics, if something is missing or wrong. Reports count failures by the
+// part of the error's text before a colon.
 type Recovery func(directory string, acknowledged []string) error
 
-// The process that the variable names is the session or the recovery.
-const roleVariable = "CRASHSTATES_ROLE"
-
-// The versions of the report that this package reads.
-var versions = map[int]bool{3: true, 4: true}
-
-// Exit statuses of crashfs-record and crashfs-check.
 const (
-	statusNoneFails = 0
-	statusSomeFail  = 1
-	// The trace is complete, except for things that can't make a state good or bad.
-	statusCompleteTrace = 4
+	// The process that the variable names is the session or the recovery.
+	roleVariable = "CRASHSTATES_ROLE"
+	// Acknowledged lines are written to this descriptor, since a store may print something.
+	says     = 3
+	withSays = `exec "$@" 3>/dev/null`
 )
-
-type entry struct {
-	Cause   string   `json:"cause"`
-	Text    []string `json:"text"`
-	Example int      `json:"example"`
-	// The known failure of --accept that the entry is, or nil.
-	Accepted *struct {
-		Why string `json:"why"`
-	} `json:"accepted"`
-}
-
-type report struct {
-	Version int     `json:"crashfs-check"`
-	Entries []entry `json:"groups"`
-}
 
 // Serve runs the session or the recovery and ends the process, if crashfs-record or crashfs-check
 // started it. Else it returns. Call it first of all in TestMain.
 func Serve(session Session, recovery Recovery) {
-	directory, err := os.Getwd()
+	var err error
 	switch os.Getenv(roleVariable) {
 	case "session":
-		if err == nil {
-			err = session(directory, func(line string) { fmt.Println(line) })
-		}
+		err = run(func(directory string) error { return serveSession(directory, session) })
 	case "recovery":
-		var lines []string
-		if err == nil {
-			lines, err = linesOf(os.Stdin)
-		}
-		if err == nil {
-			err = recovery(directory, lines)
-		}
+		err = run(func(directory string) error { return serveRecovery(directory, recovery) })
 	default:
 		return
 	}
@@ -92,44 +61,115 @@ func Serve(session Session, recovery Recovery) {
 	os.Exit(0)
 }
 
+// run calls a part of the test with the working directory. A panic is an error.
+func run(part func(directory string) error) (err error) {
+	defer func() {
+		if found := recover(); found != nil {
+			debug.PrintStack()
+			err = fmt.Errorf("panic: %v", found)
+		}
+	}()
+	directory, err := os.Getwd()
+	if err != nil {
+		return err
+	}
+	return part(directory)
+}
+
+func serveSession(directory string, session Session) error {
+	file := os.NewFile(says, "acknowledged lines")
+	return session(directory, func(line string) {
+		if _, err := fmt.Fprintln(file, line); err != nil {
+			panic(err)
+		}
+	})
+}
+
+func serveRecovery(directory string, recovery Recovery) error {
+	input, err := io.ReadAll(os.Stdin)
+	if err != nil {
+		return err
+	}
+	// Nothing comes after the last line feed.
+	lines := strings.Split(string(input), "\n")
+	return recovery(directory, lines[:len(lines)-1])
+}
+
 // Check records the session and runs the recovery in its crash states. Each entry of the report is
 // a subtest that fails, or is skipped if it is a known failure. The options are those of
 // crashfs-check, such as "--accept", "known.json".
 func Check(t *testing.T, options ...string) {
 	t.Helper()
-	directory := t.TempDir()
-	store, trace := filepath.Join(directory, "store"), filepath.Join(directory, "session.trace")
-	if err := os.Mkdir(store, 0o777); err != nil {
-		t.Fatal(err)
+	if os.Getenv(roleVariable) != "" {
+		t.Fatal("TestMain must call crashstates.Serve before m.Run")
 	}
-	output, status := run(t, "session", "crashfs-record", store, trace, "--", executable(t))
-	if status != 0 && status != statusCompleteTrace {
-		t.Fatalf("crashfs-record: status %d\n%s", status, output)
+	room, err := os.MkdirTemp("", "crashstates-")
+	expect(t, err)
+	trace := filepath.Join(room, "session.trace")
+	report, output := check(t, room, trace, options)
+	entries, err := entriesOf(report)
+	expect(t, err)
+	for _, found := range entries {
+		found := found
+		t.Run(found.cause, func(t *testing.T) {
+			if found.reason != "" {
+				t.Skip("accepted: " + found.reason)
+			}
+			t.Errorf("%sthe trace is %s", found.text, trace)
+		})
 	}
-	written := filepath.Join(directory, "report.json")
-	words := append(append([]string{"--json", written}, options...), trace, "--", executable(t))
-	output, status = run(t, "recovery", "crashfs-check", words...)
-	switch status {
-	case statusNoneFails:
+	if !t.Failed() {
 		t.Log(output)
-	case statusSomeFail:
-		kept := keep(t, trace)
-		for _, found := range read(t, written).Entries {
-			found := found
-			t.Run(found.Cause, func(t *testing.T) {
-				if found.Accepted != nil {
-					t.Skip("accepted: " + found.Accepted.Why)
-				}
-				t.Errorf("%s\nstate %d of %s", strings.Join(found.Text, "\n"), found.Example, kept)
-			})
-		}
-	default:
-		t.Fatalf("crashfs-check: status %d\n%s", status, output)
+		expect(t, os.RemoveAll(room))
 	}
 }
 
-// run starts a command of crashfs whose COMMAND has the role, and returns its output and status.
-func run(t *testing.T, role, name string, words ...string) (string, int) {
+// check records a trace and checks it, in the new directory room. It returns the report as
+// crashfs-check --tap writes it, and as it prints it.
+func check(t *testing.T, room, trace string, options []string) (report, printed string) {
+	t.Helper()
+	itself, err := os.Executable()
+	expect(t, err)
+	store, written := filepath.Join(room, "store"), filepath.Join(room, "report.tap")
+	expect(t, os.Mkdir(store, 0o777))
+	record := []string{"--say-fd", fmt.Sprint(says), store, trace, "--", "sh", "-c", withSays, "sh"}
+	// With status 4 the trace lacks only what can't make a state good or bad.
+	start(t, "session", "crashfs-record", append(record, itself), 0, 4)
+	words := append([]string{"--tap", written}, options...)
+	words = append(words, trace, "--", itself)
+	printed = start(t, "recovery", "crashfs-check", words, 0, 1)
+	content, err := os.ReadFile(written)
+	expect(t, err)
+	return string(content), printed
+}
+
+// An entry of a report. A known failure has the reason why it is accepted, and no text.
+type entry struct{ cause, reason, text string }
+
+// entriesOf reads a report of crashfs-check --tap. The lines of an entry that fails come after a
+// line `not ok`, and begin with `# `.
+func entriesOf(report string) ([]entry, error) {
+	lines := strings.Split(report, "\n")
+	if lines[0] != "TAP version 13" {
+		return nil, fmt.Errorf("a report of another version: %s", lines[0])
+	}
+	var found []entry
+	for _, line := range lines {
+		result, name, _ := strings.Cut(line, " - ")
+		cause, reason, isKnown := strings.Cut(name, " # SKIP ")
+		switch {
+		case strings.HasPrefix(line, "# "):
+			found[len(found)-1].text += line[2:] + "\n"
+		case strings.HasPrefix(result, "not ok ") || isKnown:
+			found = append(found, entry{cause: cause, reason: reason})
+		}
+	}
+	return found, nil
+}
+
+// start runs a command of crashfs whose COMMAND has the role, and returns its output. The test ends
+// if its status isn't one of those that are wanted.
+func start(t *testing.T, role, name string, words []string, wanted ...int) string {
 	t.Helper()
 	if tools := os.Getenv("CRASHFS_TOOLS"); tools != "" {
 		name = filepath.Join(tools, name)
@@ -137,61 +177,22 @@ func run(t *testing.T, role, name string, words ...string) (string, int) {
 	command := exec.Command(name, words...)
 	command.Env = append(os.Environ(), roleVariable+"="+role)
 	output, err := command.CombinedOutput()
-	var ended *exec.ExitError
-	if err != nil && !errors.As(err, &ended) {
+	if command.ProcessState == nil {
 		t.Fatalf("%v (set CRASHFS_TOOLS to the directory that has it)", err)
 	}
-	return string(output), command.ProcessState.ExitCode()
+	status := command.ProcessState.ExitCode()
+	for _, one := range wanted {
+		if status == one {
+			return string(output)
+		}
+	}
+	t.Fatalf("%s: status %d\n%s", name, status, output)
+	return ""
 }
 
-func executable(t *testing.T) string {
+func expect(t *testing.T, err error) {
 	t.Helper()
-	path, err := os.Executable()
 	if err != nil {
 		t.Fatal(err)
 	}
-	return path
-}
-
-// keep copies the trace out of the test's own directory, which is removed, and returns its path.
-func keep(t *testing.T, trace string) string {
-	t.Helper()
-	content, err := os.ReadFile(trace)
-	if err != nil {
-		t.Fatal(err)
-	}
-	file, err := os.CreateTemp("", "crashstates-*.trace")
-	if err != nil {
-		t.Fatal(err)
-	}
-	defer file.Close()
-	if _, err := file.Write(content); err != nil {
-		t.Fatal(err)
-	}
-	return file.Name()
-}
-
-func read(t *testing.T, path string) report {
-	t.Helper()
-	var found report
-	content, err := os.ReadFile(path)
-	if err == nil {
-		err = json.Unmarshal(content, &found)
-	}
-	if err == nil && !versions[found.Version] {
-		err = fmt.Errorf("%s: a report of version %d", path, found.Version)
-	}
-	if err != nil {
-		t.Fatal(err)
-	}
-	return found
-}
-
-func linesOf(input io.Reader) ([]string, error) {
-	var lines []string
-	scanner := bufio.NewScanner(input)
-	for scanner.Scan() {
-		lines = append(lines, scanner.Text())
-	}
-	return lines, scanner.Err()
 }

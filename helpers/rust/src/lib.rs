@@ -1,9 +1,9 @@
 //! Runs a store's recovery in the crash states of a session, as tests.
 //!
 //! ```no_run
-//! # use std::{io, path::Path};
-//! # fn session(_: &Path, _: &mut dyn FnMut(&str) -> io::Result<()>) -> io::Result<()> { Ok(()) }
-//! # fn recovery(_: &Path, _: &[String]) -> Result<(), String> { Ok(()) }
+//! # use {crash_states::Outcome, std::path::Path};
+//! # fn session(_: &Path, _: &dyn Fn(&str)) -> Outcome { Ok(()) }
+//! # fn recovery(_: &Path, _: &[String]) -> Outcome { Ok(()) }
 //! #[test]
 //! fn every_crash_state() {
 //!     crash_states::check("every_crash_state", session, recovery);
@@ -14,16 +14,14 @@
 //! the variable `CRASHFS_TOOLS` names. They start the test's own executable again, as the session
 //! and as the recovery.
 
-mod json;
-
+use std::error::Error;
 use std::fs::File;
 use std::io::{self, BufRead, Write};
 use std::os::unix::io::FromRawFd;
+use std::panic::{self, AssertUnwindSafe};
 use std::path::{Path, PathBuf};
-use std::process::{self, Command, Output};
-use std::{env, fs};
-
-use json::Value;
+use std::process::{self, Command};
+use std::{env, fs, thread};
 
 /// The process that the variable names is the session or the recovery.
 const ROLE: &str = "CRASH_STATES_ROLE";
@@ -31,16 +29,19 @@ const ROLE: &str = "CRASH_STATES_ROLE";
 const SAYS: i32 = 3;
 /// Opens the descriptor, and starts the test as the session.
 const WITH_SAYS: &str = r#"exec "$@" 3>/dev/null"#;
-/// The versions of the report that are read here.
-const VERSIONS: [f64; 2] = [3.0, 4.0];
+/// The trace, in the directory of a test.
+const TRACE: &str = "session.trace";
+
+/// What a session or a recovery returns: any error, such as `"lost: row 3".into()`.
+pub type Outcome = Result<(), Box<dyn Error>>;
 
 /// Changes the store in a directory. It calls its second argument when it would tell its user that
 /// something is stored.
-pub type Session = fn(&Path, &mut dyn FnMut(&str) -> io::Result<()>) -> io::Result<()>;
+pub type Session = fn(&Path, &dyn Fn(&str)) -> Outcome;
 
-/// Opens what a crash left in a directory, and compares it with the acknowledged lines. Its error
-/// says what is missing or wrong. Reports count failures by the part before a colon.
-pub type Recovery = fn(&Path, &[String]) -> Result<(), String>;
+/// Opens what a crash left in a directory, and compares it with the acknowledged lines. Its error,
+/// or its panic, says what is missing or wrong. Reports count failures by the part before a colon.
+pub type Recovery = fn(&Path, &[String]) -> Outcome;
 
 /// Records the session and runs the recovery in its crash states. `test` is the path of the
 /// calling test, as `cargo test` prints it.
@@ -48,6 +49,7 @@ pub type Recovery = fn(&Path, &[String]) -> Result<(), String>;
 /// # Panics
 ///
 /// If a state fails, with each entry of the report; or if nothing can be recorded or checked.
+#[track_caller]
 pub fn check(test: &str, session: Session, recovery: Recovery) {
     check_with(test, session, recovery, &[]);
 }
@@ -58,136 +60,139 @@ pub fn check(test: &str, session: Session, recovery: Recovery) {
 /// # Panics
 ///
 /// If a state fails that is no known failure; or if nothing can be recorded or checked.
+#[track_caller]
 pub fn check_with(test: &str, session: Session, recovery: Recovery, options: &[&str]) {
     match env::var(ROLE).as_deref() {
-        Ok("session") => end(run_session(session).map_err(|error| error.to_string())),
-        Ok("recovery") => end(run_recovery(recovery)),
+        Ok("session") => run_and_exit(|| run_session(session)),
+        Ok("recovery") => run_and_exit(|| run_recovery(recovery)),
         _ => {}
     }
-    let room = env::temp_dir().join(format!(
-        "crash_states-{}-{}",
-        process::id(),
-        test.replace(':', "-")
-    ));
-    let failures = failures_in(&room, test, options).unwrap_or_else(|error| panic!("{error}"));
-    if failures.is_empty() {
-        fs::remove_dir_all(&room).unwrap_or_else(|error| panic!("{}: {error}", room.display()));
-        return;
+    // The harness names the thread of a test after it, unless all tests have one thread.
+    match thread::current().name() {
+        Some(name) if name != "main" && name != test => panic!("this test is {name}, not {test}"),
+        _ => {}
     }
-    panic!(
-        "{}\nthe trace is {}",
-        failures.join("\n"),
-        room.join("session.trace").display()
-    );
+    let room = new_directory().unwrap_or_else(|error| panic!("{error}"));
+    let trace = room.join(TRACE);
+    let entries = failing_entries(&room, test, options).unwrap_or_else(|error| panic!("{error}"));
+    if !entries.is_empty() {
+        panic!("{}the trace is {}", entries.concat(), trace.display());
+    }
+    fs::remove_dir_all(&room).unwrap_or_else(|error| panic!("{}: {error}", room.display()));
 }
 
-/// Records and checks in this new directory; a text for each entry of the report.
-fn failures_in(room: &Path, test: &str, options: &[&str]) -> Result<Vec<String>, String> {
-    let (store, trace, report) = (
-        room.join("store"),
-        room.join("session.trace"),
-        room.join("report.json"),
-    );
-    fs::create_dir_all(&store).map_err(|error| format!("{}: {error}", store.display()))?;
-    let itself = env::current_exe().map_err(|error| error.to_string())?;
-    let arguments = [test, "--exact", "--nocapture", "--test-threads=1"];
+/// Makes a directory in the one for temporary files.
+fn new_directory() -> io::Result<PathBuf> {
+    let mut number = 1;
+    loop {
+        let path = env::temp_dir().join(format!("crash_states-{}-{number}", process::id()));
+        match fs::create_dir(&path) {
+            Err(error) if error.kind() == io::ErrorKind::AlreadyExists => number += 1,
+            made => return made.map(|()| path),
+        }
+    }
+}
+
+/// Records a trace and checks it, in this new directory. Returns the text of each failing entry.
+fn failing_entries(
+    room: &Path,
+    test: &str,
+    options: &[&str],
+) -> Result<Vec<String>, Box<dyn Error>> {
+    let store = room.join("store");
+    let trace = room.join(TRACE);
+    let report = room.join("report.tap");
+    fs::create_dir(&store)?;
+    let mut this_test = vec![env::current_exe()?.into_os_string()];
+    let arguments = "--exact --nocapture --include-ignored --test-threads=1";
+    this_test.extend(arguments.split(' ').chain([test]).map(Into::into));
     let mut record = command("crashfs-record", "session");
-    record
-        .args(["--say-fd", &SAYS.to_string()])
-        .arg(&store)
-        .arg(&trace);
-    record
-        .args(["--", "sh", "-c", WITH_SAYS, "sh"])
-        .arg(&itself)
-        .args(arguments);
+    record.arg("--say-fd").arg(SAYS.to_string());
+    record.arg(&store).arg(&trace).arg("--");
+    record.args(["sh", "-c", WITH_SAYS, "sh"]).args(&this_test);
+    // With status 4 the trace lacks only what can't make a state good or bad.
     expect_status(&mut record, &[0, 4])?;
     let mut check = command("crashfs-check", "recovery");
-    check
-        .arg("--json")
-        .arg(&report)
-        .args(options)
-        .arg(&trace)
-        .arg("--")
-        .arg(&itself)
-        .args(arguments);
+    check.arg("--tap").arg(&report).args(options);
+    check.arg(&trace).arg("--").args(&this_test);
     expect_status(&mut check, &[0, 1])?;
-    let text = fs::read_to_string(&report).map_err(|error| error.to_string())?;
-    let report = json::parse(&text).ok_or("the report is no JSON")?;
-    entries_of(&report).ok_or_else(|| "a report of another version".to_string())
+    let text = fs::read_to_string(&report)?;
+    let lines = text.strip_prefix("TAP version 13\n");
+    Ok(entries_of(lines.ok_or("a report of another version")?))
 }
 
-fn entries_of(report: &Value) -> Option<Vec<String>> {
-    VERSIONS
-        .contains(&report.get("crashfs-check")?.number()?)
-        .then_some(())?;
-    let entries = report.get("groups")?.list()?.iter();
-    entries.filter(|it| !is_accepted(it)).map(text_of).collect()
-}
-
-/// Whether an entry is a known failure of `--accept`.
-fn is_accepted(entry: &Value) -> bool {
-    matches!(entry.get("accepted"), Some(Value::Object(_)))
-}
-
-fn text_of(entry: &Value) -> Option<String> {
-    let mut text = format!(
-        "{}, e.g. state {}",
-        entry.get("cause")?.text()?,
-        entry.get("example")?.number()?
-    );
-    for line in entry.get("text")?.list()? {
-        text += &format!("\n  {}", line.text()?);
+/// The entries that fail in a report of `crashfs-check --tap`. The lines of each come after a line
+/// `not ok`, and begin with `# `.
+fn entries_of(report: &str) -> Vec<String> {
+    let mut entries: Vec<String> = Vec::new();
+    for line in report.lines() {
+        if line.starts_with("not ok ") {
+            entries.push(String::new());
+        } else if let (Some(text), Some(entry)) = (line.strip_prefix("# "), entries.last_mut()) {
+            *entry += &format!("{text}\n");
+        }
     }
-    Some(text)
+    entries
 }
 
 fn command(name: &str, role: &str) -> Command {
-    let path = match env::var_os("CRASHFS_TOOLS") {
-        Some(tools) => PathBuf::from(tools).join(name),
-        None => PathBuf::from(name),
-    };
-    let mut command = Command::new(path);
+    let tools = env::var_os("CRASHFS_TOOLS").map(PathBuf::from);
+    let mut command = Command::new(tools.unwrap_or_default().join(name));
     command.env(ROLE, role);
     command
 }
 
-fn expect_status(command: &mut Command, wanted: &[i32]) -> Result<(), String> {
+fn expect_status(command: &mut Command, wanted: &[i32]) -> Outcome {
     let name = command.get_program().to_string_lossy().into_owned();
-    let Output {
-        status,
-        stdout,
-        stderr,
-    } = command.output().map_err(|error| {
+    let ran = command.output().map_err(|error| {
         format!("{name}: {error} (set CRASHFS_TOOLS to the directory that has it)")
     })?;
-    if status.code().map_or(false, |code| wanted.contains(&code)) {
+    if ran.status.code().map_or(false, |it| wanted.contains(&it)) {
         return Ok(());
     }
-    let output = [stdout, stderr].concat();
-    Err(format!(
-        "{name}: {status}\n{}",
-        String::from_utf8_lossy(&output)
-    ))
+    let printed = [ran.stdout, ran.stderr].concat();
+    let printed = String::from_utf8_lossy(&printed);
+    Err(format!("{name}: {}\n{printed}", ran.status).into())
 }
 
-fn run_session(session: Session) -> io::Result<()> {
+fn run_session(session: Session) -> Outcome {
     // SAFETY: the descriptor is open, and nothing else in this process has it.
-    let mut says = unsafe { File::from_raw_fd(SAYS) };
-    session(&env::current_dir()?, &mut |line| {
-        says.write_all(format!("{line}\n").as_bytes())
+    let says = unsafe { File::from_raw_fd(SAYS) };
+    session(&env::current_dir()?, &|line| {
+        writeln!(&says, "{line}").expect("a line can be acknowledged");
     })
 }
 
-fn run_recovery(recovery: Recovery) -> Result<(), String> {
-    let directory = env::current_dir().map_err(|error| error.to_string())?;
-    let lines: Result<Vec<String>, _> = io::stdin().lock().lines().collect();
-    recovery(&directory, &lines.map_err(|error| error.to_string())?)
+fn run_recovery(recovery: Recovery) -> Outcome {
+    let lines: io::Result<Vec<String>> = io::stdin().lock().lines().collect();
+    recovery(&env::current_dir()?, &lines?)
 }
 
-/// Ends the process. The last line that it prints is the cause of a failure.
-fn end(result: Result<(), String>) -> ! {
-    if let Err(error) = &result {
-        println!("\n{}", error.replace('\n', " "));
+/// Runs a part of the test and ends the process. The last line that it prints is the cause of a
+/// failure.
+fn run_and_exit(part: impl FnOnce() -> Outcome) -> ! {
+    let cause = match panic::catch_unwind(AssertUnwindSafe(part)) {
+        Ok(Ok(())) => process::exit(0),
+        Ok(Err(error)) => error.to_string(),
+        Err(panic) => match (panic.downcast_ref::<String>(), panic.downcast_ref::<&str>()) {
+            (Some(text), _) => text.clone(),
+            (_, Some(text)) => text.to_string(),
+            _ => "a panic without a text".to_string(),
+        },
+    };
+    println!("\n{}", cause.replace('\n', " "));
+    process::exit(1)
+}
+
+#[cfg(test)]
+mod tests {
+    use super::entries_of;
+
+    #[test]
+    fn each_failing_test_of_a_report_is_an_entry() {
+        let report = "1..4\nnot ok 1 - lost: \\#1\n# lost: #1\n#   line 5\nok 2 - old # SKIP why\n\
+                      not ok 3 - odd\n# odd\nok 4 - all other states (7)\n";
+        assert_eq!(entries_of(report), ["lost: #1\n  line 5\n", "odd\n"]);
+        assert!(entries_of("1..1\nok 1 - all other states (7)\n").is_empty());
     }
-    process::exit(i32::from(result.is_err()))
 }

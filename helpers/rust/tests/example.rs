@@ -5,6 +5,8 @@ use std::fs::{self, File};
 use std::io::{self, Write};
 use std::path::Path;
 
+use crash_states::Outcome;
+
 /// Replaces the file's content. `sync` says whether it waits until both the content and the name
 /// are on the disk.
 fn save(directory: &Path, content: &str, sync: bool) -> io::Result<()> {
@@ -21,29 +23,26 @@ fn save(directory: &Path, content: &str, sync: bool) -> io::Result<()> {
     Ok(())
 }
 
-fn session(
-    directory: &Path,
-    acknowledge: &mut dyn FnMut(&str) -> io::Result<()>,
-) -> io::Result<()> {
+fn session(directory: &Path, acknowledge: &dyn Fn(&str)) -> Outcome {
     // With EXAMPLE_BUG the test fails.
     let sync = env::var_os("EXAMPLE_BUG").is_none();
     for version in ["version 1", "version 2"] {
         save(directory, version, sync)?;
-        acknowledge(version)?;
+        acknowledge(version);
     }
     Ok(())
 }
 
-fn recovery(directory: &Path, acknowledged: &[String]) -> Result<(), String> {
+fn recovery(directory: &Path, acknowledged: &[String]) -> Outcome {
     let last = acknowledged.last().map_or("", |line| line);
     match fs::read_to_string(directory.join("config")) {
         Ok(content) if !["version 1", "version 2"].contains(&content.as_str()) => {
-            Err(format!("corrupt: the configuration is {content:?}"))
+            Err(format!("corrupt: the configuration is {content:?}").into())
         }
         Ok(content) if content.as_str() < last => {
-            Err(format!("lost: the configuration is {content}"))
+            Err(format!("lost: the configuration is {content}").into())
         }
-        Err(_) if !last.is_empty() => Err("lost: there is no configuration".to_string()),
+        Err(_) if !last.is_empty() => Err("lost: there is no configuration".into()),
         _ => Ok(()),
     }
 }

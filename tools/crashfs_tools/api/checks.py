@@ -6,7 +6,7 @@ import functools
 import io
 import os
 from pathlib import Path
-from typing import Callable, List, NamedTuple, Optional, Sequence, Union
+from typing import Callable, List, Optional, Sequence, Union
 
 from crashfs_tools.checker.checking import check_trace
 from crashfs_tools.checker.options import NAME, TIMEOUT, Options, processors
@@ -18,13 +18,6 @@ from .reports import PathLike, Report
 
 # Opens a state's directory, and compares it with the acknowledged lines; raises what is wrong.
 RecoveryOf = Callable[[Path, List[str]], object]
-
-
-class Checked(NamedTuple):
-    """The report of a check, and what ended it early, if anything did."""
-
-    report: Report
-    end: Optional[Exception]
 
 
 def check(
@@ -55,48 +48,28 @@ def check(
 
     The options are those of crashfs-check. time_limit needs the main thread. Refused is raised for
     bad input, and if the recovery fails though nothing is lost."""
-    options = options_of_states(trace, every, families, prefixes, quick, profile, crashfs, unproved)
-    options.jobs = jobs or processors()
-    options.nested, options.fail_fast = nested, fail_fast
+    options = Options(os.fspath(trace), every=every, families=families, prefixes=prefixes)
+    options.quick, options.profile = quick, profile
+    options.crashfs, options.unproved = path_of(crashfs), unproved
+    options.jobs, options.nested, options.fail_fast = jobs or processors(), nested, fail_fast
     options.time_limit, options.timeout = time_limit, timeout
     options.accept, options.cache = path_of(accept), path_of(cache)
     set_recovery(options, recovery)
-    with Guard(f'{NAME}-', is_reaper=False) as guard:
-        checked = run_check(options, guard, Progress(io.StringIO()), has_states=True)
+    with Guard(NAME, may_reap=False) as guard:
+        checked = check_trace(options, guard, Progress(io.StringIO()), has_states=True)
     if checked.end is not None:
         raise checked.end.__cause__ or checked.end
-    return checked.report
-
-
-def options_of_states(
-    trace: PathLike,
-    every: Optional[int],
-    families: bool,
-    prefixes: bool,
-    quick: bool,
-    profile: Optional[str],
-    crashfs: Optional[PathLike],
-    unproved: bool,
-) -> Options:
-    """The options that say which states there are, and who computes them."""
-    return Options(
-        trace=os.fspath(trace),
-        every=every,
-        families=families,
-        prefixes=prefixes,
-        quick=quick,
-        profile=profile,
-        crashfs=path_of(crashfs),
-        unproved=unproved,
-    )
+    return Report(checked.report, checked.mode)
 
 
 def path_of(path: Optional[PathLike]) -> Optional[str]:
+    """A path as text; None if there is none."""
     return None if path is None else os.fspath(path)
 
 
 def set_recovery(options: Options, recovery: Union[RecoveryOf, Sequence[str]]) -> None:
-    """Sets the options' command or function."""
+    """Writes a command or a function into the options. Refused for a function if other options need
+    a command."""
     if isinstance(recovery, Sequence):
         options.command = [recovery] if isinstance(recovery, str) else list(recovery)
         return
@@ -107,15 +80,7 @@ def set_recovery(options: Options, recovery: Union[RecoveryOf, Sequence[str]]) -
 
     @functools.wraps(function)
     def call(directory: str, lines: List[str]) -> object:
+        """The function, with its directory as a Path."""
         return function(Path(directory), lines)
 
     options.function = call
-
-
-def run_check(
-    options: Options, guard: Guard, progress: Progress, has_states: bool = False
-) -> Checked:
-    """Runs a check by its options: the command is no more than this. has_states says whether the
-    report has the outcome of each state."""
-    result = check_trace(options, guard, progress, has_states)
-    return Checked(Report(result.report, result.mode), result.end)

@@ -10,7 +10,7 @@ from pathlib import Path
 from typing import Dict, Iterator, List, Optional
 
 from crashfs_tools.checker.checked_trace import CheckedTrace
-from crashfs_tools.checker.options import NAME
+from crashfs_tools.checker.options import NAME, Options
 from crashfs_tools.checker.running.results import Results, known_states
 from crashfs_tools.checker.states.layout import lay_out
 from crashfs_tools.checker.states.plan import Plan, Planned
@@ -19,7 +19,7 @@ from crashfs_tools.common.guard import Guard
 from crashfs_tools.common.program import Crashfs
 from crashfs_tools.common.removal import remove_tree
 
-from .checks import options_of_states
+from .checks import path_of
 from .reports import PathLike
 
 
@@ -35,7 +35,7 @@ class CrashState:
 
     @contextmanager
     def laid_out(self) -> Iterator[Path]:
-        """A directory that has the state's files. It is removed at the end of the `with`."""
+        """Lays the state out in a new directory, which is removed at the end of the `with`."""
         folder = tempfile.mkdtemp(prefix='crashfs-state-')
         try:
             directory = os.path.join(folder, str(self.number))
@@ -45,7 +45,7 @@ class CrashState:
             remove_tree(folder)
 
     def files(self) -> Dict[str, bytes]:
-        """The bytes of each file by its path in the directory."""
+        """The bytes of each file by its path in the directory; not of symbolic links."""
         return {
             path.lstrip('/'): bytes(entry.data)
             for path, entry in self.tree.items()
@@ -64,10 +64,13 @@ def states(
     crashfs: Optional[PathLike] = None,
     unproved: bool = False,
 ) -> Iterator[CrashState]:
-    """Each different crash state of a trace, as crashfs-check tries them by these options."""
-    options = options_of_states(trace, every, families, prefixes, quick, profile, crashfs, unproved)
-    program = Crashfs.find_or_read(options.crashfs, unproved)
-    with Guard(f'{NAME}-', is_reaper=False) as guard:
+    """Each different crash state of a trace, as crashfs-check tries them by these options. Refused
+    is raised for bad input."""
+    options = Options(os.fspath(trace), every=every, families=families, prefixes=prefixes)
+    options.quick, options.profile = quick, profile
+    options.crashfs, options.unproved = path_of(crashfs), unproved
+    program = Crashfs.program_or_reading(options.crashfs, unproved)
+    with Guard(NAME, may_reap=False) as guard:
         checked = CheckedTrace(options, program, guard)
         before: Optional[Plan] = None
         for planned in checked.all_planned():
@@ -77,11 +80,11 @@ def states(
 
 
 def states_of(checked: CheckedTrace, planned: Planned, results: Results) -> Iterator[CrashState]:
-    """The different states of one window."""
+    """The different states of a window that are tried by the results, each with its files."""
     texts = checked.lines.acknowledged
     for request in planned.requests(results.trials.values()):
         trees = checked.program.trees(request.words, checked.guard.environment)
         for own, tree in trees:
             state = planned.plan.state(own + request.lead)
-            profiles = planned.plan.profiles_of(state)
+            profiles = planned.plan.profile_names_of(state)
             yield CrashState(state.number, texts[: state.says], profiles, tree)

@@ -28,6 +28,7 @@ START = (
     f'import sys; sys.path.insert(0, {LIBRARY!r}); '
     'from crashfs_tools.api.sessions import main; main(sys.argv[1:])'
 )
+# The exit statuses of crashfs-record for a trace that is written; NOTED is that of a whole one.
 COMPLETE, NOTED, INCOMPLETE = 0, 4, 3
 # The descriptor for a function's acknowledged lines: what it prints is no such line.
 LINES = 3
@@ -44,6 +45,7 @@ class Recording:
     messages: List[str]
 
     def __fspath__(self) -> str:
+        """The path of the trace, so that a recording can be given to check()."""
         return str(self.trace)
 
 
@@ -82,7 +84,8 @@ def record(
 
 
 def run_recorder(words: List[str], environment: Optional[Mapping[str, str]]) -> Recording:
-    """Runs crashfs-record; Refused if it writes no trace."""
+    """Runs crashfs-record by its arguments, of which the one before `--` is the trace; Refused if
+    it writes none."""
     ran = subprocess.run(
         [sys.executable, '-S', '-c', RECORD, *words],
         stdin=subprocess.DEVNULL,
@@ -102,8 +105,8 @@ def run_recorder(words: List[str], environment: Optional[Mapping[str, str]]) -> 
 
 
 def command_of(session: SessionOf) -> List[str]:
-    """The command that calls a function. Refused if a new Python can't find it by its file and
-    name, as a function inside another one."""
+    """The command that calls a function in a new Python. Refused if that can't find it by its file
+    and name, as a function inside another one."""
     path, name = inspect.getsourcefile(session), session.__qualname__
     module = session.__module__
     if path is None or '<' in name:

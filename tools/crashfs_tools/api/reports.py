@@ -39,6 +39,7 @@ class Entry:
     accepted: Optional[AcceptedFailure] = None
 
     def __str__(self) -> str:
+        """The entry as a report has it, without the numbers of its states."""
         return '\n'.join([self.cause, *(f'  {line}' for line in self.text)])
 
 
@@ -60,6 +61,7 @@ class Report:
     """What a check found. It is printed as crashfs-check prints it."""
 
     def __init__(self, found: CheckReport, mode: int = 0o600) -> None:
+        """mode is that of files that are written: who may not read the trace may not read them."""
         self._found = found
         self._mode = mode
         self._text = ReportText(found)
@@ -71,17 +73,18 @@ class Report:
 
     @property
     def entries(self) -> List[Entry]:
-        """The failures, the largest first; known failures are among them."""
+        """The failures, the largest first; accepted failures are among them."""
         return [self._entry(group) for group in self._found.groups()]
 
     @property
     def failures(self) -> List[Entry]:
-        """The entries that are no known failures."""
+        """The entries that are no accepted failures."""
         return [entry for entry in self.entries if entry.accepted is None]
 
     @property
     def states(self) -> List[StateOutcome]:
-        """The outcome of each state that was tried, or is equal to one that was."""
+        """The outcome of each state that was tried, or is equal to one that was; none if the check
+        was made without has_states."""
         return [
             StateOutcome(
                 state.number, state.says, outcome.result, outcome.cause, outcome.output, profiles
@@ -105,10 +108,12 @@ class Report:
         return list(self._found.profiles)
 
     def __str__(self) -> str:
+        """The report as crashfs-check prints it."""
         return '\n'.join(self.lines)
 
     def write_json(self, path: PathLike) -> None:
-        """Writes the whole report for other tools, as --json does."""
+        """Writes the whole report for other tools, as --json does. An OSError if it can't be
+        written: then the file is as it was."""
         from crashfs_tools.checker.report.json_report import json_pieces
 
         self._write(path, json_pieces)
@@ -119,6 +124,12 @@ class Report:
 
         self._write(path, junit_lines)
 
+    def write_tap(self, path: PathLike) -> None:
+        """Writes the report in the Test Anything Protocol."""
+        from crashfs_tools.checker.report.tap import tap_lines
+
+        self._write(path, tap_lines)
+
     def write_html(self, path: PathLike) -> None:
         """Writes the report as a page for a browser."""
         from crashfs_tools.checker.report.page import page
@@ -126,10 +137,12 @@ class Report:
         self._write(path, page)
 
     def _write(self, path: PathLike, pieces: Callable[[CheckReport], Iterator[str]]) -> None:
-        """Who may not read the trace may not read the file; it is durable when this returns."""
+        """Writes a file from the pieces of its text, for those only who may read the trace; it is
+        durable when this returns. An OSError leaves what was there."""
         write_whole(os.fspath(path), pieces(self._found), self._mode)
 
     def _entry(self, group: Group) -> Entry:
+        """The entry of a group."""
         return Entry(
             group.cause,
             self._text.details(group),

@@ -14,22 +14,23 @@ from .recordings import LINES
 
 
 def acknowledge(line: str) -> None:
-    """Writes an acknowledged line, in one write."""
+    """Writes an acknowledged line, in one write; ValueError if it has a line feed."""
     if '\n' in line:
         raise ValueError('an acknowledged line has no line feed')
     os.write(LINES, f'{line}\n'.encode('utf-8', 'surrogateescape'))
 
 
 def main(arguments: List[str]) -> None:
-    """Calls the function of a file, module and name with this directory; further arguments are
-    where Python looks for modules."""
+    """Calls a function with this directory: the arguments are the path of its file, its module, its
+    name, and where Python looks for modules."""
     path, module, name, *sys.path = arguments
     session: Any = reduce(getattr, name.split('.'), module_of(path, module))
     session(Path.cwd(), acknowledge)
 
 
 def module_of(path: str, name: str) -> object:
-    """The module of a file: by its name if that finds this file, else as one without a package."""
+    """The module of a file, which is imported: by its name if that finds this file, else as one
+    without a package."""
     try:
         module = importlib.import_module(name)
         if os.path.realpath(module.__file__ or '') == os.path.realpath(path):

@@ -20,8 +20,10 @@ VARYING = re.compile(r'line \d+|"(?:[^"\\]|\\.)*"|\b[0-9a-f]{6,}\b|\d+')
 
 @dataclass
 class KnownFailure:
-    """A failure: in which session it was first, in how many it was, and of how many acknowledged
-    lines the kept trace has the fewest."""
+    """A failure: with which seed it came first, its number among all, and in how many sessions it
+    was. The kept trace is of the session of kept_seed, which acknowledges `says` lines, up to the
+    line with the number `shortest`; 0 means that it is whole. The file has the names of the
+    fields."""
 
     failure: Failure
     seed: int
@@ -29,6 +31,7 @@ class KnownFailure:
     sessions: int = 1
     says: int = 0
     shortest: int = 0
+    kept_seed: int = 0
 
     @property
     def trace(self) -> str:
@@ -40,10 +43,17 @@ class KnownFailure:
         """The name of the file that has the report of the shortened trace."""
         return f'entry-{self.number}.html'
 
+    @property
+    def most_lines(self) -> int:
+        """With at most so many acknowledged lines another session is shorter than the kept one. A
+        whole session counts one line more: what it does after the last one."""
+        return (self.shortest or self.says + 1) - 1
+
 
 @dataclass
 class Book:
-    """All that a campaign knows. next_seed is the first that wasn't tried."""
+    """All that a campaign knows. identity says which campaign it is, next_seed is the first seed
+    that wasn't tried, and faults has the seeds without a verdict, with why."""
 
     path: Path
     identity: List[object]
@@ -53,7 +63,7 @@ class Book:
     faults: List[Tuple[int, str]] = field(default_factory=list)
 
     def save(self) -> None:
-        """Writes the book, so that another run goes on from it."""
+        """Writes the book to its file, from which another run continues."""
         fields = {
             'crashfs-campaign': VERSION,
             'identity': self.identity,
@@ -66,7 +76,8 @@ class Book:
 
 
 def read_book(path: Path, identity: List[object], first_seed: int) -> Book:
-    """The book of an earlier run, or a new one; Refused if that was another campaign."""
+    """The book that an earlier run of the same campaign left, or a new one; Refused if the file is
+    none, or is of another campaign."""
     book = Book(path, identity, first_seed)
     if not path.exists():
         return book
@@ -88,6 +99,7 @@ def read_book(path: Path, identity: List[object], first_seed: int) -> Book:
 
 
 def failure_key(failure: Failure) -> str:
-    """What is the same of a failure in all sessions: its kind and its first sentence."""
+    """What is the same of a failure in all sessions: its kind, which its cause has before a colon,
+    and its first sentence, with a sign in the place of what varies. The file has these keys."""
     kind = failure.cause.partition(':')[0]
     return VARYING.sub('#', ': '.join([kind, *failure.text[:1]]))

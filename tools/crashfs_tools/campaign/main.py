@@ -17,16 +17,18 @@ from crashfs_tools.common.command import (
     write_whole,
 )
 from crashfs_tools.common.guard import Stopped, stop_by_exception
-from crashfs_tools.common.own_faults import run_guarded
+from crashfs_tools.common.own_faults import print_own_fault
 from crashfs_tools.common.printable import print_utf8, printable
 
 from .book import Book, KnownFailure, failure_key, read_book
 from .options import NAME, CampaignOptions, read_options
-from .report import report_lines, page_text
+from .report import length_text, page_text, report_lines, verdict_line
 from .sessions import Checked, Failure, Sessions
 from .shrinking import Shrinking
 
 SOME_FAIL, BAD_INPUT, NO_VERDICT = 1, 2, 3
+# If nothing else was printed for so long, a line says how many sessions were tried.
+EVERY_SECONDS = 60.0
 
 
 class Campaign:
@@ -39,9 +41,11 @@ class Campaign:
         self.book = read_book(self.results / 'campaign.json', options.identity(), options.seeds[0])
         self.work = self.results / 'work'
         self.sessions = Sessions(options, self.work)
+        self.printed = time.monotonic()
 
     def run(self) -> None:
-        """Tries the seeds that are left, until the time is over."""
+        """Tries the seeds that are left, in their order, up to the last one or until the time is
+        over. A session that has begun is finished."""
         begun, last = time.monotonic(), self.options.seeds[1]
         shutil.rmtree(self.work, ignore_errors=True)
         self.work.mkdir()
@@ -54,35 +58,53 @@ class Campaign:
             shutil.rmtree(self.work, ignore_errors=True)
 
     def try_seed(self, seed: int) -> None:
-        """Records and checks the session of one seed, and adds what is new to the book."""
+        """Records and checks the session of a seed, adds what is new to the book, and saves it."""
         fault = self.sessions.record(seed)
         checked = Checked(fault=fault) if fault else self.sessions.check(self.sessions.trace)
         if checked.fault:
             self.book.faults.append((seed, checked.fault))
         for failure in checked.failures:
-            self.add(seed, failure)
+            self.add_failure(seed, failure)
         self.book.sessions += 1
         self.book.next_seed = seed + 1
         self.book.save()
+        if time.monotonic() - self.printed >= EVERY_SECONDS:
+            self.print_line(f'seed {seed}: {verdict_line(self.book)}')
 
-    def add(self, seed: int, failure: Failure) -> None:
-        """Counts a failure that is known, and keeps the shortest session of a new one."""
+    def print_line(self, line: str) -> None:
+        """Prints a line on standard error, and notes when."""
+        print_line(NAME, printable(line))
+        self.printed = time.monotonic()
+
+    def add_failure(self, seed: int, failure: Failure) -> None:
+        """Keeps the shortest session of a new failure; counts one that is known, and keeps this
+        session in the place of the kept one if it fails with fewer acknowledged lines."""
         key = failure_key(failure)
-        known = self.book.entries.get(key)
-        if known is not None:
-            known.sessions += 1
-            return
-        entry = KnownFailure(failure, seed, len(self.book.entries) + 1)
         shrinking = Shrinking(self.sessions, key)
-        entry.says, entry.shortest = len(shrinking.says), shrinking.run()
-        kept = shrinking.keep(entry.shortest, self.results / entry.trace, self.results / entry.page)
-        entry.failure = kept or failure
-        self.book.entries[key] = entry
-        print_line(NAME, printable(f'seed {seed}: new: {failure.cause}'))
+        known = self.book.entries.get(key)
+        if known is None:
+            entry = KnownFailure(failure, seed, len(self.book.entries) + 1)
+            self.keep(entry, seed, shrinking, shrinking.shortest_length())
+            self.book.entries[key] = entry
+            self.print_line(f'seed {seed}: new: {failure.cause}')
+            return
+        known.sessions += 1
+        length = shrinking.shortest_length(known.most_lines)
+        if length:
+            self.keep(known, seed, shrinking, length)
+            self.print_line(f'seed {seed}: shorter: {length_text(known)}: {failure.cause}')
+
+    def keep(self, entry: KnownFailure, seed: int, shrinking: Shrinking, length: int) -> None:
+        """Keeps the session of a seed, up to so many acknowledged lines, as the shortest one of a
+        failure: writes its files, and what they are into the entry."""
+        entry.kept_seed, entry.says, entry.shortest = seed, len(shrinking.says), length
+        kept = shrinking.keep(length, self.results / entry.trace, self.results / entry.page)
+        entry.failure = kept or entry.failure
 
 
 def run_campaign(arguments: List[str]) -> int:
-    """Runs a campaign and reports; what was found before a stop is kept and reported."""
+    """Runs a campaign, prints its report, and returns the status, also after a stop. Refused input
+    is a line and the status BAD_INPUT; an OSError is raised."""
     try:
         options = read_options(arguments)
         if options.html is not None:
@@ -98,11 +120,11 @@ def run_campaign(arguments: List[str]) -> int:
     except Stopped as stop:
         stopped = stop
         print_line(NAME, f'stopped by {stop}')
-    report(options, campaign.book)
+    report_campaign(options, campaign.book)
     return stopped.status if stopped else status_of(campaign.book)
 
 
-def report(options: CampaignOptions, book: Book) -> None:
+def report_campaign(options: CampaignOptions, book: Book) -> None:
     """Prints what was found, and writes the page if one is asked for."""
     with standard_output():
         print('\n'.join(report_lines(options, book)))
@@ -119,6 +141,12 @@ def status_of(book: Book) -> int:
 
 
 def main(arguments: Optional[List[str]] = None) -> int:
+    """Runs crashfs-campaign with these words, or those of its command line, and returns its
+    status."""
     words = sys.argv[1:] if arguments is None else arguments
     print_utf8()
-    return run_guarded(NAME, lambda: run_campaign(words), NO_VERDICT)
+    try:
+        return run_campaign(words)
+    except Exception as error:
+        print_own_fault(NAME, error)
+        return NO_VERDICT

@@ -6,14 +6,22 @@ import argparse
 import os
 import re
 import shlex
+import sys
 from dataclasses import dataclass
 from typing import List, Optional, Tuple
 
-from crashfs_tools.common.command import Refused, with_program_path, split_command, parse
-from crashfs_tools.common.version import version_of
+from crashfs_tools.common.command import (
+    Refused,
+    parse_command_line,
+    split_command,
+    version_text,
+    with_program_path,
+)
 
 NAME = 'crashfs-campaign'
 SEEDS = (1, 100)
+# Those of a campaign that its time limit ends.
+ALL_SEEDS = (1, sys.maxsize)
 
 DESCRIPTION = """\
 Records SESSION with one seed after another, runs RECOVERY in the crash states of each, and keeps
@@ -21,9 +29,10 @@ what is new.
 
 SESSION runs in an empty directory, with a seed in the variable CRASHFS_SEED, as under
 crashfs-record; RECOVERY as under crashfs-check. A failure is new if no earlier session had one with
-the same cause and the same two operations. Of a new one the fewest acknowledged lines are searched
-that still fail. RESULTS, a directory, has its trace, its report as a page, and campaign.json. The
-same command with the same RESULTS continues after the last seed."""
+the same kind of cause and the same two operations. For a new failure, and for a known one if a
+later session is shorter, it looks for the session with the fewest acknowledged lines that still
+fails in the same way. RESULTS, a directory, has its trace, its report as a page, and campaign.json.
+The same command with the same RESULTS continues after the last seed."""
 
 EPILOG = """\
 status: 0 no state of any session fails; 1 some fail; 2 the command line is refused; 3 some sessions
@@ -35,7 +44,8 @@ example: crashfs-campaign --time-limit 28800 found -- ./session.sh -- ./recover.
 
 @dataclass
 class CampaignOptions:
-    """The options of a command line, with SESSION and RECOVERY."""
+    """The options of a command line, with SESSION and RECOVERY. seeds has the first and the last
+    one; record and check are options of the two other commands."""
 
     results: str
     session: List[str]
@@ -48,77 +58,84 @@ class CampaignOptions:
     html: Optional[str]
 
     def identity(self) -> List[object]:
-        """What has to be the same for a campaign to be continued."""
+        """What must be the same for a campaign to be continued. campaign.json has it, in this
+        order: a change makes all earlier campaigns other ones."""
         return [self.session, self.recovery, self.start, self.record, self.check]
 
 
 def seeds_of(text: str) -> Tuple[int, int]:
-    """A range of seeds, as `1-100`, by its ends."""
+    """The ends of a range of seeds, as `1-100`; ArgumentTypeError if it is none, or empty."""
     match = re.fullmatch(r'(\d+)-(\d+)', text)
     if match is None or int(match[1]) > int(match[2]):
         raise argparse.ArgumentTypeError(f'{text} is no range such as 1-100')
     return int(match[1]), int(match[2])
 
 
-def seconds(text: str) -> float:
-    """A number of seconds above 0."""
+def positive_seconds(text: str) -> float:
+    """A number of seconds above 0; ArgumentTypeError for another text."""
     try:
-        found_number = float(text)
+        seconds = float(text)
     except ValueError:
-        found_number = 0
-    if not found_number > 0:
+        seconds = 0
+    if not seconds > 0:
         raise argparse.ArgumentTypeError(f'{text} is no number of seconds above 0')
-    return found_number
+    return seconds
 
 
-def parser() -> argparse.ArgumentParser:
-    """The parser of the command line."""
-    made = argparse.ArgumentParser(
+def make_parser() -> argparse.ArgumentParser:
+    """A parser of the command line up to SESSION."""
+    parser = argparse.ArgumentParser(
         prog=NAME,
         usage=f'{NAME} [OPTION].. RESULTS -- SESSION [ARG].. -- RECOVERY [ARG]..',
         description=DESCRIPTION,
         epilog=EPILOG,
         formatter_class=argparse.RawDescriptionHelpFormatter,
     )
-    made.add_argument('results', metavar='RESULTS', help='the directory for what is found')
-    made.add_argument('--version', action='version', version=version_of(NAME))
-    made.add_argument(
-        '--seeds', metavar='A-B', type=seeds_of, default=SEEDS, help='the seeds (default: 1-100)'
+    parser.add_argument('results', metavar='RESULTS', help='the directory for what is found')
+    parser.add_argument('--version', action='version', version=version_text(NAME))
+    parser.add_argument(
+        '--seeds',
+        metavar='A-B',
+        type=seeds_of,
+        help='the seeds (default: 1-100; with --time-limit all from 1 on)',
     )
-    made.add_argument(
+    parser.add_argument(
         '--time-limit',
         metavar='S',
-        type=seconds,
+        type=positive_seconds,
         default=float('inf'),
         help='begin no session after S seconds',
     )
-    made.add_argument('--start', metavar='DIR', help='begin each session with a copy of DIR')
-    made.add_argument(
+    parser.add_argument('--start', metavar='DIR', help='begin each session with a copy of DIR')
+    parser.add_argument(
         '--record', metavar='WORDS', default='', help='options of crashfs-record, in one argument'
     )
-    made.add_argument(
+    parser.add_argument(
         '--check', metavar='WORDS', default='', help='options of crashfs-check, in one argument'
     )
-    made.add_argument('--html', metavar='FILE', help='write an index of what was found as a page')
-    return made
+    parser.add_argument('--html', metavar='FILE', help='write an index of what was found as a page')
+    return parser
 
 
 def read_options(arguments: List[str]) -> CampaignOptions:
-    """The options of a command line; a wrong one ends the program with its reason."""
-    values, commands = parse(parser(), arguments)
+    """The options of a command line. A wrong one ends the program (SystemExit) with its reason;
+    Refused if a file or a program that it names isn't there."""
+    parser = make_parser()
+    values, commands = parse_command_line(parser, arguments)
     session, recovery = split_command(commands)
+    has_time_limit = values.time_limit < float('inf')
     if not session or not recovery:
-        parser().error('two commands are needed: -- SESSION [ARG].. -- RECOVERY [ARG]..')
+        parser.error('two commands are needed: -- SESSION [ARG].. -- RECOVERY [ARG]..')
     if values.start is not None and not os.path.isdir(values.start):
         raise Refused(f'{values.start} is no directory')
     return CampaignOptions(
-        values.results,
-        with_program_path(session),
-        with_program_path(recovery),
-        values.seeds,
-        values.start and os.path.abspath(values.start),
-        shlex.split(values.record),
-        shlex.split(values.check),
-        values.time_limit,
-        values.html,
+        results=values.results,
+        session=with_program_path(session),
+        recovery=with_program_path(recovery),
+        seeds=values.seeds or (ALL_SEEDS if has_time_limit else SEEDS),
+        start=values.start and os.path.abspath(values.start),
+        record=shlex.split(values.record),
+        check=shlex.split(values.check),
+        time_limit=values.time_limit,
+        html=values.html,
     )

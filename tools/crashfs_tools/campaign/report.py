@@ -6,40 +6,39 @@ import html
 import os
 import shlex
 import textwrap
+import time
 from typing import Iterator, List
 
-from crashfs_tools.common.printable import printable
+from crashfs_tools.common.printable import count_text, printable
+from crashfs_tools.common.command import version_text
 
 from .book import Book, KnownFailure
-from .options import CampaignOptions
+from .options import NAME, CampaignOptions
 
 COLUMNS = 100
 
 
-def count_of(count: int, noun: str) -> str:
-    """A number with what it counts, as `1 entry` or `2 entries`."""
-    return f'{count:,} {noun}' if count == 1 else f'{count:,} {noun}s'
-
-
-def first_line(book: Book) -> str:
-    """The first line: how many sessions were tried, and what fails."""
+def verdict_line(book: Book) -> str:
+    """The first line of the report: how many sessions were tried, and what fails."""
     entries = len(book.entries)
     verdict = 'none fails' if not entries else f'{entries} different failures'
     if entries == 1:
         verdict = '1 failure'
-    faults = f'; {count_of(len(book.faults), "session")} without a verdict' if book.faults else ''
-    return f'{count_of(book.sessions, "session")}: {verdict}{faults}'
+    faults = f'; {count_text(len(book.faults), "session")} without a verdict' if book.faults else ''
+    return f'{count_text(book.sessions, "session")}: {verdict}{faults}'
 
 
-def size_of(entry: KnownFailure) -> str:
-    """How long the kept session is."""
+def length_text(entry: KnownFailure) -> str:
+    """How much of its session the kept trace has, in words, and the seed if it isn't the first."""
+    text = f'{count_text(entry.shortest, "acknowledged line")} of {entry.says:,}'
     if not entry.shortest:
-        return 'the whole session'
-    return f'{count_of(entry.shortest, "acknowledged line")} of {entry.says:,}'
+        text = 'the whole session'
+    is_first = entry.kept_seed in (0, entry.seed)
+    return text if is_first else f'{text} with seed {entry.kept_seed}'
 
 
 def state_command(options: CampaignOptions, entry: KnownFailure) -> str:
-    """The command that lays the example out."""
+    """The command that lays out the example of the kept trace."""
     trace = os.path.join(options.results, entry.trace)
     words = ['crashfs-check', *options.check, '--state', str(entry.failure.example), trace, '--']
     return shlex.join([*words, *options.recovery])
@@ -47,12 +46,12 @@ def state_command(options: CampaignOptions, entry: KnownFailure) -> str:
 
 def report_lines(options: CampaignOptions, book: Book) -> Iterator[str]:
     """The report, line by line."""
-    yield first_line(book)
+    yield verdict_line(book)
     for entry in book.entries.values():
         yield f'  {printable(entry.failure.cause)}'
         yield (
-            f'    in {count_of(entry.sessions, "session")}, first with seed {entry.seed}; '
-            f'kept: {size_of(entry)}'
+            f'    in {count_text(entry.sessions, "session")}, first with seed {entry.seed}; '
+            f'kept: {length_text(entry)}'
         )
         for line in entry.failure.text:
             yield from folded_line(printable(line))
@@ -62,35 +61,54 @@ def report_lines(options: CampaignOptions, book: Book) -> Iterator[str]:
 
 
 def folded_line(line: str) -> List[str]:
-    """A line as indented lines of the usual width."""
+    """A line as lines of COLUMNS letters at most, indented below their entry."""
     return textwrap.wrap(line, COLUMNS, initial_indent='    ', subsequent_indent='      ')
 
 
-STYLE = 'body{font:16px/1.5 sans-serif;max-width:60em;margin:2em auto;padding:0 1em}'
+STYLE = (
+    'body{font:16px/1.5 sans-serif;max-width:60em;margin:2em auto;padding:0 1em}'
+    'pre{white-space:pre-wrap;overflow-wrap:anywhere}.about{opacity:.7;overflow-wrap:anywhere}'
+)
 PAGE = (
     '<!DOCTYPE html>\n<html lang="en"><head><meta charset="utf-8">'
     '<meta name="viewport" content="width=device-width">'
     '<meta name="color-scheme" content="light dark">'
     '<title>{title}</title><style>{style}</style></head>\n'
-    '<body><h1>{title}</h1>\n{body}</body></html>\n'
+    '<body><h1>{title}</h1>\n<p class="about">{about}</p>\n{body}</body></html>\n'
 )
 
 
 def page_text(options: CampaignOptions, book: Book, folder: str) -> str:
-    """An index of the entries, each with a link to its own page. The links are from the folder."""
+    """A page of all entries, each with a link to its own page: relative to the folder in which this
+    page will be. It has the commands, the seeds, the version and the date."""
     body = ''.join(page_section(options, entry, folder) for entry in book.entries.values())
-    faults = ''.join(f'<li>seed {seed}: {html.escape(text)}</li>' for seed, text in book.faults)
+    faults = ''.join(f'<li>seed {seed}: {shown_text(text)}</li>' for seed, text in book.faults)
     body += f'<h2>Without a verdict</h2><ul>{faults}</ul>\n' if faults else ''
-    return PAGE.format(title=html.escape(f'Campaign: {first_line(book)}'), style=STYLE, body=body)
+    title = shown_text(f'Campaign of {verdict_line(book)}')
+    about = '<br>'.join(shown_text(line) for line in about_lines(options, book))
+    return PAGE.format(title=title, style=STYLE, about=about, body=body)
+
+
+def about_lines(options: CampaignOptions, book: Book) -> Iterator[str]:
+    """What the page is of: the two commands, the last seed, the version and the date."""
+    yield f'SESSION: {shlex.join(options.session)}'
+    yield f'RECOVERY: {shlex.join(options.recovery)}'
+    date = time.strftime('%Y-%m-%d %H:%M:%S UTC', time.gmtime())
+    yield f'seeds up to {book.next_seed - 1:,}; {version_text(NAME)}; {date}'
+
+
+def shown_text(text: str) -> str:
+    """Text that the page shows as it is, but for what would control how the rest is shown."""
+    return html.escape(printable(text))
 
 
 def page_section(options: CampaignOptions, entry: KnownFailure, folder: str) -> str:
-    """A failure as a part of the page, with a link to its own report."""
+    """The part of the page for a failure, with a link from the folder to its own page."""
     link = os.path.relpath(os.path.join(options.results, entry.page), folder)
-    text = '<br>'.join(html.escape(line) for line in entry.failure.text)
-    found = f'In {count_of(entry.sessions, "session")}, first with seed {entry.seed}'
+    text = '<br>'.join(shown_text(line) for line in entry.failure.text)
+    found = f'In {count_text(entry.sessions, "session")}, first with seed {entry.seed}'
     return (
-        f'<h2><a href="{html.escape(link)}">{html.escape(entry.failure.cause)}</a></h2>\n'
-        f'<p>{found}; kept: {size_of(entry)}.</p><p>{text}</p>\n'
-        f'<pre>{html.escape(state_command(options, entry))}</pre>\n'
+        f'<h2><a href="{html.escape(link)}">{shown_text(entry.failure.cause)}</a></h2>\n'
+        f'<p>{found}; kept: {length_text(entry)}.</p><p>{text}</p>\n'
+        f'<pre>{shown_text(state_command(options, entry))}</pre>\n'
     )

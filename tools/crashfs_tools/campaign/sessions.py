@@ -11,6 +11,8 @@ from dataclasses import dataclass, field
 from pathlib import Path
 from typing import Dict, List, Optional, Sequence, Tuple
 
+from crashfs_tools.common.program import last_line
+
 from .options import CampaignOptions
 
 TOOLS = Path(__file__).resolve().parents[2]
@@ -23,7 +25,8 @@ REPORTS = (3, 4)
 
 @dataclass
 class Failure:
-    """An entry of a check's report."""
+    """An entry of a check's report: its cause and sentences, the number of an example, and how many
+    different states fail so. The file of a campaign has the names of the fields."""
 
     cause: str
     text: List[str]
@@ -49,7 +52,8 @@ class Sessions:
         self.child: Optional[subprocess.Popen[str]] = None
 
     def record(self, seed: int) -> str:
-        """Records the session with a seed; returns why not, or nothing."""
+        """Records the session with a seed. Returns why it could not be recorded; an empty text if
+        it was."""
         store = self.folder / 'store'
         shutil.rmtree(store, ignore_errors=True)
         if self.options.start is None:
@@ -57,8 +61,8 @@ class Sessions:
         else:
             shutil.copytree(self.options.start, store, symlinks=True)
         words = [*self.options.record, str(store), str(self.trace), '--', *self.options.session]
-        status, said = self.run('crashfs-record', words, {SEED: str(seed)})
-        return '' if status in RECORDED else f'crashfs-record: status {status}: {last_line(said)}'
+        status, error_text = self.run_tool('crashfs-record', words, {SEED: str(seed)})
+        return '' if status in RECORDED else fault_of('crashfs-record', status, error_text)
 
     def check(self, trace: Path, page: Optional[Path] = None) -> Checked:
         """Runs the recovery in the states of a trace. The report is written as a page if one is
@@ -68,13 +72,15 @@ class Sessions:
             report.unlink()
         pages = [] if page is None else ['--html', str(page)]
         words = ['--json', str(report), *pages, *self.options.check, str(trace), '--']
-        status, said = self.run('crashfs-check', [*words, *self.options.recovery], {})
+        status, error_text = self.run_tool('crashfs-check', [*words, *self.options.recovery], {})
         found = failures_in(report) if report.exists() else []
         if status in (NONE_FAILS, SOME_FAIL):
             return Checked(found)
-        return Checked(found, f'crashfs-check: status {status}: {last_line(said)}')
+        return Checked(found, fault_of('crashfs-check', status, error_text))
 
-    def run(self, tool: str, words: Sequence[str], variables: Dict[str, str]) -> Tuple[int, str]:
+    def run_tool(
+        self, tool: str, words: Sequence[str], variables: Dict[str, str]
+    ) -> Tuple[int, str]:
         """Runs one of the two commands; returns its status and what it printed on standard error.
         If this process is stopped, so is the command."""
         self.child = subprocess.Popen(
@@ -87,16 +93,17 @@ class Sessions:
             errors='backslashreplace',
         )
         try:
-            _, said = self.child.communicate()
+            _, error_text = self.child.communicate()
         except BaseException:
             self.child.terminate()
             self.child.communicate()
             raise
-        return self.child.returncode, said
+        return self.child.returncode, error_text
 
 
 def failures_in(report: Path) -> List[Failure]:
-    """The entries of a report; none of a report of another version."""
+    """The entries of a report of crashfs-check; an OSError if the report is of a version that isn't
+    known here."""
     fields = json.loads(report.read_text('utf-8', 'surrogateescape'))
     if fields.get('crashfs-check') not in REPORTS:
         raise OSError(f'{report} is a report of another version')
@@ -106,7 +113,6 @@ def failures_in(report: Path) -> List[Failure]:
     ]
 
 
-def last_line(said: str) -> str:
-    """The last line of what a command printed."""
-    lines = said.strip().splitlines()
-    return lines[-1] if lines else 'it printed nothing'
+def fault_of(tool: str, status: int, error_text: str) -> str:
+    """Why a command gave no result: its status and the last line that it printed."""
+    return f'{tool}: status {status}: {last_line(error_text) or "it printed nothing"}'

@@ -11,19 +11,20 @@ from .sessions import Failure, Sessions
 
 
 def says_in(lines: List[str]) -> List[int]:
-    """The places of a trace's acknowledged lines."""
+    """The places, from 0, of the acknowledged lines among a trace's lines."""
     return [
         place for place, line in enumerate(lines) if '"say"' in line and is_say(json.loads(line))
     ]
 
 
 def is_say(fields: object) -> bool:
-    """Whether a line of a trace is an acknowledgement."""
+    """Whether the value of a trace's line is that of an acknowledged line."""
     return isinstance(fields, dict) and fields.get('op') == 'say'
 
 
 class Shrinking:
-    """One failure of the session that was recorded last."""
+    """Searches how much of the session that was recorded last is enough for the failure of a
+    key."""
 
     def __init__(self, sessions: Sessions, key: str) -> None:
         self.sessions = sessions
@@ -34,18 +35,19 @@ class Shrinking:
         self.cut = sessions.folder / 'cut.trace'
 
     def failure_of(self, count: int) -> Optional[Failure]:
-        """The failure in the session up to so many acknowledged lines."""
+        """The failure with the key in the session up to so many acknowledged lines (0: the whole
+        session); None if it doesn't come. The file `cut` has that session then."""
         last = self.says[count - 1] if count else len(self.lines) - 1
         text = ''.join(self.lines[: last + 1])
         self.cut.write_text(text, 'utf-8', 'surrogateescape')
         found = self.sessions.check(self.cut).failures
         return next((failure for failure in found if failure_key(failure) == self.key), None)
 
-    def run(self) -> int:
+    def shortest_length(self, most: Optional[int] = None) -> int:
         """The fewest acknowledged lines with which it still fails, by a binary search: what a
-        session may leave, a longer one may leave too. 0 if even the whole session fails only with
-        what comes after its last line."""
-        low, high = 0, len(self.says)
+        session may leave, a longer one may leave too. 0 if it doesn't fail with at most so many, or
+        fails only with what the session does after its last line."""
+        low, high = 0, len(self.says) if most is None else min(most, len(self.says))
         if not high or self.failure_of(high) is None:
             return 0
         while high - low > 1:
@@ -57,7 +59,8 @@ class Shrinking:
         return high
 
     def keep(self, count: int, trace: Path, page: Path) -> Optional[Failure]:
-        """Writes the shortest session and its page; the failure as it is there."""
+        """Writes the session up to so many acknowledged lines, and the page of its report. Returns
+        the failure as it is there; None if it doesn't come any more."""
         failure = self.failure_of(count)
         trace.write_bytes(self.cut.read_bytes())
         self.sessions.check(trace, page)

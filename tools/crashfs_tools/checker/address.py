@@ -14,8 +14,8 @@ class Address(NamedTuple):
     port: int
 
     def numeric(self) -> str:
-        """The host's IP address, which is all that the kernel knows; one of IPv4 where it has
-        any. Refused where it has none."""
+        """The host's IP address, the only form that the kernel takes: an IPv4 address if the host
+        has one. Refused if it has none."""
         import socket
 
         try:
@@ -27,4 +27,5 @@ class Address(NamedTuple):
         return str(best[4][0])
 
     def __str__(self) -> str:
+        """The address as it is printed."""
         return f'{self.host}:{self.port}'

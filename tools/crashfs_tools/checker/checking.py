@@ -7,24 +7,23 @@ import os
 import stat
 from contextlib import contextmanager
 from functools import cached_property
-from typing import TYPE_CHECKING, Iterator, NamedTuple, Optional
+from typing import TYPE_CHECKING, Callable, Iterator, NamedTuple, Optional
 
+from crashfs_tools.checker.findings.accepted_failures import AcceptedFailures
 from crashfs_tools.checker.findings.groups import Findings
 from crashfs_tools.checker.report.report import CheckReport
 from crashfs_tools.checker.running.first_trials import FirstTrials
 from crashfs_tools.checker.running.progress import Progress
 from crashfs_tools.checker.running.read_results import read_json
 from crashfs_tools.checker.running.recoveries import FunctionRecovery
-from crashfs_tools.checker.running.results import AllResults, Results, known_states
-from crashfs_tools.checker.running.saving import Saver
+from crashfs_tools.checker.running.results import AllResults, Head, Results, known_states
+from crashfs_tools.checker.running.runner import do_nothing
 from crashfs_tools.checker.running.trials import Trials
-from crashfs_tools.checker.states.plan import Planned
 from crashfs_tools.common.command import Refused, print_line, with_program_path, write_whole
 from crashfs_tools.common.guard import Guard, Stopped, TimeUp, time_limit
 from crashfs_tools.common.program import Crashfs, ProgramFault
 
 from .checked_trace import CheckedTrace
-from .merging import new_report
 from .options import NAME, Options
 
 if TYPE_CHECKING:
@@ -38,11 +37,11 @@ ANOTHER = '--resume: that is a report of another check'
 
 
 class Interrupted(Exception):
-    """A fault that came when states were tried already: the report has these."""
+    """A fault, its cause, that came when states were tried already: the report has these."""
 
 
 class CheckResult(NamedTuple):
-    """The report, what a file of it may be readable for, and what ended the check early."""
+    """The report, the mode of a file of it, and what ended the check early, if anything did."""
 
     report: CheckReport
     mode: int
@@ -50,14 +49,16 @@ class CheckResult(NamedTuple):
 
 
 class Window(NamedTuple):
-    """One part of a session, or the whole: its plan, and what came of its states."""
+    """One part of a session, or the whole: where its states are tried, and what came of them."""
 
-    planned: Planned
+    trials: Trials
     findings: Findings
 
 
 class Check:
-    """A check of one trace. run() goes through its windows; `last` is the one that it is at."""
+    """A check of one trace. run() goes through its windows; `last` is the one that it is at, None
+    before the first, and is_over says whether the last one was tried whole. has_states says whether
+    the report has the outcome of each state."""
 
     def __init__(self, trace: CheckedTrace, has_states: bool = False) -> None:
         self.trace = trace
@@ -68,9 +69,12 @@ class Check:
         self.earlier = self.read_earlier()
         self.last: Optional[Window] = None
         self.is_over = False
+        # What ended the check early, also if all states had been tried.
+        self.end_cause = ''
 
     def read_earlier(self) -> Optional[AllResults]:
-        """The results of --resume; Refused if they are of another check."""
+        """The results of --resume; None if there are none yet. Refused if they are of another
+        check."""
         path = self.options.resume
         if path is None or not os.path.exists(path):
             return None
@@ -80,8 +84,9 @@ class Check:
         return earlier
 
     def run(self) -> CheckResult:
-        """Checks window after window. If it ends early after states were tried, the report has
-        these, and what ended it is returned: a stop, or what Interrupted was raised from."""
+        """Checks window after window, and returns the report, also if the check ends early: then
+        `end` of the result is a Stopped, or an Interrupted whose cause is the fault. A fault that
+        comes before the first state was tried is raised."""
         end: Optional[Exception] = None
         try:
             with time_limit(self.options.time_limit):
@@ -105,23 +110,36 @@ class Check:
         return CheckResult(self.report, self.trace.mode, end)
 
     def note_end(self, cause: str) -> None:
-        """Notes what ended the check, if it wasn't over."""
+        """Notes what ended the check, unless something did before. The report says so if not all
+        states were tried."""
+        self.end_cause = self.end_cause or cause
         if not self.is_over:
             self.head.stopped = self.head.stopped or cause
 
     def complete_report(self) -> None:
-        """Adds what is only known at the end, however it came."""
-        self.head.has_rest = self.last is not None and not self.last.planned.is_last
+        """Adds to the report what is only known at the end: what was left out and why, second runs
+        after the time limit, and what the cache had. Stopped if a signal comes meanwhile."""
+        self.head.has_rest = self.last is not None and not self.last.trials.planned.is_last
         if self.trace.windows is not None:
             self.head.cut_off = [(one.line, one.tried) for one in self.trace.windows.cut_off]
         if self.head.stopped == TIME_LIMIT and self.last is not None:
             self.rerun_examples(self.last, RERUN_SECONDS)
+        self.report.not_done = list(self.options_not_done())
         self.save_cache()
 
+    def options_not_done(self) -> Iterator[str]:
+        """What was asked for besides the states and not done, each with the reason."""
+        why = f'stopped by {self.end_cause}' if self.end_cause else 'only a part of the states is'
+        if self.options.nested and self.end_cause and self.nested.left:
+            yield f'--nested: {self.nested.left:,} of {self.options.nested:,} not tried ({why})'
+        if self.options.disks is not None and self.report.sightings is None:
+            yield f'--disks: not tried ({why})'
+
     def check_windows(self) -> None:
-        """Checks each window, up to one that was not tried whole."""
+        """Checks window after window. It ends before the last one at a window that has a failure,
+        with --fail-fast: only this leaves a window in part without an exception."""
         for planned in self.trace.all_planned():
-            trials = self.trace.trials(planned)
+            trials = Trials(self.trace.workplace, planned, keeps_trees=True)
             is_whole = self.try_window(trials)
             assert self.last is not None
             window = self.last
@@ -134,39 +152,42 @@ class Check:
             self.add_details(trials, window.findings)
 
     def try_window(self, trials: Trials) -> bool:
-        """Tries the states of a window, which becomes the last one, with what was found even if an
-        exception comes; returns whether all were tried."""
+        """Tries the states of a window; returns whether all were tried. Also if an exception comes,
+        the window becomes the last one, and what was found is in the report. Of the first window
+        the start and the end are tried first: Refused if COMMAND fails there."""
         before, planned = self.last, trials.planned
-        known = known_states(before.planned.plan, planned.plan) if before else {}
+        known = known_states(before.trials.plan, planned.plan) if before else {}
         results = Results(planned.plan, known=known)
-        self.take_earlier(results)
+        if self.earlier is not None:
+            self.take_earlier(self.earlier, results)
         if before is None:
             self.head.lines = self.trace.lines.operations
-            self.open_cache(trials)
-            FirstTrials(trials, results, self.trace.end()).run()
-        saver = Saver(lambda: self.save(results), SAVE_SECONDS)
+            if self.options.cache is not None:
+                self.open_cache(self.options.cache, trials)
+            FirstTrials(trials, results, self.trace.plan_of_end()).run()
         try:
-            return trials.run(results, saver.save_if_due)
+            return trials.try_all(results, self.saver_of(results))
         finally:
             known_outcomes = before.findings.by_state if before else {}
-            self.last = Window(planned, Findings(self.head, results, known_outcomes))
+            self.last = Window(trials, Findings(self.head, results, known_outcomes))
             self.report.add(self.last.findings)
 
-    def open_cache(self, trials: Trials) -> None:
-        """Opens the outcomes of earlier checks, if they are asked for."""
-        if self.options.cache is None:
-            return
+    def open_cache(self, path: str, trials: Trials) -> None:
+        """Opens the outcomes of earlier checks in the directory of --cache, and gives them to all
+        trials. Refused if the directory can't be used, or COMMAND can't be traced."""
         from crashfs_tools.checker.running.cache import OutcomeCache, open_folder
         from crashfs_tools.checker.running.command_files import command_name
 
-        folder = open_folder(self.options.cache)
+        folder = open_folder(path)
         prefixes = [one.number for one in trials.plan.states if one.family == 'prefix']
         ends = [prefixes[0], prefixes[-1]]
         name = command_name(folder, self.options.command, ends, trials.run_words)
         trials.workplace.cache = OutcomeCache(folder, name)
 
     def save_cache(self) -> None:
-        """Writes the outcomes for later checks. If that fails, they are only slower."""
+        """Writes the outcomes for later checks, if --cache is given, and counts in the report those
+        that were taken from it. If the write fails, a line says so: later checks are only
+        slower."""
         cache = self.trace.workplace.cache if self.last is not None else None
         if cache is not None:
             self.report.cached = cache.hits
@@ -175,22 +196,28 @@ class Check:
             except OSError as error:
                 print_line(NAME, f'--cache {error.filename}: {error.strerror}')
 
-    def take_earlier(self, results: Results) -> None:
-        """Takes the outcomes that --resume has of a window; Refused if it is another one there."""
+    def take_earlier(self, earlier: AllResults, results: Results) -> None:
+        """Adds to the results of a window the outcomes that earlier results have of it; Refused if
+        it is another one there."""
         place = self.report.counts.windows
-        if self.earlier is None or place >= len(self.earlier.windows):
-            return
-        if self.earlier.windows[place].identity() != results.identity():
-            raise Refused(ANOTHER)
-        results.take(self.earlier.windows[place])
+        if place < len(earlier.windows):
+            if earlier.windows[place].identity() != results.identity():
+                raise Refused(ANOTHER)
+            results.take_earlier(earlier.windows[place])
 
-    def save(self, results: Results) -> None:
-        """Writes the JSON as it would be if the check was killed now."""
-        if self.options.json not in (None, '-'):
-            from crashfs_tools.checker.report.json_report import partial_pieces
+    def saver_of(self, results: Results) -> Callable[[], None]:
+        """What is called after each state of a window: from time to time it writes the file of
+        --json, if there is one, so that a kill loses only what came later."""
+        path = self.options.json or '-'
+        if path == '-':
+            return do_nothing
+        from crashfs_tools.checker.report.json_report import partial_pieces
+        from crashfs_tools.checker.running.saving import Saver
 
-            pieces = partial_pieces(self.report, results)
-            write_whole(self.options.json or '', pieces, self.trace.mode)
+        def save() -> None:
+            write_whole(path, partial_pieces(self.report, results), self.trace.mode)
+
+        return Saver(save, SAVE_SECONDS).save_if_due
 
     def ends_at_failure(self, window: Window) -> bool:
         """Whether a window that was tried whole is the last one because a state of it fails."""
@@ -202,7 +229,8 @@ class Check:
         return self.head.shard.parts > 1 or self.options.serve is not None
 
     def find_losses(self, trials: Trials, findings: Findings) -> None:
-        """Finds which of their losses makes states fail that lack several things."""
+        """Finds the smallest losses for states whose pair is a guess, and makes the groups again
+        with them."""
         if self.is_part or not any(one.pair.is_guess for one in findings.groups):
             return
         from crashfs_tools.checker.findings.losses import find_losses
@@ -211,21 +239,23 @@ class Check:
         self.report.replace_last(findings)
 
     def rerun_examples(self, window: Window, seconds: float = float('inf')) -> None:
-        """Runs each entry's example of a window again, with nothing else running."""
+        """Runs the example of each of the largest groups of a window again, one at a time. After so
+        many seconds no further one is begun."""
         if window.findings.groups:
             from crashfs_tools.checker.findings.reruns import rerun_examples
 
-            rerun_examples(self.trace.trials(window.planned), window.findings, seconds)
+            rerun_examples(window.trials, window.findings, seconds)
             self.report.replace_last(window.findings)
 
     def add_details(self, trials: Trials, findings: Findings) -> None:
-        """Adds differences and advice, second crashes and disks; not for a part of the states."""
+        """Adds to the report what takes further runs: differences and advice, second crashes,
+        disks. Of a part of the states nothing is added."""
         if self.is_part:
             return
         if findings.groups:
             from crashfs_tools.checker.findings.advice_trials import add_details
 
-            add_details(trials, self.trace.planner, findings)
+            add_details(trials, self.trace.planner.for_copies(trials.plan), findings)
             self.report.replace_last(findings)
         if self.options.nested:
             self.report.recoveries += self.nested.run(trials, findings)
@@ -236,22 +266,29 @@ class Check:
 
     @cached_property
     def nested(self) -> Nested:
-        """One for all windows: it counts the recoveries that it has tried."""
+        """What tries recoveries: one for all windows, since it counts those that it has tried."""
         from crashfs_tools.checker.findings.nested import Nested
 
         return Nested(self.options.nested)
 
 
+def new_report(head: Head, options: Options) -> CheckReport:
+    """A report without findings, with the failures of --accept. Refused if they can't be read."""
+    accepted = AcceptedFailures.read(options.accept) if options.accept else None
+    return CheckReport(head, options.json is not None, options.html is not None, accepted)
+
+
 @contextmanager
 def open_trace(options: Options, guard: Guard, progress: Progress) -> Iterator[CheckedTrace]:
-    """The trace of some options, with COMMAND's whole path. Refused if something of it can't be
-    read or run; within this, what the program refuses is Refused too."""
+    """The trace of some options, in which COMMAND's program gets its whole path (of a function, its
+    name). Refused if the trace, the program or COMMAND isn't there. Within this, a ProgramFault
+    becomes Refused."""
     refuse_unreadable(options.trace or '')
     if options.disks is not None:
         from crashfs_tools.disks.filesystems import require_filesystems
 
         require_filesystems(options.disks)
-    program = Crashfs.find_or_read(options.crashfs, options.unproved)
+    program = Crashfs.program_or_reading(options.crashfs, options.unproved)
     if options.function is None:
         options.command = with_program_path(options.command)
     else:
@@ -260,7 +297,7 @@ def open_trace(options: Options, guard: Guard, progress: Progress) -> Iterator[C
     try:
         yield trace
     except ProgramFault as fault:
-        raise trace.planner.refused('tar', fault) from fault
+        raise trace.planner.refusal_of('tar', fault) from fault
 
 
 def refuse_unreadable(trace: str) -> None:
@@ -279,7 +316,8 @@ def refuse_unreadable(trace: str) -> None:
 def check_trace(
     options: Options, guard: Guard, progress: Progress, has_states: bool = False
 ) -> CheckResult:
-    """Checks the trace of some options. has_states says whether the report has the outcome of each
-    state."""
+    """Checks the trace of some options, and returns the result of Check.run, or raises what it
+    raises. has_states: the report keeps the outcome of each state. COMMAND in the options gets its
+    whole path."""
     with open_trace(options, guard, progress) as trace:
         return Check(trace, has_states).run()

@@ -3,10 +3,9 @@
 from __future__ import annotations
 
 import argparse
-from typing import List, Optional, Tuple
+from typing import Dict, List, Optional, Tuple
 
-from crashfs_tools.common.command import parse
-from crashfs_tools.common.version import version_of
+from crashfs_tools.common.command import parse_command_line, version_text
 
 from .address import Address
 from .options import MOST_JOBS, MOST_STATES, NAME, TIMEOUT, Options, Shard, processors
@@ -22,7 +21,7 @@ COMMAND printed is then the cause; the report counts failures by the word before
 
 COMMAND is first run in the tree at the session's end and in the start tree, and must find both
 good. The states are all that a crash may leave by the rules, if at most 20,000 of them differ and
-if they take at most ten minutes; else those that find most, and some that are drawn at random."""
+if they take at most ten minutes; else the kinds that found most bugs, then random ones."""
 
 EPILOG = """\
 status: 0 none fails; 1 some fail; 2 bad input, or COMMAND fails though nothing is lost; 3 a command
@@ -32,27 +31,35 @@ SIGTERM, and the report has what was tried.
 example: crashfs-check --jobs 4 store.trace -- ./recover.sh"""
 
 
+# The types of values, for argparse: each raises ArgumentTypeError for a text that isn't one.
+
+
 def shard(text: str) -> Shard:
+    """The shard of `I/N`, with I from 1 to N. ArgumentTypeError for any other text."""
     part, slash, parts = text.partition('/')
-    if not (slash and part.isdigit() and parts.isdigit() and 1 <= int(part) <= int(parts)):
+    if not (slash and part.isdecimal() and parts.isdecimal() and 1 <= int(part) <= int(parts)):
         raise argparse.ArgumentTypeError(f'{text} is not I/N with I from 1 to N')
     return Shard(int(part), int(parts))
 
 
 def address(text: str) -> Address:
+    """The address of `HOST:PORT`; an IPv6 host is in brackets. ArgumentTypeError for any other
+    text."""
     host, colon, port = text.rpartition(':')
-    if not (host and colon and port.isdigit() and 1 <= int(port) <= 65_535):
+    if not (host and colon and port.isdecimal() and 1 <= int(port) <= 65_535):
         raise argparse.ArgumentTypeError(f'{text} is not HOST:PORT')
     return Address(host[1:-1] if host.startswith('[') and host.endswith(']') else host, int(port))
 
 
 def positive(text: str) -> int:
-    if not (text.isdigit() and int(text) > 0):
+    """A whole number from 1 on. ArgumentTypeError for any other text."""
+    if not (text.isdecimal() and int(text) > 0):
         raise argparse.ArgumentTypeError(f'{text} is not a number from 1')
     return int(text)
 
 
 def job_count(text: str) -> int:
+    """A number of jobs, from 1 to MOST_JOBS. ArgumentTypeError for any other text."""
     count = positive(text)
     if count > MOST_JOBS:
         raise argparse.ArgumentTypeError(f'{text} is more than {MOST_JOBS:,}')
@@ -60,17 +67,21 @@ def job_count(text: str) -> int:
 
 
 def state(text: str) -> Tuple[int, Optional[int]]:
+    """The number of a state, and None, of `N`; of `N/M` also the number of a state of its recovery.
+    ArgumentTypeError for any other text."""
     first, slash, second = text.partition('/')
-    if not (first.isdigit() and (second.isdigit() if slash else True)):
+    if not (first.isdecimal() and (second.isdecimal() if slash else True)):
         raise argparse.ArgumentTypeError(f'{text} is neither N nor N/M')
     return int(first), int(second) if slash else None
 
 
 def names(text: str) -> List[str]:
+    """The names of a list with commas."""
     return text.split(',')
 
 
 def seconds(text: str) -> float:
+    """A duration in seconds, finite and above 0. ArgumentTypeError for any other text."""
     try:
         value = float(text)
     except ValueError:
@@ -80,47 +91,51 @@ def seconds(text: str) -> float:
     return value
 
 
-def add_states(made: argparse.ArgumentParser) -> None:
-    """Which states are tried."""
-    made.add_argument(
+def add_state_options(parser: argparse.ArgumentParser) -> None:
+    """Adds the options that say which states are tried."""
+    parser.add_argument(
         '--every',
         metavar='N',
         type=positive,
         help='all crash states if at most N of them differ, however long that takes '
         f'(without a number: {MOST_STATES:,})',
     )
-    made.add_argument(
+    parser.add_argument(
         '--families',
         action='store_true',
         help='not all crash states, but the prefixes, those with one hole, --lost and --files',
     )
-    made.add_argument(
+    parser.add_argument(
         '--prefixes', action='store_true', help='the prefixes only: a crash lost what came last'
     )
-    made.add_argument(
+    parser.add_argument(
         '--quick',
         action='store_true',
         help='the prefixes and those with one hole; --lost and --files only if given',
     )
-    made.add_argument(
+    parser.add_argument(
         '--in',
         metavar='PROFILE',
         dest='profile',
         help='only states that this profile allows, such as ordered',
     )
-    made.add_argument('--window', metavar='N', type=positive, help=argparse.SUPPRESS)
-    made.add_argument(
+    parser.add_argument('--window', metavar='N', type=positive, help=argparse.SUPPRESS)
+    parser.add_argument(
         '--lost',
         action='store_true',
-        help='for each change, the state with it and as few others as possible '
+        help='for each micro-operation, the smallest state that has it '
         '(adds to --prefixes, --quick or --serve)',
     )
-    made.add_argument(
+    parser.add_argument(
         '--files',
         action='store_true',
         help='for each file, the states without its unsynced changes (as --lost)',
     )
-    made.add_argument(
+
+
+def add_course_options(parser: argparse.ArgumentParser) -> None:
+    """Adds the options that say how a check goes on from the states, and when it stops."""
+    parser.add_argument(
         '--nested',
         metavar='N',
         type=positive,
@@ -128,21 +143,21 @@ def add_states(made: argparse.ArgumentParser) -> None:
         help='crash the recovery too: record COMMAND in N states, and try each crash '
         'state of that recovery by a second run of COMMAND (needs strace)',
     )
-    made.add_argument(
+    parser.add_argument(
         '--state',
         metavar='N',
         type=state,
         help='try only state N, and leave it laid out as the crash left it; N/M is '
         'state M of the recovery of state N',
     )
-    made.add_argument('--fail-fast', action='store_true', help='stop at the first failing state')
-    made.add_argument(
+    parser.add_argument('--fail-fast', action='store_true', help='stop at the first failing state')
+    parser.add_argument(
         '--time-limit',
         metavar='S',
         type=seconds,
         help='stop after S seconds, and report what was tried',
     )
-    made.add_argument(
+    parser.add_argument(
         '--resume',
         metavar='FILE',
         help='continue a check that was stopped, from its --json file; if there is '
@@ -150,14 +165,15 @@ def add_states(made: argparse.ArgumentParser) -> None:
     )
 
 
-def add_verdict(made: argparse.ArgumentParser) -> None:
-    """What counts as a failure, and what is known already."""
-    made.add_argument(
+def add_known_options(parser: argparse.ArgumentParser) -> None:
+    """Adds the options that name files of what is known before the check: failures that are
+    accepted, and the outcomes of earlier checks."""
+    parser.add_argument(
         '--accept',
         metavar='FILE',
         help='a JSON list of known failures: they are reported, and do not change the status',
     )
-    made.add_argument(
+    parser.add_argument(
         '--cache',
         metavar='DIR',
         help='keep outcomes in this directory: a state with the same files and lines is not tried '
@@ -165,121 +181,150 @@ def add_verdict(made: argparse.ArgumentParser) -> None:
     )
 
 
-def add_files(made: argparse.ArgumentParser) -> None:
-    """What is written beside the report."""
-    made.add_argument(
+def add_output_options(parser: argparse.ArgumentParser) -> None:
+    """Adds the options for files that are written in addition to the report."""
+    parser.add_argument(
         '--json', metavar='FILE', help='write the outcomes, for --merge, --resume and other tools'
     )
-    made.add_argument('--junit', metavar='FILE', help='write the report as JUnit XML')
-    made.add_argument(
+    parser.add_argument('--junit', metavar='FILE', help='write the report as JUnit XML')
+    parser.add_argument(
+        '--tap', metavar='FILE', help='write the report in the Test Anything Protocol'
+    )
+    parser.add_argument(
         '--html', metavar='FILE', help='write the report as one page, to be opened in a browser'
     )
 
 
-def parser() -> argparse.ArgumentParser:
-    made = argparse.ArgumentParser(
-        prog=NAME,
-        description=DESCRIPTION,
-        epilog=EPILOG,
-        usage='crashfs-check [OPTION].. TRACE -- COMMAND [ARG]..\n'
-        '       crashfs-check [TRACE] --merge REPORT.json.. [--json FILE] [--junit FILE] '
-        '[--html FILE]',
-        formatter_class=argparse.RawDescriptionHelpFormatter,
-    )
-    made.add_argument('--version', action='version', version=version_of(NAME))
-    made.add_argument('trace', metavar='TRACE', nargs='?', help='the trace')
-    made.add_argument(
-        '--jobs',
-        metavar='N',
-        type=job_count,
-        default=processors(),
-        help='run N commands at once (default: one per processor, %(default)s)',
-    )
-    made.add_argument(
-        '--shard',
-        metavar='I/N',
-        type=shard,
-        default=Shard(),
-        help='try only part I of N; --merge merges the reports',
-    )
-    add_states(made)
-    add_verdict(made)
-    add_files(made)
-    made.add_argument(
+def add_program_options(parser: argparse.ArgumentParser) -> None:
+    """Adds the options that say what is run: COMMAND's time, and the program that computes the
+    states."""
+    parser.add_argument(
         '--timeout',
         metavar='S',
         type=seconds,
         default=TIMEOUT,
         help=f'kill a command after S seconds (default {TIMEOUT:g})',
     )
-    made.add_argument(
+    parser.add_argument(
         '--crashfs',
         metavar='PATH',
         help='the program crashfs (default: the one on PATH, then next to this tool, then the one '
         'that tools/build made)',
     )
-    made.add_argument(
+    parser.add_argument(
         '--unproved',
         action='store_true',
-        help='use the second implementation, in Python, even if there is a crashfs',
+        help='use the Python implementation, even if there is a crashfs',
     )
-    made.add_argument(
+
+
+def add_other_ways(parser: argparse.ArgumentParser) -> None:
+    """Adds the options by which states come from elsewhere: a server, disks, other reports."""
+    parser.add_argument(
         '--serve',
         metavar='ADDR',
         type=address,
         help='mount each state from the `crashfs serve --again --client linux` that '
         'listens at this host and port, with the same trace and plan (as root)',
     )
-    made.add_argument(
+    parser.add_argument(
         '--uname',
         metavar='NAME',
         help="with --serve: the user who attaches (default: the root's owner)",
     )
-    made.add_argument(
+    parser.add_argument(
         '--disks',
         metavar='LIST',
         type=names,
         help='make the session again on disk images of these file systems, such as '
         'ext4,xfs,btrfs, and report on which of them a crash left a failing state (as root)',
     )
-    made.add_argument(
+    parser.add_argument(
         '--merge',
         metavar='FILE',
         nargs='+',
-        help='try nothing, but report on all shards from their --json files; with '
+        help='try nothing; merge the reports of all shards from their --json files; with '
         'TRACE before it, and the options of the shards, --html and --json '
         'also show how files differ',
     )
-    return made
+
+
+def make_parser() -> argparse.ArgumentParser:
+    """The parser of all options, whose names are those of the fields of Options."""
+    parser = argparse.ArgumentParser(
+        prog=NAME,
+        description=DESCRIPTION,
+        epilog=EPILOG,
+        usage='crashfs-check [OPTION].. TRACE -- COMMAND [ARG]..\n'
+        '       crashfs-check [TRACE] --merge REPORT.json.. [--json FILE] [--junit FILE] '
+        '[--tap FILE] [--html FILE]',
+        formatter_class=argparse.RawDescriptionHelpFormatter,
+    )
+    parser.add_argument('--version', action='version', version=version_text(NAME))
+    parser.add_argument('trace', metavar='TRACE', nargs='?', help='the trace')
+    parser.add_argument(
+        '--jobs',
+        metavar='N',
+        type=job_count,
+        default=processors(),
+        help='run N commands at once (default: one per processor, %(default)s)',
+    )
+    parser.add_argument(
+        '--shard',
+        metavar='I/N',
+        type=shard,
+        default=Shard(),
+        help='try only part I of N; --merge merges the reports',
+    )
+    add_state_options(parser)
+    add_course_options(parser)
+    add_known_options(parser)
+    add_output_options(parser)
+    add_program_options(parser)
+    add_other_ways(parser)
+    return parser
 
 
 def with_number(words: List[str]) -> List[str]:
-    """The arguments, with a number for --every if none follows it."""
+    """The arguments, in which each --every without a number is given MOST_STATES."""
     end = words.index('--') if '--' in words else len(words)
     given = list(words)
     for at in range(end):
-        if words[at] == '--every' and not ''.join(words[at + 1 : end][:1]).isdigit():
+        if words[at] == '--every' and not ''.join(words[at + 1 : end][:1]).isdecimal():
             given[at] = f'--every={MOST_STATES}'
     return given
 
 
 def read_options(arguments: List[str]) -> Options:
-    made = parser()
-    values, command = parse(made, with_number(arguments))
-    if values.merge is not None and command:
-        made.error('--merge goes with no COMMAND')
-    if values.merge is None and values.trace is None:
-        made.error('TRACE is missing')
-    if values.merge is None and not command:
-        made.error('COMMAND is missing: put -- before it')
-    if values.every and (values.families or values.prefixes or values.quick or values.serve):
-        made.error('--every goes with no --families, --prefixes, --quick or --serve')
-    if values.accept and (values.fail_fast or values.shard.parts > 1):
-        made.error('--accept goes with no --fail-fast or --shard; give it to --merge')
-    if values.cache and values.serve:
-        made.error('--cache goes with no --serve')
-    if values.uname is not None and values.serve is None:
-        made.error('--uname goes with --serve')
-    if values.nested and (values.serve or values.shard.parts > 1 or values.merge):
-        made.error('--nested goes with no --serve, --shard or --merge')
+    """The options of a command line. Prints what is wrong, the help or the version and ends the
+    program (SystemExit) if one of these is due."""
+    parser = make_parser()
+    values, command = parse_command_line(parser, with_number(arguments))
+    for text, is_so in possible_faults(values, command).items():
+        if is_so:
+            parser.error(text)
     return Options(command=command, **vars(values))
+
+
+def possible_faults(values: argparse.Namespace, command: List[str]) -> Dict[str, bool]:
+    """What may be wrong with options that are right one by one, as a line each, and whether it is.
+    The first that is so is reported."""
+    is_merge, is_serve = values.merge is not None, values.serve is not None
+    is_shard = values.shard.parts > 1
+    has_own_states = values.families or values.prefixes or values.quick or is_serve
+    return {
+        '--merge goes with no COMMAND': is_merge and bool(command),
+        'TRACE is missing': not is_merge and values.trace is None,
+        'COMMAND is missing: put -- before it': not is_merge and not command,
+        '--every goes with no --families, --prefixes, --quick or --serve': (
+            values.every is not None and has_own_states
+        ),
+        '--accept goes with no --fail-fast or --shard; give it to --merge': (
+            bool(values.accept) and (values.fail_fast or is_shard)
+        ),
+        '--cache goes with no --serve': bool(values.cache) and is_serve,
+        '--uname goes with --serve': values.uname is not None and not is_serve,
+        '--nested goes with no --serve, --shard or --merge': (
+            values.nested > 0 and (is_serve or is_shard or is_merge)
+        ),
+    }

@@ -10,7 +10,6 @@ from functools import reduce
 from operator import and_
 from typing import Dict, List, Optional
 
-from crashfs_tools.api.checks import run_check
 from crashfs_tools.api.reports import Report
 from crashfs_tools.checker.report.report import NOT_ALL_TRIED
 from crashfs_tools.checker.running.progress import Progress
@@ -23,11 +22,11 @@ from crashfs_tools.common.command import (
     standard_output,
 )
 from crashfs_tools.common.guard import Guard, Stopped, stop_by_exception
-from crashfs_tools.common.own_faults import run_guarded
+from crashfs_tools.common.own_faults import print_own_fault
 from crashfs_tools.common.printable import print_utf8
 from crashfs_tools.common.program import ProgramFault
 
-from .checking import Interrupted, refuse_unreadable
+from .checking import Interrupted, check_trace, refuse_unreadable
 from .command_line import read_options
 from .options import NAME, Options
 
@@ -35,25 +34,28 @@ BAD_INPUT = 2
 
 
 def run_command(options: Options) -> int:
-    """Does what the options ask for, and returns the status."""
+    """Does what the options ask for; returns the exit status. What ended a check early (Stopped or
+    Interrupted) is raised after the report is printed. Refused for bad input, and an OSError if a
+    file can't be read or written."""
     refuse_outputs(options)
     if options.merge is not None:
-        return finish(options, merged(options))
+        return write_and_print(options, merge_reports(options))
     keep_descriptors()
-    with Guard(f'{NAME}-') as guard:
+    with Guard(NAME) as guard:
         if options.state is not None:
             from .show_state import show_state
 
             return show_state(options, guard)
-        checked = run_check(options, guard, Progress())
-    status = finish(options, checked.report)
+        checked = check_trace(options, guard, Progress())
+    status = write_and_print(options, Report(checked.report, checked.mode))
     if checked.end is not None:
         raise checked.end
     return status
 
 
-def merged(options: Options) -> Report:
-    """The report of --merge."""
+def merge_reports(options: Options) -> Report:
+    """The report of the files of --merge. Refused if they aren't all shards of one check, or not of
+    TRACE."""
     from .merging import merged_report
 
     if options.trace is not None:
@@ -73,19 +75,25 @@ def refuse_outputs(options: Options) -> None:
 
 
 def outputs_of(options: Options) -> Dict[str, str]:
-    """The files that are written, by their options."""
-    outputs = {'--json': options.json, '--junit': options.junit, '--html': options.html}
+    """The paths of the files to write, by the options that name them."""
+    outputs = {
+        '--json': options.json,
+        '--junit': options.junit,
+        '--tap': options.tap,
+        '--html': options.html,
+    }
     return {name: path for name, path in outputs.items() if path is not None}
 
 
 def mode_of_reports(paths: List[str]) -> int:
-    """Who may read a report of others: those who may read them all."""
+    """The mode for a report made of other reports: only users who may read them all may read it."""
     return reduce(and_, (0o600 | os.stat(path).st_mode & 0o066 for path in paths))
 
 
-def finish(options: Options, report: Report) -> int:
-    """Writes the files and then prints the report; it prints it also if a file can't be written. If
-    standard output has a file, the report goes to standard error."""
+def write_and_print(options: Options, report: Report) -> int:
+    """Writes the files that the options name, then prints the report; returns the exit status. If a
+    file can't be written, the report is printed nevertheless, and then the OSError raised. The
+    report goes to standard error if a file is standard output."""
     fault = None
     try:
         write_files(options, report)
@@ -102,46 +110,46 @@ def finish(options: Options, report: Report) -> int:
 
 
 def write_files(options: Options, report: Report) -> None:
+    """Writes the files that the options name, up to the first OSError."""
     if options.json is not None:
         report.write_json(options.json)
     if options.junit is not None:
         report.write_junit(options.junit)
+    if options.tap is not None:
+        report.write_tap(options.tap)
     if options.html is not None:
         report.write_html(options.html)
 
 
-def run_reported(arguments: List[str]) -> int:
-    """Runs the command. A fault that somebody else can mend is in a line that names it."""
-    options = read_options(arguments)
-    stop_by_exception()
-    try:
-        return run_command(options)
-    except Stopped as stopped:
-        print_line(NAME, f'stopped by {stopped}')
-        return stopped.status
-    except Interrupted as interrupted:
-        print_fault(interrupted.__cause__)
-        return NOT_ALL_TRIED
-    except (Refused, PlanError) as refused:
-        print_fault(refused)
-        return BAD_INPUT
-    except OSError as error:
-        print_fault(error)
-        return NOT_ALL_TRIED
-
-
-def print_fault(fault: Optional[BaseException]) -> None:
-    """Prints a fault; raises one that nobody expected."""
+def print_fault(fault: BaseException) -> None:
+    """Prints a fault that the user can mend as a line that names it; any other as an own error."""
     if isinstance(fault, OSError) and fault.strerror:
         print_line(NAME, f'{fault.filename or tempfile.gettempdir()}: {fault.strerror}')
     elif isinstance(fault, (Refused, PlanError, ProgramFault)):
         for line in str(fault).split('\n'):
             print_line(NAME, line)
-    elif fault is not None:
-        raise fault
+    elif isinstance(fault, Exception):
+        print_own_fault(NAME, fault)
 
 
 def main(arguments: Optional[List[str]] = None) -> int:
-    words = sys.argv[1:] if arguments is None else arguments
+    """Runs crashfs-check with these words, or those of its command line, and returns its status,
+    which --help explains."""
     print_utf8()
-    return run_guarded(NAME, lambda: run_reported(words), NOT_ALL_TRIED)
+    try:
+        options = read_options(sys.argv[1:] if arguments is None else arguments)
+        stop_by_exception()
+        return run_command(options)
+    except Stopped as stopped:
+        print_line(NAME, f'stopped by {stopped}')
+        return stopped.status
+    except Interrupted as interrupted:
+        print_fault(interrupted.__cause__ or interrupted)
+    except (Refused, PlanError) as refused:
+        print_fault(refused)
+        return BAD_INPUT
+    except OSError as error:
+        print_fault(error)
+    except Exception as error:
+        print_own_fault(NAME, error)
+    return NOT_ALL_TRIED

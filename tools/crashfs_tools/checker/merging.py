@@ -5,17 +5,18 @@ from __future__ import annotations
 from typing import Dict, Optional
 
 from crashfs_tools.checker.findings.groups import Findings
-from crashfs_tools.checker.findings.accepted_failures import AcceptedFailures
 from crashfs_tools.checker.findings.tree_diff import find_differences
 from crashfs_tools.checker.report.report import CheckReport
-from crashfs_tools.checker.running.results import AllResults, Head, Results, merged
+from crashfs_tools.checker.running.results import AllResults, Results, merged_shards
 from crashfs_tools.checker.running.read_results import read_json
 from crashfs_tools.checker.running.runner import Outcome
+from crashfs_tools.checker.running.trials import Trials
 from crashfs_tools.common.command import Refused
 from crashfs_tools.common.guard import Guard
 from crashfs_tools.common.program import Crashfs
 
 from .checked_trace import CheckedTrace
+from .checking import new_report
 from .options import NAME, Options
 
 OTHER_TRACE = 'that is not the trace of the reports'
@@ -24,19 +25,14 @@ OTHER_PLAN = (
 )
 
 
-def new_report(head: Head, options: Options) -> CheckReport:
-    """A report without findings, with the known failures of --accept."""
-    known = AcceptedFailures.read(options.accept) if options.accept else None
-    return CheckReport(head, options.json is not None, options.html is not None, known)
-
-
 def merged_report(options: Options) -> CheckReport:
-    """The report; how files differ is in it if the trace is given, of which trees are made."""
-    results = merged([read_json(path) for path in options.merge or []])
+    """The report of the files of --merge. If TRACE is given, its states are made again to show how
+    files differ. Refused if the files aren't all shards of one check, or not of TRACE."""
+    results = merged_shards([read_json(path) for path in options.merge or []])
     if options.trace is None:
         return report_of(options, results)
-    program = Crashfs.find_or_read(options.crashfs, options.unproved)
-    with Guard(f'{NAME}-') as guard:
+    program = Crashfs.program_or_reading(options.crashfs, options.unproved)
+    with Guard(NAME) as guard:
         trace = CheckedTrace(options, program, guard)
         if trace.head().digest != results.head.digest:
             raise Refused(f'{options.trace}: {OTHER_TRACE}')
@@ -46,6 +42,8 @@ def merged_report(options: Options) -> CheckReport:
 def report_of(
     options: Options, results: AllResults, trace: Optional[CheckedTrace] = None
 ) -> CheckReport:
+    """The report of results that were read, window by window. Refused if the trace has other states
+    than they."""
     report = new_report(results.head, options)
     outcomes: Dict[int, Outcome] = {}
     planned = trace.all_planned() if trace else None
@@ -57,5 +55,5 @@ def report_of(
             one = next(planned)
             if Results(one.plan).identity() != window.identity():
                 raise Refused(OTHER_PLAN)
-            find_differences(trace.trials(one), findings)
+            find_differences(Trials(trace.workplace, one), findings)
     return report

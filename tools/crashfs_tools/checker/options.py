@@ -28,19 +28,21 @@ def processors() -> int:
 
 
 class Shard(NamedTuple):
-    """One of so many parts, from 1."""
+    """One of so many parts of the states; parts are counted from 1."""
 
     part: int = 1
     parts: int = 1
 
-    def has(self, place: int) -> bool:
+    def has_place(self, place: int) -> bool:
+        """Whether this part has the state at a place, from 0, of the list of all states."""
         return place % self.parts == self.part - 1
 
 
 @dataclass
 class Options:
-    """What a check does, as the options of the command line say it. function is a recovery in the
-    place of COMMAND: it is called with a state's directory and the acknowledged lines."""
+    """What a check does, as the options of the command line say it, by their names; command is what
+    follows `--`. function is a recovery in the place of COMMAND. window is the most
+    micro-operations of a window, for tests."""
 
     trace: Optional[str] = None
     command: List[str] = field(default_factory=list)
@@ -61,6 +63,7 @@ class Options:
     json: Optional[str] = None
     resume: Optional[str] = None
     junit: Optional[str] = None
+    tap: Optional[str] = None
     html: Optional[str] = None
     timeout: float = TIMEOUT
     crashfs: Optional[str] = None
@@ -75,7 +78,8 @@ class Options:
 
     @property
     def leaves_families_out(self) -> bool:
-        """A server has the plan that it was given: prefixes and holes, unless it has picks."""
+        """Whether --lost and --files must be given to be tried. With --serve the plan is that of
+        the server, which has prefixes and holes unless it was started with picks."""
         return self.quick or self.prefixes or self.serve is not None
 
     @property
@@ -85,25 +89,27 @@ class Options:
 
     @property
     def most_states(self) -> int:
-        """The most different states of which all are tried."""
+        """How many different states there may be at most for all of them to be tried."""
         return self.every or MOST_STATES
 
     @property
-    def draws(self) -> int:
-        """How many sets are drawn if all crash states are too many."""
+    def draw_count(self) -> int:
+        """How many sets are drawn at random if the crash states are too many to be tried."""
         return LIMITED_DRAWS if self.time_limit is not None else DRAWS
 
     @property
     def most_seconds(self) -> float:
-        """How long all crash states may take; longer if that is asked for, or if each shard has a
-        part of them."""
+        """How many seconds all crash states may take before only some are tried. Without a bound if
+        --every or --time-limit is given, and for a shard, which has only a part of them."""
         is_free = self.every is not None or self.time_limit is not None or self.shard.parts > 1
         return float('inf') if is_free else MOST_SECONDS
 
     @property
     def has_lost(self) -> bool:
+        """Whether the family --lost is tried."""
         return self.lost or not self.leaves_families_out
 
     @property
     def has_files(self) -> bool:
+        """Whether the family --files is tried."""
         return self.files or not self.leaves_families_out

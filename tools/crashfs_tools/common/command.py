@@ -1,4 +1,5 @@
-"""What both commands share: the command line's two halves, finding COMMAND, and writing files."""
+"""What the commands share: the command line's two halves, --version, finding COMMAND, and writing
+files."""
 
 from __future__ import annotations
 
@@ -12,7 +13,10 @@ import stat
 import sys
 import tempfile
 from contextlib import contextmanager, redirect_stdout
+from importlib import import_module
 from typing import Any, Dict, Iterable, Iterator, List, Tuple
+
+from crashfs_tools import VERSION
 
 # How every file of text is written.
 TEXT: Dict[str, Any] = {'encoding': 'utf-8', 'errors': 'surrogateescape', 'newline': '\n'}
@@ -25,28 +29,31 @@ LINE_LETTERS = 8192
 
 
 class Refused(Exception):
-    """Bad input: one line that says what is wrong."""
+    """Bad input: a line that says what is wrong, or a few lines."""
 
 
 def split_command(words: List[str]) -> Tuple[List[str], List[str]]:
-    """The words before the first `--`, and COMMAND, which is after it."""
+    """The words before the first `--`, and those after it, which are COMMAND. COMMAND is empty if
+    there is no `--`."""
     if '--' not in words:
         return words, []
     place = words.index('--')
     return words[:place], words[place + 1 :]
 
 
-def parse(
+def parse_command_line(
     parser: argparse.ArgumentParser, words: List[str]
 ) -> Tuple[argparse.Namespace, List[str]]:
-    """The options and arguments before the first `--`, and COMMAND."""
+    """What a parser makes of the words before the first `--`, and COMMAND. A wrong word, --help and
+    --version end the program (SystemExit)."""
     before, command = split_command(words)
     shown = io.StringIO()
     try:
         with redirect_stdout(shown):
             values, more = parser.parse_known_args(before)
     except SystemExit:
-        print_help(parser.prog, shown.getvalue())
+        if shown.getvalue():
+            print_help(parser.prog, shown.getvalue())
         raise
     if more and not command and not more[0].startswith('-'):
         parser.error(f'put -- before COMMAND ({more[0]})')
@@ -56,13 +63,24 @@ def parse(
 
 
 def print_help(program: str, text: str) -> None:
-    """Prints what --help shows. argparse itself would fail, or print nothing, if it can't."""
+    """Prints what --help shows. If that can't be printed, argparse itself would fail, or print
+    nothing: here a line says so, and the program ends (SystemExit)."""
     try:
         with standard_output():
             print(text, end='')
     except OSError as error:
         print_line(program, f'{error.filename}: {error.strerror}')
         raise SystemExit(NOT_PRINTED) from error
+
+
+def version_text(command: str) -> str:
+    """What --version prints of a command. Only a release has the module `built`, which names its
+    commit and its kit."""
+    try:
+        built = import_module('crashfs_tools.built')
+    except ModuleNotFoundError:
+        return f'{command} {VERSION} (not a release)'
+    return f'{command} {VERSION} (commit {built.COMMIT}, kit {built.KIT})'
 
 
 def with_program_path(command: List[str]) -> List[str]:
@@ -78,12 +96,14 @@ def with_program_path(command: List[str]) -> List[str]:
 
 
 def relative_arguments(command: List[str]) -> List[str]:
-    """COMMAND's arguments that name a file here; COMMAND runs in another directory."""
+    """COMMAND's arguments that are the relative path of a file here: COMMAND runs in another
+    directory, and doesn't find it there."""
     return [word for word in command[1:] if not os.path.isabs(word) and os.path.exists(word)]
 
 
 def folder_to_write(path: str) -> str:
-    """The directory of a file that will be written; Refused if it can't be written."""
+    """The directory of a file that will be written; Refused if the file can't be made there. What
+    is no plain file, as /dev/null, is written in place."""
     folder = os.path.dirname(os.path.realpath(path))
     if not os.path.isdir(folder):
         raise Refused(f'{path}: its directory is not there')
@@ -96,9 +116,9 @@ def folder_to_write(path: str) -> str:
 
 
 def write_whole(path: str, pieces: Iterable[str], mode: int = 0o666) -> None:
-    """Writes the whole file, or none of it, and returns when it is durable; an OSError has its
-    name. A mode says who may read it at most. `-` is standard output, and what is there and is no
-    plain file, as a device or a pipe, is written in place."""
+    """Replaces a file as a whole, and returns when that is durable; an OSError has its path, and
+    then what was there stays. A mode says who may read it at most. `-` is standard output, and what
+    is no plain file, as a device or a pipe, is written in place."""
     if path == '-':
         with standard_output():
             sys.stdout.writelines(pieces)
@@ -115,7 +135,8 @@ def write_whole(path: str, pieces: Iterable[str], mode: int = 0o666) -> None:
 
 
 def refuse_planted(path: str) -> None:
-    """Refuses a link or a pipe that another user made in a directory that everybody may write."""
+    """OSError if the path is a link or a pipe that another user made in a directory that everybody
+    may write, as /tmp."""
     if not os.path.lexists(path):
         return
     status, folder = os.lstat(path), os.stat(os.path.dirname(path) or '.')
@@ -126,14 +147,15 @@ def refuse_planted(path: str) -> None:
 
 
 def replace_file(path: str, pieces: Iterable[str], mode: int) -> None:
-    """A new file takes the path when it is whole and synced, and the directory is synced then."""
+    """Writes a new file, which takes the path when it is whole and synced; then the directory is
+    synced. Before that, an error leaves what was there."""
     folder = os.path.dirname(path)
     number, part = tempfile.mkstemp(prefix='.' + os.path.basename(path)[:100], dir=folder)
     try:
         with open(number, 'w', **TEXT) as file:
             file.writelines(pieces)
             file.flush()
-            os.fchmod(number, mode_of(path) & mode)
+            os.fchmod(number, mode_to_write(path) & mode)
             os.fsync(number)
         os.replace(part, path)
     except BaseException:
@@ -143,7 +165,8 @@ def replace_file(path: str, pieces: Iterable[str], mode: int) -> None:
 
 
 def sync_directory(folder: str) -> None:
-    """Makes the names of a directory durable, if its file system can, and its mode lets us."""
+    """Makes the names of a directory durable. Nothing is done if we may not read it, or if its file
+    system can't sync directories."""
     try:
         directory = os.open(folder, os.O_RDONLY | os.O_DIRECTORY | os.O_CLOEXEC)
     except PermissionError:
@@ -157,8 +180,9 @@ def sync_directory(folder: str) -> None:
         os.close(directory)
 
 
-def mode_of(path: str) -> int:
-    """The mode of a file that is there, or that of a new one."""
+def mode_to_write(path: str) -> int:
+    """The mode of a file that will take a path: that of the file there, or that of a new one by the
+    umask."""
     if os.path.exists(path):
         return os.stat(path).st_mode & 0o777
     umask = os.umask(0)
@@ -168,8 +192,8 @@ def mode_of(path: str) -> int:
 
 @contextmanager
 def standard_output() -> Iterator[None]:
-    """What is printed within this is written at its end; an OSError has the stream's name. A reader
-    that reads no more, as `head`, is no fault: the rest goes nowhere."""
+    """What is printed within this is written at its end; if it can't be, OSError with the stream's
+    name. A reader that reads no more, as `head`, is no fault: the rest goes nowhere."""
     if sys.stdout is None:
         raise OSError(errno.EBADF, os.strerror(errno.EBADF), 'standard output')
     try:
@@ -183,7 +207,8 @@ def standard_output() -> Iterator[None]:
 
 
 def ending_text(status: int) -> str:
-    """How a process ended, in words, from the status that Popen has."""
+    """How a process ended, as `was ended by SIGKILL`, from the status that Popen has: negative for
+    a signal."""
     if status >= 0:
         return f'ended with status {status}'
     try:
@@ -193,7 +218,8 @@ def ending_text(status: int) -> str:
 
 
 def print_line(program: str, text: str) -> None:
-    """Prints one line on standard error, if that can be written."""
+    """Prints one line on standard error, in front the program's name; nothing if that can't be
+    written."""
     if sys.stderr is None:
         return
     try:
@@ -203,6 +229,6 @@ def print_line(program: str, text: str) -> None:
 
 
 def shortened(text: str) -> str:
-    """A text without its middle, if it is longer than a line may be."""
+    """A text, without its middle if it is longer than LINE_LETTERS."""
     half = LINE_LETTERS // 2
     return text if len(text) <= LINE_LETTERS else f'{text[:half]} ... {text[-half:]}'

@@ -20,13 +20,9 @@ ENDING_SECONDS = 10.0
 PAUSE_SECONDS = 0.0005
 
 
-class NoReaper(Exception):
-    """The system doesn't make this process a reaper."""
-
-
 def die_with_parent() -> None:
-    """From here on this process is killed when the thread that started it ends, if the system can
-    do that."""
+    """From here on this process is killed when the thread that started it ends. Nothing happens if
+    the system can't do that."""
     try:
         import ctypes
 
@@ -35,22 +31,20 @@ def die_with_parent() -> None:
         pass
 
 
-def become_reaper() -> None:
-    """From here on orphans of this process's descendants are its children. NoReaper if the system
-    can't do it."""
+def become_reaper() -> bool:
+    """Makes orphans of this process's descendants its children from here on. Returns whether the
+    system could do it."""
     try:
         import ctypes
 
-        done = ctypes.CDLL(None).prctl(PR_SET_CHILD_SUBREAPER, 1, 0, 0, 0) == 0
-    except (ImportError, OSError, AttributeError) as error:
-        raise NoReaper from error
-    if not done:
-        raise NoReaper
+        return bool(ctypes.CDLL(None).prctl(PR_SET_CHILD_SUBREAPER, 1, 0, 0, 0) == 0)
+    except (ImportError, OSError, AttributeError):
+        return False
 
 
 def children(process: int = 0) -> Set[int]:
-    """The children of a process, or of this one; those that have ended, too, until they are waited
-    for."""
+    """The children of a process, or of this one (0), also those that have ended until they are
+    waited for. An empty set if the process is gone."""
     folder = f'/proc/{process or "self"}/task'
     try:
         lists = [f'{folder}/{task}/children' for task in os.listdir(folder)]
@@ -62,18 +56,18 @@ def children(process: int = 0) -> Set[int]:
             with open(path, encoding='ascii') as file:
                 found.update(map(int, file.read().split()))
         except OSError:
-            if not has_lists():
+            if not has_children_lists():
                 return children_by_parents(process or os.getpid())
     return found
 
 
-def has_lists() -> bool:
+def has_children_lists() -> bool:
     """Whether the kernel was built with lists of children."""
     return os.path.exists(f'/proc/self/task/{os.getpid()}/children')
 
 
 def children_by_parents(process: int) -> Set[int]:
-    """The same from the parent that each process names."""
+    """The children of a process, from the parent that each process names: it is slower."""
     return {one for one in processes() if parent_of(one) == process}
 
 
@@ -102,7 +96,8 @@ def descendants() -> Set[int]:
 
 
 def name_of(process: int) -> str:
-    """The name of a process's program; nothing if the process is gone."""
+    """The name of a process's program, cut by the system to 15 bytes; an empty text if the process
+    is gone."""
     try:
         with open(f'/proc/{process}/comm', encoding='utf-8', errors='replace') as file:
             return file.read().rstrip('\n')
@@ -111,16 +106,21 @@ def name_of(process: int) -> str:
 
 
 def become_cleaner() -> None:
-    """Gives this process the name of those that clean up, which are let end by themselves."""
-    with open('/proc/self/comm', 'w', encoding='ascii') as file:
-        file.write(CLEANER)
+    """Names this process CLEANER, if the system can: those who end processes let it end by
+    itself."""
+    try:
+        with open('/proc/self/comm', 'w', encoding='ascii') as file:
+            file.write(CLEANER)
+    except OSError:
+        pass
 
 
 def end_children(
     spared: AbstractSet[int] = frozenset(), seconds: float = ENDING_SECONDS
 ) -> Dict[int, str]:
     """Kills and reaps all children of this process but the spared ones, and what becomes its child
-    by that, until none is left. Returns those that still run after so many seconds, by name."""
+    by that, until none is left. Returns those that still run after so many seconds, each with the
+    name of its program. A cleaner gets CLEANING_SECONDS to end by itself."""
     begun = time.monotonic()
     while True:
         left = children() - spared
@@ -129,7 +129,7 @@ def end_children(
         passed = time.monotonic() - begun
         for child in left:
             if passed > CLEANING_SECONDS or name_of(child) != CLEANER:
-                kill(child)
+                kill_with_group(child)
         running = [child for child in left if not reap(child)]
         if passed > seconds:
             return {child: name_of(child) for child in running}
@@ -137,7 +137,7 @@ def end_children(
             time.sleep(PAUSE_SECONDS)
 
 
-def kill(child: int) -> None:
+def kill_with_group(child: int) -> None:
     """Kills a child, and its group if that can't be this process's own: a process that forks all
     the time can't leave a group that is killed, but may be gone before it is killed itself."""
     try:
@@ -158,7 +158,8 @@ def send_kill(send: Callable[[int, int], None], target: int) -> None:
 
 
 def reap(child: int) -> bool:
-    """Whether a child has ended; it is waited for then."""
+    """Waits for a child if it has ended. Returns whether it is gone, also if it was waited for
+    before."""
     try:
         return os.waitpid(child, os.WNOHANG)[0] != 0
     except ChildProcessError:
@@ -166,5 +167,5 @@ def reap(child: int) -> bool:
 
 
 def processes_text(left: Dict[int, str]) -> str:
-    """Processes in words, each by its number and its program."""
+    """Processes as `7 (sleep), 9 (sh)`: each by its number and its program."""
     return ', '.join(f'{process} ({name})' for process, name in sorted(left.items()))

@@ -1,4 +1,4 @@
-"""The entries of a tree."""
+"""The entries of a tree, by path."""
 
 from __future__ import annotations
 
@@ -22,10 +22,12 @@ class Entry:
 
     @property
     def is_directory(self) -> bool:
+        """Whether it is a directory: it has neither bytes nor a target."""
         return self.data is None and self.link is None
 
     @property
     def is_file(self) -> bool:
+        """Whether it is a file, which has bytes."""
         return self.data is not None
 
     def write(self, at: int, data: bytes) -> None:
@@ -48,10 +50,10 @@ class Entry:
         whole.extend(bytes(length - len(whole)))
 
     def bytes_to_change(self, length: int = 0) -> Union[bytearray, SparseBytes]:
-        """The bytes of a file that may get this length, to be changed in place: of a large file
-        without its pages of zeros."""
+        """The bytes of a file that may get this length, in a form that can be changed in place; the
+        entry has that form from now on. A large file is without its pages of zeros."""
         if length > limits.FILE_BYTES and not isinstance(self.data, SparseBytes):
-            self.data = SparseBytes.of(bytes(self.data or b''))
+            self.data = SparseBytes.copy_of(bytes(self.data or b''))
         if not isinstance(self.data, (bytearray, SparseBytes)):
             self.data = bytearray(self.data or b'')
         return self.data
@@ -61,5 +63,5 @@ Entries = Dict[str, Entry]
 
 
 def parent_of(path: str) -> str:
-    """The path of the directory that has a path's last name."""
+    """The path of the directory that has a path's last name; `/` for the root itself."""
     return path.rpartition('/')[0] or '/'

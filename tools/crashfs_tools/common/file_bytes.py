@@ -13,20 +13,22 @@ Bytes = Union[bytes, SparseBytes]
 
 
 def file_bytes(file: int) -> Bytes:
-    """The bytes of an open file: of a large one those that aren't zeros."""
+    """The bytes of an open file, from its beginning; of one of LARGE_BYTES or more in the form that
+    has no pages of zeros."""
     size = os.fstat(file).st_size
     if size < LARGE_BYTES:
-        return b''.join(pieces(file, 0, size))
+        return b''.join(read_pieces(file, 0, size))
     found = SparseBytes(size)
     for begin, end in data_ranges(file, size):
-        for piece in pieces(file, begin, end):
+        for piece in read_pieces(file, begin, end):
             found.write(begin, piece)
             begin += len(piece)
     return found
 
 
-def pieces(file: int, begin: int, end: int) -> Iterator[bytes]:
-    """The bytes from a place to another; fewer if the file has become shorter."""
+def read_pieces(file: int, begin: int, end: int) -> Iterator[bytes]:
+    """The bytes of an open file from a place to another, in pieces; fewer if it has become
+    shorter."""
     while begin < end:
         piece = os.pread(file, min(PIECE_BYTES, end - begin), begin)
         if not piece:
@@ -36,7 +38,8 @@ def pieces(file: int, begin: int, end: int) -> Iterator[bytes]:
 
 
 def data_ranges(file: int, size: int) -> Iterator[Tuple[int, int]]:
-    """The ranges of a file that are no holes, if its file system knows them; else all of it."""
+    """The ranges of an open file, by their ends, that are no holes; one range, the whole file, if
+    its file system doesn't know them."""
     end = 0
     while end < size:
         try:

@@ -8,13 +8,14 @@ import sys
 from typing import Any, BinaryIO, List, NoReturn, Tuple
 
 from .descendants import die_with_parent
+from .guard import STOPS, stops_blocked
 
-STOPS = (signal.SIGINT, signal.SIGTERM, signal.SIGHUP)
 INTERNAL_ERROR = 70
 
 
 class ForkedReading:
-    """A command of the second reading that runs: as much of subprocess.Popen as is used of it."""
+    """A command of the second reading that runs: as much of subprocess.Popen as is used of it. The
+    words are those of the program `crashfs`."""
 
     def __init__(self, words: List[str]) -> None:
         # Imported before the fork, so that later ones have it too.
@@ -23,22 +24,22 @@ class ForkedReading:
         self.main = main.main
         del archive
         out, err = os.pipe(), os.pipe()
-        before = signal.pthread_sigmask(signal.SIG_BLOCK, STOPS)
-        self.process = os.fork()
-        if self.process == 0:
-            for stop in STOPS:
-                signal.signal(stop, signal.SIG_DFL)
-            signal.pthread_sigmask(signal.SIG_SETMASK, before)
-            self.run(words, out[1], err[1])
-        signal.pthread_sigmask(signal.SIG_SETMASK, before)
+        with stops_blocked() as before:
+            self.process = os.fork()
+            if self.process == 0:
+                for stop in STOPS:
+                    signal.signal(stop, signal.SIG_DFL)
+                signal.pthread_sigmask(signal.SIG_SETMASK, before)
+                self.run_and_exit(words, out[1], err[1])
         os.close(out[1])
         os.close(err[1])
         self.stdout: BinaryIO = open(out[0], 'rb')
         self.stderr: BinaryIO = open(err[0], 'rb')
         self.returncode: Any = None
 
-    def run(self, words: List[str], out: int, err: int) -> NoReturn:
-        """The new process: it never returns."""
+    def run_and_exit(self, words: List[str], out: int, err: int) -> NoReturn:
+        """In the new process: runs the command, with these descriptors as its two outputs, and ends
+        the process with its status. It never returns."""
         status = INTERNAL_ERROR
         try:
             die_with_parent()
@@ -58,14 +59,15 @@ class ForkedReading:
             os._exit(status)
 
     def communicate(self) -> Tuple[bytes, bytes]:
-        """All that it prints, and what it prints as an error, which is a few lines."""
+        """Waits for its end; returns all that it printed, and what it printed as an error, which
+        must fit into the pipe, since it is read last."""
         with self.stdout, self.stderr:
             printed, error_text = self.stdout.read(), self.stderr.read()
         self.wait()
         return printed, error_text
 
     def wait(self) -> int:
-        """Its status, when it has ended."""
+        """Waits for its end, and returns its status, which is negative for a signal."""
         if self.returncode is None:
             try:
                 ended = os.waitpid(self.process, 0)[1]
@@ -76,6 +78,7 @@ class ForkedReading:
         return int(self.returncode)
 
     def kill(self) -> None:
+        """Kills it, unless it has ended."""
         if self.returncode is None:
             try:
                 os.kill(self.process, signal.SIGKILL)

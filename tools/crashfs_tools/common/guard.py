@@ -1,20 +1,22 @@
 """A temporary directory and processes that are gone when a run ends, whatever ends it.
 
-A second process waits for the end of the first, also by a kill. It then ends every process that
-still has the run's token in its environment, unmounts what is mounted below the directory, and
-removes the directory. The first one is a reaper: what it started, and what came of
-that, it ends itself. A run within another one keeps the tokens of both.
+A second process, the watcher, makes the directory and waits for the end of the first process, also
+by a kill. It then ends every process that still has the run's token in its environment, unmounts
+what is mounted below the directory, and removes the directory. The first process is a reaper: it
+ends all that it started, and their descendants. A run within another one keeps the tokens of both.
 """
 
 from __future__ import annotations
 
+import errno
+import fcntl
+import json
 import os
 import signal
 import tempfile
 import time
 from contextlib import contextmanager
-from types import TracebackType
-from typing import Dict, Iterable, Iterator, Mapping, Optional, Set, Tuple, Type
+from typing import Dict, Iterable, Iterator, Mapping, NoReturn, Optional, Set, Tuple, Union
 
 from . import descendants
 from .command import print_line
@@ -23,86 +25,85 @@ from .removal import LEFT, remove_tree
 
 VARIABLE = 'CRASHFS_GUARD'
 STOPS = (signal.SIGINT, signal.SIGTERM, signal.SIGHUP)
+# What the watcher answers if it is killed before it answers.
+WATCHER_KILLED = json.dumps([None, errno.ECHILD, 'its watcher was killed', 'temporary files'])
 
 
 class Guard:
     """Used by `with`. Start processes with `environment`, and put files below `directory`, which is
-    made in `folder`, or where temporary files are. A guard that is no reaper leaves other children
-    of this process alone."""
+    made in `folder`, or where temporary files are, with the program's name. A guard that may not
+    reap leaves other children of this process alone."""
 
-    def __init__(self, prefix: str, folder: Optional[str] = None, is_reaper: bool = True) -> None:
-        self.prefix = prefix
+    def __init__(self, program: str, folder: Optional[str] = None, may_reap: bool = True) -> None:
+        self.program = program
         self.folder = folder
-        self.may_reap = is_reaper
+        self.may_reap = may_reap
         self.token = os.urandom(16).hex()
         self.directory = ''
         self.is_reaper = False
+        # The watcher, and the end of the pipe whose closing it waits for, once it is started.
+        self.watcher, self.alive = 0, -1
         # Processes that could not be ended, with the names of their programs.
-        self.left: Dict[int, str] = {}
+        self.unended: Dict[int, str] = {}
 
     def __enter__(self) -> Guard:
-        self.is_reaper = self.may_reap and is_reaper_now()
-        # A signal waits meanwhile: it must not come between the directory and the process that
-        # removes it, nor reach that one before it ignores signals.
-        before = signal.pthread_sigmask(signal.SIG_BLOCK, STOPS)
+        self.is_reaper = self.may_reap and descendants.become_reaper()
         try:
-            self.make_directory()
-        except OSError:
-            signal.pthread_sigmask(signal.SIG_SETMASK, before)
-            raise
-        self.start_watcher()
-        self.report_other_place()
-        try:
-            # A signal that has waited comes here.
-            signal.pthread_sigmask(signal.SIG_SETMASK, before)
+            # A signal must not come before the watcher can be closed, nor reach the watcher before
+            # that ignores signals. One that has waited is raised at the end of this block.
+            with stops_blocked():
+                self.start_watcher()
+                self.report_other_place()
         except BaseException:
-            self.close()
+            if self.directory:
+                self.__exit__()
             raise
         return self
 
-    def make_directory(self) -> None:
-        """Makes the directory; an OSError names the place."""
-        try:
-            made = tempfile.mkdtemp(prefix=self.prefix, dir=self.folder)
-            self.directory = os.path.realpath(made)
-        except OSError as error:
-            # Where no place for temporary files can be written, the error has no name.
-            name = error.filename or 'temporary files'
-            raise OSError(error.errno, error.strerror, name) from error
-
     def start_watcher(self) -> None:
-        """Starts the second process, which waits for the end of this one."""
-        waiting, self.alive = os.pipe()
+        """Starts the watcher, and returns when it has made the directory. An OSError names the
+        place where it can't make one; the watcher has ended then."""
+        waiting, self.alive = pipe_above_streams()
+        answer, answering = pipe_above_streams()
         self.watcher = os.fork()
         if self.watcher == 0:
             os.close(self.alive)
-            self.run_watcher(waiting)
+            os.close(answer)
+            self.run_watcher(waiting, answering)
         os.close(waiting)
+        os.close(answering)
+        with open(answer, encoding='ascii') as stream:
+            directory, *fault = json.loads(stream.read() or WATCHER_KILLED)
+        if fault:
+            os.close(self.alive)
+            os.waitpid(self.watcher, 0)
+            raise OSError(*fault)
+        self.directory = directory
 
     def report_other_place(self) -> None:
-        """Says so if the place that TMPDIR names is not the one that is used."""
+        """Prints a line if the directory isn't where TMPDIR says, unless a folder was given."""
         named, used = os.environ.get('TMPDIR'), os.path.dirname(self.directory)
-        if named and os.path.realpath(named) != used:
-            program = self.prefix.rstrip('-')
-            print_line(program, f'TMPDIR={named} can not be written: {used} is used')
+        if self.folder is None and named and os.path.realpath(named) != used:
+            print_line(self.program, f'TMPDIR={named} can not be written: {used} is used')
 
     @property
     def environment(self) -> Dict[str, str]:
-        """The environment for processes that the guard ends."""
+        """The environment in which to start processes, so that the guard ends them."""
         return with_token(os.environ, self.token)
 
     def end_processes(self, spared: Iterable[int] = ()) -> Dict[int, str]:
         """Ends all that came of this process, but for spared children, and all that was started
-        with the environment. Returns what could not be ended, with the names of the programs; it
+        with the environment. Returns `unended`: what could not be ended, also by earlier calls; it
         isn't tried again."""
         end_bearers(self.token)
         if self.is_reaper:
-            self.left.update(descendants.end_children({self.watcher, *self.left, *spared}))
-        return self.left
+            unended = descendants.end_children({self.watcher, *self.unended, *spared})
+            self.unended.update(unended)
+        return self.unended
 
     def send_signal(self, number: int, spared: int) -> int:
         """Sends a signal to all that came of this process or was started with the environment, but
-        for one process, and returns to how many."""
+        for one process. Returns how many processes got it."""
         sent = 0
         found = descendants.descendants() if self.is_reaper else set()
         for process in (found | bearers(self.token)) - {self.watcher, spared}:
@@ -113,58 +114,82 @@ class Guard:
                 pass
         return sent
 
-    def __exit__(
-        self,
-        kind: Optional[Type[BaseException]],
-        error: Optional[BaseException],
-        trace: Optional[TracebackType],
-    ) -> None:
-        self.close()
-
-    def close(self) -> None:
-        """Lets the second process clean up, waits for it, and names what it could not remove."""
+    def __exit__(self, *_: object) -> None:
+        """Lets the watcher clean up, waits for it, and prints what it could not remove."""
         os.close(self.alive)
         os.waitpid(self.watcher, 0)
         for path in (self.directory, self.directory + LEFT):
             if os.path.lexists(path):
-                print_line(self.prefix.rstrip('-'), f'{path} could not be removed')
+                print_line(self.program, f'{path} could not be removed')
 
-    def run_watcher(self, waiting: int) -> None:
-        """The second process: it never returns."""
+    def run_watcher(self, waiting: int, answering: int) -> NoReturn:
+        """The watcher: it never returns. It makes the directory itself, so that no kill of the
+        first process can come between the directory and the process that removes it."""
         try:
-            for number in STOPS:
+            # The first process may be gone before it reads the answer: that is no signal.
+            for number in (*STOPS, signal.SIGPIPE):
                 signal.signal(number, signal.SIG_IGN)
             os.setsid()
             descendants.become_cleaner()
             nothing = os.open(os.devnull, os.O_RDWR)
             for stream in (0, 1, 2):
                 os.dup2(nothing, stream)
+            self.answer_directory(answering)
             os.read(waiting, 1)
-            end_bearers(self.token)
-            table = MountTable()
-            table.unmount(table.below(self.directory))
-            remove_tree(self.directory)
+            self.remove_all()
         finally:
             os._exit(0)
 
+    def answer_directory(self, answering: int) -> None:
+        """In the watcher: makes the directory, and writes its path, or the fault, to the pipe."""
+        try:
+            self.directory = new_directory(f'{self.program}-', self.folder)
+            answer = json.dumps([self.directory])
+        except OSError as error:
+            answer = json.dumps([None, error.errno, error.strerror, error.filename])
+        try:
+            os.write(answering, answer.encode())
+        except BrokenPipeError:
+            pass
+        os.close(answering)
 
-def is_reaper_now() -> bool:
-    """Makes this process a reaper, and returns whether it is one."""
+    def remove_all(self) -> None:
+        """In the watcher: ends what bears the token, and removes the directory, if there is one."""
+        end_bearers(self.token)
+        if self.directory:
+            table = MountTable()
+            table.unmount(table.below(self.directory))
+            remove_tree(self.directory)
+
+
+def pipe_above_streams() -> Tuple[int, int]:
+    """A pipe whose descriptors are none of a standard stream, also if those are closed."""
+    ends = os.pipe()
+    reading, writing = (fcntl.fcntl(end, fcntl.F_DUPFD_CLOEXEC, 3) for end in ends)
+    for end in ends:
+        os.close(end)
+    return reading, writing
+
+
+def new_directory(prefix: str, folder: Optional[str]) -> str:
+    """Makes a directory, in a folder or where temporary files are, and returns its path, without
+    links. An OSError names the place."""
     try:
-        descendants.become_reaper()
-    except descendants.NoReaper:
-        return False
-    return True
+        return os.path.realpath(tempfile.mkdtemp(prefix=prefix, dir=folder))
+    except OSError as error:
+        # If no place for temporary files can be written, the error has no name.
+        name = error.filename or 'temporary files'
+        raise OSError(error.errno, error.strerror, name) from error
 
 
 def with_token(environment: Mapping[str, str], token: str) -> Dict[str, str]:
-    """An environment with a further token."""
+    """An environment with a token more: VARIABLE has those of all guards around it."""
     tokens = [*filter(None, environment.get(VARIABLE, '').split(':')), token]
     return {**environment, VARIABLE: ':'.join(tokens)}
 
 
 def bearers(token: str) -> Set[int]:
-    """The processes that have a token in their environment."""
+    """The processes that were started with a token in their environment."""
     return {process for process in descendants.processes() if has_token(process, token.encode())}
 
 
@@ -180,7 +205,8 @@ def has_token(process: int, token: bytes) -> bool:
 
 
 def end_bearers(token: str) -> None:
-    """Ends all bearers of a token; again until none is found, since one may have just forked."""
+    """Kills all bearers of a token, again until none is found, since one may have just forked, or
+    for ENDING_SECONDS. A cleaner gets CLEANING_SECONDS to end by itself."""
     begun = time.monotonic()
     while time.monotonic() < begun + descendants.ENDING_SECONDS:
         found = bearers(token)
@@ -193,8 +219,20 @@ def end_bearers(token: str) -> None:
         time.sleep(0.01)
 
 
+@contextmanager
+def stops_blocked() -> Iterator[Set[Union[int, signal.Signals]]]:
+    """Within this the signals of STOPS wait, and that of a time limit: what is raised in the hooks
+    of a fork is lost. Yields the signals that were blocked before: a process that is forked within
+    it sets these itself, when it is ready for signals."""
+    before = signal.pthread_sigmask(signal.SIG_BLOCK, (*STOPS, signal.SIGALRM))
+    try:
+        yield before
+    finally:
+        signal.pthread_sigmask(signal.SIG_SETMASK, before)
+
+
 class Stopped(Exception):
-    """A signal that asks for the end."""
+    """A signal that asks a command to end: it was received."""
 
     def __init__(self, number: int) -> None:
         super().__init__(signal.Signals(number).name)
@@ -202,16 +240,18 @@ class Stopped(Exception):
 
     @property
     def status(self) -> int:
+        """The exit status of a command that ends for it, as a shell has it."""
         return 128 + self.number
 
 
 class TimeUp(Exception):
-    """A time limit has passed."""
+    """The time limit of a block has passed."""
 
 
 @contextmanager
 def time_limit(seconds: Optional[float]) -> Iterator[None]:
-    """Within this, TimeUp is raised in the main thread after so many seconds."""
+    """Within this, TimeUp is raised in the main thread after so many seconds; None is no limit.
+    Must be entered in the main thread."""
 
     def end(_: int, __: object) -> None:
         raise TimeUp
@@ -227,14 +267,16 @@ def time_limit(seconds: Optional[float]) -> Iterator[None]:
 
 
 def stops_heard() -> Tuple[signal.Signals, ...]:
-    """The signals that stop a command: not SIGHUP if it is ignored, as `nohup` has it."""
+    """The signals that stop a command here: those of STOPS, but not SIGHUP if it is ignored, as
+    under `nohup`."""
     if signal.getsignal(signal.SIGHUP) is signal.SIG_IGN:
         return tuple(stop for stop in STOPS if stop != signal.SIGHUP)
     return STOPS
 
 
 def stop_by_exception() -> None:
-    """From here on each signal that stops a command raises Stopped in the main thread."""
+    """From here on the first signal that stops a command raises Stopped in the main thread. It ends
+    a time limit, and all later ones are ignored, so that the command can clean up."""
 
     def stop(number: int, _: object) -> None:
         signal.setitimer(signal.ITIMER_REAL, 0)

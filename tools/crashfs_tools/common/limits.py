@@ -18,6 +18,6 @@ TARGET_BYTES = 4_095
 USER_BYTES = 64
 
 
-def file_bytes(version: int) -> int:
-    """The largest length of a file in a trace of a version."""
+def most_file_bytes(version: int) -> int:
+    """The largest length that a file may have in a trace of a version."""
     return LARGE_FILE_BYTES if version >= 4 else FILE_BYTES

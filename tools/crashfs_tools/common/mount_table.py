@@ -28,7 +28,8 @@ class MountTable:
         self.points = read_points()
 
     def below(self, directory: str) -> Dict[int, str]:
-        """The mount points at a directory and below it, in the order in which they came."""
+        """The mount points at a directory and below it, by number, in the order in which they were
+        mounted."""
         if self.poll.poll(0):
             self.points = read_points()
         return {
@@ -38,7 +39,8 @@ class MountTable:
         }
 
     def unmount(self, points: Mapping[int, str]) -> List[str]:
-        """Unmounts what is there, the last one first, also if it is in use. Returns what stays."""
+        """Unmounts these mount points, the last one first, lazily if they are in use. Returns those
+        that are still there."""
         for point in reversed(list(points.values())):
             any(run_quietly([*words, point]) for words in UNMOUNTS)
         left = self.below('/')

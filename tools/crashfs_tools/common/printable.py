@@ -1,8 +1,10 @@
-"""Text as a terminal may show it: what would control the terminal is shown as an escape."""
+"""Text as a terminal may show it: what would control the terminal is shown as an escape. And the
+standard streams that show it."""
 
 from __future__ import annotations
 
 import io
+import os
 import re
 import sys
 
@@ -16,8 +18,8 @@ SHORT = {'\n': '\\n', '\t': '\\t', '\r': '\\r'}
 
 
 def printable(text: str, allowed: str = '') -> str:
-    """The text with an escape (such as \\x1b or \\u202e) for each character that isn't shown, but
-    for those that are allowed."""
+    """The text with an escape, such as \\x1b or \\u202e, for each character of UNPRINTABLE that
+    isn't allowed."""
     return UNPRINTABLE.sub(
         lambda match: match[0] if match[0] in allowed else escape(match[0]), text
     )
@@ -35,8 +37,28 @@ def escape(letter: str) -> str:
     return f'\\u{code:04x}' if code < 0x10000 else f'\\U{code:08x}'
 
 
+def count_text(count: int, noun: str) -> str:
+    """A number with what it counts, as `1 state` or `2 states`."""
+    return f'{count:,} {noun}' if count == 1 else f'{count:,} {noun}s'
+
+
 def print_utf8() -> None:
     """Makes standard output and standard error UTF-8, whatever the locale is."""
     for stream in (sys.stdout, sys.stderr):
         if isinstance(stream, io.TextIOWrapper):
             stream.reconfigure(encoding='utf-8', errors='backslashreplace')
+
+
+def prepare_standard_streams() -> None:
+    """Opens standard streams that are closed, so that no other file gets their numbers: what is
+    printed there goes nowhere. What is printed is UTF-8."""
+    for number in (0, 1, 2):
+        try:
+            os.fstat(number)
+        except OSError:
+            os.set_inheritable(os.open(os.devnull, os.O_RDWR), True)
+    if sys.stdout is None:
+        sys.stdout = open(1, 'w', encoding='utf-8', closefd=False)
+    if sys.stderr is None:
+        sys.stderr = open(2, 'w', encoding='utf-8', closefd=False)
+    print_utf8()

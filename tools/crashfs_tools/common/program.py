@@ -5,7 +5,6 @@ from __future__ import annotations
 
 import io
 import os
-import re
 import select
 import shutil
 import subprocess
@@ -13,7 +12,7 @@ import tempfile
 from contextlib import contextmanager
 from functools import cached_property
 from itertools import groupby
-from typing import Any, Dict, FrozenSet, Iterator, List, Optional, Tuple, Union
+from typing import Any, Dict, Iterator, List, Optional, Tuple, Union
 
 from .archive import ArchiveFault, Member, members
 from .command import Refused, ending_text
@@ -31,7 +30,7 @@ UNKNOWN_OPTION = 2
 PIECE_BYTES = 1 << 16
 # So much of an archive is read at once.
 ARCHIVE_BYTES = 1 << 18
-# The first version that a program may refuse, and what it then says of a trace without lines.
+# The first version that a program may refuse, and what it then says of its header.
 NEW_VERSION, REFUSED = 4, 'Syntax'
 EMPTY_TRACE = (
     '{"trace":%d,"profile":"blocks","block":4096,"owner":"root","group":"root","mode":"755"}\n'
@@ -67,6 +66,7 @@ class ProgramFault(Exception):
 
     @property
     def is_unknown_option(self) -> bool:
+        """Whether the program doesn't know an option: it is older than these tools."""
         return self.status == UNKNOWN_OPTION
 
 
@@ -80,30 +80,39 @@ class Crashfs:
         self.refused_version = refused_version
 
     @staticmethod
-    def find_or_read(given: Optional[str], unproved: bool) -> Crashfs:
-        """The program, or the second reading if there is none or it is asked for."""
+    def program_or_reading(given: Optional[str], unproved: bool) -> Crashfs:
+        """The program, as find() finds it, or the second reading if there is none or unproved is
+        set: then `given` isn't looked at. Refused if `given` is no program."""
         program = None if unproved else Crashfs.find(given)
-        return program or Crashfs(READING, unproved=True)
+        return program or Crashfs.second_reading()
+
+    @staticmethod
+    def second_reading(refused_version: int = 0) -> Crashfs:
+        """The second reading, also for traces of a version that the program refuses."""
+        return Crashfs(READING, unproved=True, refused_version=refused_version)
 
     @staticmethod
     def find(given: Optional[str]) -> Optional[Crashfs]:
         """The program that --crashfs names, else that of PATH, else the one that was installed with
-        these tools, else the one built here."""
+        these tools, or was built here; None if there is none. Refused if --crashfs names no
+        program."""
         if given is not None:
             if shutil.which(given) is None:
                 raise Refused(f'--crashfs {given}: no such program')
             return Crashfs(os.path.abspath(shutil.which(given) or given))
-        path = shutil.which('crashfs') or program_beside(LIBRARY)
+        path = shutil.which('crashfs') or program_of_tools(LIBRARY)
         return None if path is None else Crashfs(path)
 
     def for_version(self, version: int) -> Crashfs:
-        """This program, or the second reading if the program takes no traces of a version."""
+        """This program; or, if it doesn't read traces of a version, the second reading, which says
+        so by its refused_version."""
         if self.unproved or version < NEW_VERSION or self.reads_version(version):
             return self
-        return Crashfs(READING, unproved=True, refused_version=version)
+        return Crashfs.second_reading(refused_version=version)
 
     def reads_version(self, version: int) -> bool:
-        """Whether the program reads traces of a version: it is given one that has no lines."""
+        """Whether the program reads traces of a version: it is given one that is only a header. Any
+        fault but REFUSED counts as yes: the next command shows it."""
         with tempfile.NamedTemporaryFile('w', suffix='.trace') as file:
             file.write(EMPTY_TRACE % version)
             file.flush()
@@ -115,23 +124,15 @@ class Crashfs:
 
     @cached_property
     def has_changes(self) -> bool:
-        """Whether it has `tar --changes`."""
+        """Whether the program has `tar --changes`, as its help says."""
         try:
             return '--changes' in self.output_of(['tar', '--help'])
         except ProgramFault:
             return False
 
-    @cached_property
-    def picks_options(self) -> FrozenSet[str]:
-        """The options of its `picks`; none of the second reading, which is asked in another way."""
-        try:
-            shown = '' if self.unproved else self.output_of(['picks', '--help'])
-        except ProgramFault:
-            shown = ''
-        return frozenset(re.findall(r'--[a-z]+', shown))
-
     def output_of(self, words: List[str], environment: Optional[Dict[str, str]] = None) -> str:
-        """The standard output of a command; ProgramFault if its status isn't 0."""
+        """The standard output of a command; ProgramFault if its status isn't 0, or it can't be
+        started."""
         child = self.start(words, environment)
         out, error_text = child.communicate()
         if child.returncode != 0:
@@ -159,12 +160,13 @@ class Crashfs:
     def archive(
         self, words: List[str], environment: Optional[Dict[str, str]] = None
     ) -> Iterator[Iterator[Member]]:
-        """The archive that `crashfs tar` writes, as a stream that is read once. Of the second
+        """The archive that `crashfs tar` writes, as a stream that is read once, within this. At its
+        end ProgramFault if the program failed, or if what it wrote is no archive. Of the second
         reading it has no long runs of zeros; the program doesn't know that option yet."""
         sparse = ['--sparse'] if self.unproved else []
         child = self.start(['tar', *words, *sparse], environment)
         assert child.stdout is not None and child.stderr is not None
-        streams = Streams(child.stdout.fileno(), child.stderr.fileno())
+        streams = ProgramOutput(child.stdout.fileno(), child.stderr.fileno())
         try:
             yield members(io.BufferedReader(streams, ARCHIVE_BYTES))
         except ArchiveFault as error:
@@ -185,67 +187,73 @@ class Crashfs:
             )
 
     def count_states(self, trace: str, holes: bool = True) -> int:
-        """How many states a trace has: its prefixes, and with a hole each."""
+        """How many states a trace has: its prefixes, and with `holes` those that lack one operation
+        each. ProgramFault if the program refuses it."""
         lines = self.output_of(['list', '--trace', trace, *(['--holes'] if holes else [])])
         last = lines.rstrip('\n').rpartition('\n')[2].split(' ')
+        # The states are numbered from 0, and the last line is that of the last one.
         if last[0] != 'state' or not last[1:2] or not last[1].isdigit():
             raise ProgramFault(0, b'crashfs: what it printed is no list')
         return int(last[1]) + 1
 
     def tree(self, trace: str, state: int) -> Entries:
-        """The tree of a state, but for the root."""
-        return self.tree_of(['--trace', trace, '--state', str(state)])
-
-    def tree_of(self, words: List[str], environment: Optional[Dict[str, str]] = None) -> Entries:
-        """The tree of the one state that options name, but for the root."""
-        tree = self.whole_tree(words, environment)
+        """The tree of the state of a number, without the root; ProgramFault if there is no such
+        state."""
+        tree = self.whole_tree(['--trace', trace, '--state', str(state)])
         tree.pop('/', None)
         return tree
 
     def trees(
         self, words: List[str], environment: Optional[Dict[str, str]] = None
     ) -> Iterator[Tuple[int, Entries]]:
-        """Each state that `--states` names, in ascending order: its number and its tree."""
+        """The states that the option `--states` among the words names, in ascending order: of each
+        its number and its tree, with the root. ProgramFault, at the end, if the program refuses
+        them."""
         with self.archive(words, environment) as archive:
-            for top, state in groupby(archive, top_of):
+            for top, state in groupby(archive, first_name):
                 yield int(top), {'/' + path[len(top) + 1 :]: entry for path, entry in state}
 
     def whole_tree(self, words: List[str], environment: Optional[Dict[str, str]] = None) -> Entries:
-        """The tree of the one state that options name, with the root."""
+        """The tree, with the root, of the one state that the options among the words name;
+        ProgramFault if the program refuses it."""
         with self.archive(words, environment) as archive:
             return {'/' + path: entry for path, entry in archive}
 
 
-def top_of(member: Member) -> str:
-    """The first name of an entry's path: with `--states` the number of its state."""
+def first_name(member: Member) -> str:
+    """The first name of the path of an archive's entry: with `--states` the number of its state."""
     return member[0].partition('/')[0]
 
 
-def program_beside(library: str) -> Optional[str]:
-    """The program of bin/ if these tools are a release's, in lib/crashfs; else the built one."""
-    folder, name = os.path.split(library)
+def program_of_tools(tools: str) -> Optional[str]:
+    """The program that goes with the tools of a folder: if that is lib/crashfs of a release, the
+    one in its bin/; else the one that tools/build made here. None if it isn't there."""
+    folder, name = os.path.split(tools)
     is_release = name == 'crashfs' and os.path.basename(folder) == 'lib'
     path = os.path.join(os.path.dirname(folder), 'bin', 'crashfs') if is_release else BUILT
     return path if os.access(path, os.X_OK) else None
 
 
-class Streams(io.RawIOBase):
-    """A program's standard output, as a stream. The end of what it prints as an error is kept
-    meanwhile: it would wait forever if nobody read that."""
+class ProgramOutput(io.RawIOBase):
+    """A program's standard output, as a stream. What it prints as an error is read meanwhile, since
+    the program would wait forever once that pipe is full; error_text has the end of it."""
 
     def __init__(self, output: int, errors: int) -> None:
         super().__init__()
+        # The descriptors of the two pipes.
         self.output, self.errors = output, errors
         self.error_text = b''
-        self.has_errors = True
+        self.errors_ended = False
         self.poll = select.poll()
         self.poll.register(output, select.POLLIN)
         self.poll.register(errors, select.POLLIN)
 
     def readable(self) -> bool:
+        """True, as RawIOBase asks of a stream that can be read."""
         return True
 
     def readinto(self, buffer: Any) -> int:
+        """Reads standard output into a buffer, and returns how many bytes; 0 at its end."""
         while True:
             ready = {one for one, _ in self.poll.poll()}
             if self.errors in ready:
@@ -254,18 +262,19 @@ class Streams(io.RawIOBase):
                 return os.readv(self.output, [buffer])
 
     def read_errors(self) -> bool:
-        """Reads some; returns False at the end."""
+        """Reads a piece of what the program prints as an error, after waiting for it, into
+        error_text; returns False at its end."""
         piece = os.read(self.errors, PIECE_BYTES)
         self.error_text = (self.error_text + piece)[-PIECE_BYTES:]
-        if not piece and self.has_errors:
+        if not piece and not self.errors_ended:
             self.poll.unregister(self.errors)
-            self.has_errors = False
+            self.errors_ended = True
         return bool(piece)
 
 
-def read_to_end(child: RunningProgram, streams: Streams) -> bytes:
-    """Waits for a program's end, so that it can write all; the end of what it printed as an
-    error."""
+def read_to_end(child: RunningProgram, streams: ProgramOutput) -> bytes:
+    """Reads the rest of what a program prints, so that it can end, and waits for it. Returns the
+    end of what it printed as an error."""
     assert child.stdout is not None and child.stderr is not None
     while streams.read(PIECE_BYTES):
         pass
@@ -277,13 +286,13 @@ def read_to_end(child: RunningProgram, streams: Streams) -> bytes:
     return streams.error_text
 
 
-def is_too_large(fault: Exception) -> bool:
-    """Whether the program, or the second reading, refused a trace for its length."""
+def is_plan_too_large(fault: Exception) -> bool:
+    """Whether a fault says that a trace is too long for one plan."""
     said = fault.text if isinstance(fault, ProgramFault) else str(fault)
     return any(text in said for text in TOO_LARGE)
 
 
 def last_line(output: str) -> str:
-    """The last line of what a program printed; nothing if it printed nothing."""
+    """The last line of what a program printed; an empty text if it printed nothing."""
     lines = output.strip().splitlines()
     return lines[-1] if lines else ''

@@ -25,8 +25,9 @@ def set_folder_mode(name: str, mode: int, at: Optional[int] = None) -> None:
 
 
 def remove_tree(path: str, at: Optional[int] = None, aside: str = '') -> bool:
-    """Removes a file, or a directory whatever the modes in it. Returns whether it is gone: what is
-    mounted there, or may not be removed, stays in the directory `aside`, by default PATH + LEFT."""
+    """Removes a file, or a directory whatever the modes in it; the path may be relative to the open
+    directory `at`. Returns whether it is gone: what is mounted there, or may not be removed, stays
+    in the directory `aside`, by default PATH + LEFT."""
     try:
         os.unlink(path, dir_fd=at)
     except FileNotFoundError:
@@ -39,14 +40,15 @@ def remove_tree(path: str, at: Optional[int] = None, aside: str = '') -> bool:
 
 
 def remove_directory(path: str, at: Optional[int], aside: str) -> bool:
-    """The same for a directory. An OSError comes only if `aside` can't be made."""
-    if is_removed_empty(path, at):
+    """Removes a directory, and returns whether it is gone, as remove_tree does. An OSError comes
+    only if `aside` can't be made."""
+    if remove_if_empty(path, at):
         return True
     if not os.path.isdir(aside):
         make_aside(aside, path, at)
     file = os.open(aside, FOLDER)
     try:
-        is_gone = Removal(file).run(path, at)
+        is_gone = Removal(file).remove(path, at)
     finally:
         os.close(file)
     if is_gone:
@@ -54,8 +56,8 @@ def remove_directory(path: str, at: Optional[int], aside: str) -> bool:
     return is_gone
 
 
-def is_removed_empty(path: str, at: Optional[int]) -> bool:
-    """Removes a directory that is empty; returns whether it was."""
+def remove_if_empty(path: str, at: Optional[int]) -> bool:
+    """Removes a directory if it is empty; returns whether it is removed."""
     try:
         os.rmdir(path, dir_fd=at)
     except OSError:
@@ -76,12 +78,13 @@ def make_aside(aside: str, path: str, at: Optional[int]) -> None:
 
 
 def remove_one(path: str, at: Optional[int]) -> None:
-    """Removes a file or an empty directory from a directory, but nothing that is mounted there."""
+    """Removes one file or empty directory that is in a directory, at any depth, but nothing that is
+    mounted there."""
     directory = os.open(path, FOLDER, dir_fd=at)
     device = os.fstat(directory).st_dev
     try:
         while os.fstat(directory).st_dev == device:
-            inner = inner_directory(directory)
+            inner = remove_first_entry(directory)
             if inner is None:
                 return
             os.close(directory)
@@ -90,9 +93,9 @@ def remove_one(path: str, at: Optional[int]) -> None:
         os.close(directory)
 
 
-def inner_directory(directory: int) -> Optional[int]:
-    """Removes the first entry of a directory; if that is a directory that isn't empty, it is opened
-    and returned."""
+def remove_first_entry(directory: int) -> Optional[int]:
+    """Removes the first entry of a directory, and returns None; if that entry is a directory that
+    isn't empty, it stays, and is returned as a descriptor. None, too, if there is no entry."""
     with os.scandir(directory) as entries:
         entry = next(entries, None)
         is_directory = entry is not None and entry.is_dir(follow_symlinks=False)
@@ -101,7 +104,7 @@ def inner_directory(directory: int) -> Optional[int]:
     if not is_directory:
         os.unlink(entry.name, dir_fd=directory)
         return None
-    if is_removed_empty(entry.name, directory):
+    if remove_if_empty(entry.name, directory):
         return None
     return os.open(entry.name, FOLDER, dir_fd=directory)
 
@@ -117,19 +120,20 @@ class Removal:
         self.count = 0
         self.waiting: List[str] = []
 
-    def run(self, path: str, at: Optional[int]) -> bool:
-        """Removes a directory as far as it can; returns whether it is gone."""
-        is_gone = self.move(path, at)
+    def remove(self, path: str, at: Optional[int]) -> bool:
+        """Removes a directory as far as it can; returns whether it is gone from its path. What may
+        not be removed stays aside."""
+        is_gone = self.move_aside(path, at)
         while self.waiting:
             name = self.waiting.pop()
             try:
-                self.empty(name)
+                self.empty_directory(name)
                 os.rmdir(name, dir_fd=self.aside)
             except OSError:
                 is_gone = False
         return is_gone
 
-    def move(self, name: str, at: Optional[int]) -> bool:
+    def move_aside(self, name: str, at: Optional[int]) -> bool:
         """Moves a directory aside under a name that is new; returns whether it may be moved."""
         moved = f'{self.mark}-{self.count}'
         self.count += 1
@@ -144,22 +148,22 @@ class Removal:
         self.waiting.append(moved)
         return True
 
-    def empty(self, name: str) -> None:
+    def empty_directory(self, name: str) -> None:
         """Removes the files of a directory, and moves its directories aside."""
-        directory = self.opened(name)
+        directory = self.open_aside(name)
         try:
             with os.scandir(directory) as entries:
                 found = [(entry.name, entry.is_dir(follow_symlinks=False)) for entry in entries]
             for inner, is_directory in found:
                 if is_directory:
-                    self.move(inner, directory)
+                    self.move_aside(inner, directory)
                 else:
                     os.unlink(inner, dir_fd=directory)
         finally:
             os.close(directory)
 
-    def opened(self, name: str) -> int:
-        """A directory that is aside, with the rights that removals need."""
+    def open_aside(self, name: str) -> int:
+        """Opens a directory that is aside, and gives it the rights that removals need."""
         try:
             directory = os.open(name, FOLDER, dir_fd=self.aside)
         except PermissionError:

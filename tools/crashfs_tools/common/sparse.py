@@ -34,13 +34,14 @@ class SparseBytes:
             self.write(at, data)
 
     @staticmethod
-    def of(data: Content) -> SparseBytes:
-        """A copy of bytes."""
+    def copy_of(data: Content) -> SparseBytes:
+        """A copy of bytes, in this form."""
         if isinstance(data, SparseBytes):
             return data.copy()
         return SparseBytes(len(data), [(0, bytes(data))])
 
     def copy(self) -> SparseBytes:
+        """A copy that changes by itself."""
         made = SparseBytes(self.length)
         made.pages = {number: page.copy() for number, page in self.pages.items()}
         return made
@@ -61,19 +62,19 @@ class SparseBytes:
                 other.data_pages()
             )
         if isinstance(other, (bytes, bytearray)):
-            return self.length == len(other) and self == SparseBytes.of(other)
+            return self.length == len(other) and self == SparseBytes.copy_of(other)
         return NotImplemented
 
     __hash__ = None  # type: ignore[assignment]  # its bytes change
 
     def data_pages(self) -> Iterator[Tuple[int, bytes]]:
-        """The pages that aren't all zeros, in no order."""
+        """The pages that aren't all zeros, each after its number, in no order."""
         for number, page in self.pages.items():
             if page != ZEROS:
                 yield number, bytes(page)
 
     def read(self, at: int, count: int) -> bytes:
-        """The bytes from a place on, up to the end."""
+        """So many bytes from a place on; fewer if the end comes before."""
         end = min(at + count, self.length)
         found = []
         while at < end:
@@ -84,7 +85,7 @@ class SparseBytes:
         return b''.join(found)
 
     def write(self, at: int, data: Union[bytes, bytearray]) -> None:
-        """Puts bytes at a place, beyond the end too."""
+        """Puts bytes at a place; zeros come before it if it is past the end."""
         self.length = max(self.length, at + len(data))
         begin = 0
         while begin < len(data):
@@ -116,9 +117,9 @@ class SparseBytes:
                 page[start - base : stop - base] = bytes(stop - start)
 
     def data_ranges(self, begin: int, end: int) -> List[Tuple[int, int]]:
-        """The parts of a range, by their ends, whose pages aren't all zeros."""
+        """The parts of a range, each by its two ends, whose pages aren't all zeros; ascending."""
         found = []
-        for at, run in list(self.runs()):
+        for at, run in list(self.page_runs()):
             first, last = max(begin, at), min(end, at + len(run))
             if first < last:
                 found.append((first, last))
@@ -131,12 +132,13 @@ class SparseBytes:
         self.length = length
 
     def parts(self) -> List[Part]:
-        """What isn't zero, ascending: parts begin and end with other bytes than zeros, and have
-        no long run of zeros."""
-        return [part for begin, run in self.runs() for part in parts_of(begin, run)]
+        """What isn't zero, as pieces, each after its place, ascending. A part begins and ends with
+        other bytes than zeros, has no long run of zeros, and is text if it is long enough."""
+        return [part for begin, run in self.page_runs() for part in parts_of(begin, run)]
 
-    def runs(self) -> Iterator[Part]:
-        """The pages that aren't zeros; neighbours are joined."""
+    def page_runs(self) -> Iterator[Part]:
+        """The pages that aren't all zeros, each after its place, ascending; neighbours are joined
+        up to PART_BYTES."""
         begin = 0
         pages: List[bytes] = []
         for number, page in sorted(self.data_pages()):
@@ -152,7 +154,7 @@ class SparseBytes:
 
 
 def parts_of(begin: int, data: bytes) -> Iterator[Part]:
-    """The parts of some bytes that are at a place."""
+    """The parts, as SparseBytes.parts has them, of some bytes that are at a place."""
     at = 0
     for gap in GAP.finditer(data):
         yield from without_edge_zeros(begin + at, data[at : gap.start()])
@@ -161,7 +163,8 @@ def parts_of(begin: int, data: bytes) -> Iterator[Part]:
 
 
 def without_edge_zeros(at: int, data: bytes) -> Iterator[Part]:
-    """A part without zeros at its edges, if anything is left; long texts in it are parts."""
+    """The bytes at a place without zeros at their edges, in parts: each long text is one. None if
+    all are zeros."""
     left = data.strip(b'\0')
     at, end = at + len(data) - len(data.lstrip(b'\0')), 0
     for text in TEXT.finditer(left):
@@ -174,8 +177,8 @@ def without_edge_zeros(at: int, data: bytes) -> Iterator[Part]:
 
 
 def first_difference(one: Content, other: Content) -> int:
-    """The offset at which bytes begin to differ: the length of the shorter ones if the others begin
-    with these."""
+    """The offset at which two files begin to differ: the length of the shorter one if the other
+    begins with it."""
     length = min(len(one), len(other))
     for begin in pages_to_compare(one, other, length):
         pieces = [bytes(data[begin : min(begin + PAGE_BYTES, length)]) for data in (one, other)]
@@ -186,7 +189,7 @@ def first_difference(one: Content, other: Content) -> int:
 
 
 def pages_to_compare(one: Content, other: Content, length: int) -> Iterable[int]:
-    """The offsets of the pages, up to a length, that aren't zeros in one of two files."""
+    """The offsets of the pages, up to a length, in which two files can differ."""
     if isinstance(one, SparseBytes) and isinstance(other, SparseBytes):
         begins = (page * PAGE_BYTES for page in sorted(one.pages.keys() | other.pages.keys()))
         return (begin for begin in begins if begin < length)

@@ -5,7 +5,7 @@ from __future__ import annotations
 import dataclasses
 import json
 from dataclasses import dataclass, field
-from typing import Any, Dict, Iterator, List, Type, Union
+from typing import Any, Dict, Iterable, Iterator, List, Tuple, Type, Union
 
 from . import limits
 from .command import Refused
@@ -34,8 +34,8 @@ class Header:
 
 @dataclass(frozen=True)
 class Start:
-    """A directory (data is None) or file of the start tree. Version 4 writes SparseBytes in
-    parts."""
+    """A directory (data is None) or file of the start tree. The order of the fields here and below
+    is that of the keys in a trace. Version 4 writes SparseBytes in parts."""
 
     path: str
     owner: str
@@ -165,6 +165,8 @@ class Fsync:
 
 @dataclass(frozen=True)
 class Fdatasync:
+    """All bytes of a file are synced, with its size, but not its mode and owner."""
+
     path: str
 
 
@@ -189,8 +191,9 @@ class Say:
     text: str
 
     @staticmethod
-    def cut(line: bytes) -> Say:
-        """The text of a line, as far as a trace can have it."""
+    def from_line(line: bytes) -> Say:
+        """A line that was acknowledged, as far as a trace can have it: its first SAY_BYTES bytes,
+        with a sign in the place of what is no UTF-8."""
         text = line.decode('utf-8', 'replace').encode()[: limits.SAY_BYTES]
         return Say(text.decode('utf-8', 'ignore'))
 
@@ -243,6 +246,8 @@ LEAST_BYTES_IN_PARTS, PART_OVERHEAD = 1_024, 16
 KIND_OF = {made: kind for kind, made in KINDS.items()}
 # The keys of a line that have another name in Python.
 KEYS = {'source': 'from', 'target': 'to', 'link': 'target'}
+# What an empty line may have.
+BLANKS = ' \t\r\n'
 
 
 @dataclass
@@ -259,11 +264,11 @@ class Trace:
     notes: Dict[int, str] = field(default_factory=dict)
 
     def has_kind(self, kind: Type[Any]) -> bool:
-        """Whether the trace's version has a kind of line."""
+        """Whether the trace's version has lines of a class, such as Link."""
         return SINCE.get(kind, 1) <= self.version
 
     def lines(self) -> Iterator[str]:
-        """The trace's lines, each without its line feed."""
+        """The lines of the trace as text, each without its line feed."""
         yield as_json({**self.version_values(), **values_of(self.header)})
         for entry in self.start:
             yield start_line(entry, self.version)
@@ -271,7 +276,7 @@ class Trace:
             yield as_json(self.operation_values(place, operation))
 
     def version_values(self) -> Dict[str, Any]:
-        """The keys and values with which the header begins."""
+        """The keys and values with which the header's line begins, in their order."""
         values: Dict[str, Any] = {'trace': self.version}
         if self.version >= 2:
             values['profile'] = self.profile
@@ -280,7 +285,8 @@ class Trace:
         return values
 
     def operation_values(self, place: int, operation: Operation) -> Dict[str, Any]:
-        """The keys and values of an operation's line."""
+        """The keys and values of the line of the operation at a place, from 0. A version without
+        fdatasync has a sync of the bytes of the whole file."""
         if self.version < SINCE[Fdatasync] and isinstance(operation, Fdatasync):
             operation = FsyncRange(operation.path, 0, limits.FILE_BYTES)
         values = {'op': KIND_OF[type(operation)], **values_of(operation, self.version)}
@@ -289,12 +295,12 @@ class Trace:
         return values
 
     def line_of_operation(self, place: int) -> int:
-        """The line, from 1, of an operation in a trace that has no empty lines."""
+        """The number of the line, from 1, that the operation at a place, from 0, has."""
         return 2 + len(self.start) + place
 
 
 def start_line(entry: StartLine, version: int) -> str:
-    """A start line of a version, as JSON."""
+    """An entry of the start tree as a line of a trace of this version."""
     values = values_of(in_parts_if_shorter(entry) if version >= 4 else entry, version)
     if isinstance(entry, StartLink):
         return as_json({'start': 'link', **values})
@@ -306,12 +312,12 @@ def start_line(entry: StartLine, version: int) -> str:
 
 
 def in_parts_if_shorter(entry: StartLine) -> StartLine:
-    """A start line whose file is written in parts, if that is shorter."""
+    """An entry of the start tree that is written in parts, if that is shorter; else itself."""
     if not isinstance(entry, Start) or not isinstance(entry.data, bytes):
         return entry
     if len(entry.data) < LEAST_BYTES_IN_PARTS or readable_text(entry.data):
         return entry
-    sparse = SparseBytes.of(entry.data)
+    sparse = SparseBytes.copy_of(entry.data)
     size = sum(len(part) + PART_OVERHEAD for _, part in sparse.parts())
     return dataclasses.replace(entry, data=sparse) if size < len(entry.data) else entry
 
@@ -320,7 +326,8 @@ DIRECTORY_KEYS = ('path', 'owner', 'group', 'mode')
 
 
 def values_of(item: Any, version: int = 1) -> Dict[str, Any]:
-    """The keys and values of a line, in the order of its fields."""
+    """The keys and values of a line of a trace of this version, from an operation, a start line or
+    a header. Their order, and their names but for KEYS, are those of its fields."""
     values: Dict[str, Any] = {}
     for part in dataclasses.fields(item):
         value = getattr(item, part.name)
@@ -333,8 +340,8 @@ def values_of(item: Any, version: int = 1) -> Dict[str, Any]:
 
 
 def bytes_value(data: Union[bytes, SparseBytes], version: int) -> Dict[str, Any]:
-    """Bytes as a text if the version has texts and people can read it, else by numbers; of a file
-    with holes its length and its parts, if the version has those."""
+    """Bytes as a line of this version has them: as `text` if people can read it, else as `bytes`,
+    by numbers; of SparseBytes `length` and `parts`, if the version has those."""
     if isinstance(data, SparseBytes):
         if version >= 4:
             parts = [{'at': at, **bytes_value(part, version)} for at, part in data.parts()]
@@ -348,7 +355,7 @@ def bytes_value(data: Union[bytes, SparseBytes], version: int) -> Dict[str, Any]
 
 
 def readable_text(data: bytes) -> str:
-    """Bytes as a text that people can read; nothing if they aren't such a text."""
+    """Bytes as a text that people can read; an empty text if they aren't one."""
     try:
         text = data.decode('utf-8')
     except UnicodeDecodeError:
@@ -357,5 +364,20 @@ def readable_text(data: bytes) -> str:
 
 
 def as_json(fields: Dict[str, Any]) -> str:
-    """A line of a trace, without blanks between its values."""
+    """A line of a trace: JSON without blanks between its values."""
     return json.dumps(fields, separators=(',', ':'), ensure_ascii=False)
+
+
+def fields_of_line(number: int, line: str) -> Any:
+    """What the line with this number has as JSON, of any type; TraceError if it is no JSON."""
+    try:
+        return json.loads(line)
+    except ValueError as error:
+        raise TraceError(f'line {number} is no line of a trace ({error})') from error
+
+
+def fields_of_lines(lines: Iterable[str]) -> Iterator[Tuple[int, Any]]:
+    """The number and the fields of each line that isn't empty; TraceError if it is no JSON."""
+    for number, line in enumerate(lines, 1):
+        if line.strip(BLANKS):
+            yield number, fields_of_line(number, line)

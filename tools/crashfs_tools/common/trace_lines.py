@@ -1,17 +1,25 @@
-"""A line of a trace in words, as reports show it, and the sync that makes it durable."""
+"""The lines of a trace that `crashfs` has accepted, each read once: in words, as reports show them,
+with the sync that makes each durable; and traces that differ in some lines."""
 
 from __future__ import annotations
 
+import json
 import re
-from typing import Any, Dict, List, NamedTuple, Optional
+from io import StringIO
+from typing import Any, Dict, Iterable, List, NamedTuple, Optional, Tuple
 
 from . import limits
 from .entry import parent_of
+from .trace import BLANKS, TraceError, fields_of_line, fields_of_lines
+
+ENCODING = 'utf-8', 'surrogateescape'
 
 # Lines that change the file or directory of their path, and lines that change an entry.
 CHANGES = ('write', 'truncate', 'chmod', 'chown')
 ENTRY_CHANGES = ('creat', 'mkdir', 'unlink', 'rmdir', 'rename', 'link', 'symlink')
 SYNCS = ('fsync', 'fdatasync', 'fsync_range', 'sync')
+# Lines after which a path may name another file, or none.
+PATH_CHANGES = ('rename', 'unlink', 'rmdir')
 LARGEST_SAY = 40
 # What differs from run to run in a name or a cause: hashes, the directories that are named by two
 # digits of one, the six letters of mkstemp, and numbers.
@@ -27,7 +35,7 @@ RANDOM = [
 
 
 def without_numbers(text: str) -> str:
-    """A name or a cause with the same sign in the place of each number and random part."""
+    """A name or a cause with `#` in the place of each number and random part (RANDOM)."""
     for form in RANDOM:
         text = form.sub('#', text)
     return text
@@ -55,22 +63,30 @@ class TraceLine(NamedTuple):
 
     @property
     def statement(self) -> str:
-        """Equal for the lines that one statement of a program makes, however often it runs."""
+        """The same for all lines that one statement of a program makes: the word and the paths,
+        without numbers and random parts."""
         return ' '.join([self.word, without_numbers(self.path), without_numbers(self.target)])
 
     def is_apart_from(self, other: TraceLine) -> bool:
-        """Whether the lines name no path in common, and none in a directory that the other
-        names: then a program may change their order."""
+        """Whether no path of one line is, or is below, a path of the other: then a program may
+        change their order."""
         return not any(
             one.startswith(two) or two.startswith(one)
-            for one in self.folders
-            for two in other.folders
+            for one in self.paths_with_slash
+            for two in other.paths_with_slash
         )
 
     @property
-    def folders(self) -> List[str]:
-        """The paths, each with a slash at its end."""
+    def paths_with_slash(self) -> List[str]:
+        """The one or two paths of the line, each with a slash at its end."""
         return [path.rstrip('/') + '/' for path in (self.path, self.target) if path]
+
+    def takes_path(self, path: str) -> bool:
+        """Whether a path doesn't name the same file, or directory, after this line as before it:
+        the line renames or removes that or a directory above it, or renames another to the path."""
+        if self.word not in PATH_CHANGES or self.path == self.target:
+            return False
+        return self.target == path or f'{path}/'.startswith(f'{self.path}/')
 
     @property
     def synced_by(self) -> Optional[str]:
@@ -83,15 +99,21 @@ class TraceLine(NamedTuple):
 
 
 def line_in_words(number: int, fields: Dict[str, Any]) -> TraceLine:
-    """A line of an operation, from its fields."""
+    """The line of an operation in words, from its number and its fields."""
     path = fields.get('path', fields.get('from', ''))
     return TraceLine(
-        number, fields['op'], path, fields.get('to', ''), details_of(fields), fields.get('note', '')
+        number,
+        fields['op'],
+        path,
+        target=fields.get('to', ''),
+        details=details_of(fields),
+        note=fields.get('note', ''),
     )
 
 
 def details_of(fields: Dict[str, Any]) -> str:
-    """What a line says in addition to its paths, but no bytes."""
+    """What the fields of an operation say in addition to its paths, but no bytes; empty if there
+    is no more."""
     if fields['op'] == 'say':
         text: str = fields['text']
         return text if len(text) <= LARGEST_SAY else f'{text[:LARGEST_SAY]}..'
@@ -111,3 +133,75 @@ def details_of(fields: Dict[str, Any]) -> str:
         for key in ('mode', 'owner', 'group')
         if key in fields and fields['op'] in ('chmod', 'chown')
     )
+
+
+class TraceText(NamedTuple):
+    """What reports need of a trace that `crashfs` has accepted: the operations in words, by the
+    numbers of their lines, and the acknowledged texts."""
+
+    operations: Dict[int, TraceLine]
+    acknowledged: List[str]
+
+
+def read_text(text: str) -> TraceText:
+    """The operations and acknowledged texts of a trace that `crashfs` has accepted, of any version.
+    Of others TraceError, KeyError or TypeError may come."""
+    operations: Dict[int, TraceLine] = {}
+    acknowledged: List[str] = []
+    for number, fields in fields_of_lines(text.split('\n')):
+        if 'op' in fields:
+            operations[number] = line_in_words(number, fields)
+            if fields['op'] == 'say':
+                acknowledged.append(fields['text'])
+    return TraceText(operations, acknowledged)
+
+
+def trace_version(text: str) -> int:
+    """The version that a trace's header gives; 0 if there is no header, or its version is no
+    number."""
+    try:
+        _, header = next(fields_of_lines(StringIO(text)))
+        version = header['trace']
+    except (TraceError, StopIteration, KeyError, TypeError):
+        return 0
+    return version if isinstance(version, int) else 0
+
+
+def root_owner(lines: Iterable[str]) -> str:
+    """The owner of the root, from the lines of a trace that `crashfs` has accepted: the first one
+    is its header."""
+    _, header = next(fields_of_lines(lines))
+    return str(header['owner'])
+
+
+def with_syncs(text: str, points: Iterable[Tuple[int, str]]) -> str:
+    """The text of a trace with more syncs: each of the points is a line's number, and the path of
+    an fsync that comes after it."""
+    paths: Dict[int, List[str]] = {}
+    for number, path in sorted(points):
+        paths.setdefault(number, []).append(path)
+    lines: List[str] = []
+    for number, line in enumerate(text.split('\n'), 1):
+        syncs = [{'op': 'fsync', 'path': path} for path in paths.get(number, [])]
+        lines += [line, *(json.dumps(sync, ensure_ascii=False) for sync in syncs)]
+    return '\n'.join(lines)
+
+
+def without_says(text: str) -> str:
+    """The text of a trace without its acknowledged lines. TraceError if a line is no JSON."""
+    lines = text.split('\n')
+    says = {number for number, fields in fields_of_lines(lines) if fields.get('op') == 'say'}
+    return '\n'.join(line for number, line in enumerate(lines, 1) if number not in says)
+
+
+def is_large_trace(lines: Iterable[str], most_entries: int, most_bytes: int) -> bool:
+    """Whether a trace has at least so many start lines, or so many bytes in its lines and in the
+    lengths that truncates set. TraceError if a line is no JSON."""
+    entries = size = 0
+    for number, line in enumerate(lines, 1):
+        fields = fields_of_line(number, line) if line.strip(BLANKS) else {}
+        entries += 'start' in fields
+        size += fields['length'] if fields.get('op') == 'truncate' else len(line.encode(*ENCODING))
+        if entries >= most_entries or size >= most_bytes:
+            return True
+    return False

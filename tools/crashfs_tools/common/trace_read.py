@@ -18,9 +18,9 @@ from .trace import (
     StartSymlink,
     Trace,
     TraceError,
+    fields_of_lines,
 )
 from .sparse import SparseBytes
-from .trace_text import fields_of_lines
 from .tree import Tree
 
 VERSIONS = (1, 2, 3, 4)
@@ -34,7 +34,8 @@ def read_trace(text: str) -> Trace:
 
 
 def read_numbered(text: str) -> Tuple[Trace, List[int]]:
-    """Reads a trace's text; returns with it the number of each operation's line."""
+    """Reads a trace's text; returns it, and for each operation the number of its line, from 1. A
+    line that makes no sense is a TraceError."""
     numbers: List[int] = []
     for number, trace in read_lines(text.split('\n')):
         if len(trace.operations) > len(numbers):
@@ -61,13 +62,14 @@ def replay(lines: Iterable[str]) -> Tree:
 
 
 def tree_of(trace: Trace) -> Tree:
-    """The tree of a header."""
+    """The tree of a trace before its start lines: the root."""
     header = trace.header
     return Tree(header.owner, header.group, header.mode, trace.block, trace.version, trace.profile)
 
 
 def read_lines(lines: Iterable[str]) -> Iterator[Tuple[int, Trace]]:
-    """Each line's number, and the trace up to it; a reader may take out what it has."""
+    """Each line's number, and the one trace that grows by it, from the header on: a caller may take
+    out what it has read. A line that makes no sense is a TraceError, and so is no header."""
     trace: Optional[Trace] = None
     for number, fields in fields_of_lines(lines):
         try:
@@ -83,7 +85,8 @@ def read_lines(lines: Iterable[str]) -> Iterator[Tuple[int, Trace]]:
 
 
 def read_header(fields: Dict[str, Any]) -> Trace:
-    """A trace that has a header and nothing else; an error if its version has no such header."""
+    """A trace that has a header and nothing else; ValueError or KeyError if its version has no such
+    header."""
     version = fields['trace']
     header = Header(fields['owner'], fields['group'], int(fields['mode'], 8))
     profile, block = fields.get('profile'), fields.get('block')
@@ -103,12 +106,13 @@ def profiles_of(version: int) -> Tuple[str, ...]:
 
 
 def read_line(trace: Trace, fields: Dict[str, Any]) -> None:
-    """Adds a line to a trace: a start line or an operation."""
+    """Adds a start line or an operation to a trace, from its fields. ValueError, KeyError or
+    TypeError if it is neither, in the trace's version."""
     note = fields.pop('note', None) if trace.version >= 3 else None
-    made = kind_of(fields)
-    if not trace.has_kind(made):
+    kind = type_of_line(fields)
+    if not trace.has_kind(kind):
         raise ValueError(f'{fields} in a trace of version {trace.version}')
-    item: Any = made(**read_values(fields, made, trace.version))
+    item: Any = kind(**read_values(fields, kind, trace.version))
     if 'start' in fields:
         trace.start.append(item)
         return
@@ -117,20 +121,22 @@ def read_line(trace: Trace, fields: Dict[str, Any]) -> None:
     trace.operations.append(item)
 
 
-def kind_of(fields: Dict[str, Any]) -> Type[Any]:
-    """The type of a line."""
+def type_of_line(fields: Dict[str, Any]) -> Type[Any]:
+    """The class of a start line or an operation, from its fields; KeyError for an unknown one."""
     if 'start' in fields:
         return STARTS.get(fields['start'], Start)
     return KINDS[fields['op']]
 
 
-def read_values(fields: Dict[str, Any], made: Type[Any], version: int) -> Dict[str, Any]:
-    """The values of a line, by the names of its type's fields."""
-    return {part.name: read_value(part.name, fields, version) for part in dataclasses.fields(made)}
+def read_values(fields: Dict[str, Any], kind: Type[Any], version: int) -> Dict[str, Any]:
+    """The values of a line for the fields of its class, by their names. ValueError, KeyError or
+    TypeError for a value that isn't there, or is of another kind."""
+    return {part.name: read_value(part.name, fields, version) for part in dataclasses.fields(kind)}
 
 
 def read_value(name: str, fields: Dict[str, Any], version: int) -> Any:
-    """One value of a line, as its type has it."""
+    """The value that a line has for a field of its class; KeyError if it has none, ValueError if it
+    is no value for it."""
     if name == 'data':
         if fields.get('start') == 'dir':
             return None
@@ -143,6 +149,6 @@ def read_value(name: str, fields: Dict[str, Any], version: int) -> Any:
 
 
 def read_bytes(fields: Dict[str, Any], version: int) -> bytes:
-    """The bytes of a line, which may be written as text."""
+    """The bytes of a line or a part, which are written as `bytes`, or as `text` since version 3."""
     is_text = version >= 3 and 'bytes' not in fields
     return str(fields['text']).encode() if is_text else bytes.fromhex(fields['bytes'])

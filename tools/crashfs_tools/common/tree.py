@@ -34,7 +34,7 @@ from .trace import (
 
 
 def path_fault(path: str) -> Optional[str]:
-    """Why a trace can't have this path, or None."""
+    """Why a trace can't have this path, in words, or None."""
     names = path.split('/')[1:]
     if len(names) > limits.PATH_NAMES:
         return f'a path of more than {limits.PATH_NAMES} names'
@@ -74,11 +74,11 @@ class Tree:
         return self.steps_of_all + (self.steps_of_version_4 if self.version >= 4 else 0)
 
     def add_start(self, entry: StartLine) -> None:
-        """Adds what a start line says."""
+        """Adds the file, directory or link of a start line, whose parent must be there."""
         if isinstance(entry, StartLink):
             self.add_link(entry.source, entry.path)
         elif isinstance(entry, StartSymlink):
-            self.add_new(entry.path, symlink_of(entry))
+            self.add_new(entry.path, symlink_entry(entry))
         else:
             data = entry.data.copy() if isinstance(entry.data, SparseBytes) else entry.data
             self.add_new(entry.path, Entry(entry.owner, entry.group, entry.mode, data))
@@ -89,7 +89,7 @@ class Tree:
         self.records += 1
 
     def add_link(self, source: str, target: str) -> None:
-        """Gives a file another path."""
+        """Gives a file another path, which must be free."""
         self.entries[target], self.files[target] = self.entries[source], self.files[source]
         self.records += 1
 
@@ -114,7 +114,7 @@ class Tree:
         return None
 
     def new_fault(self, path: str) -> Optional[str]:
-        """Why nothing can be made at a path."""
+        """Why nothing can be made at a path; None, here and below, if it can."""
         parent = self.entries.get(parent_of(path))
         if parent is None or not parent.is_directory:
             return f'{parent_of(path)} is no directory of the trace'
@@ -125,29 +125,30 @@ class Tree:
         return path_fault(path)
 
     def unlink_fault(self, path: str) -> Optional[str]:
-        """Why a path can't be unlinked."""
+        """Why a path can't be unlinked: nothing is there, or a directory."""
         entry = self.entries.get(path)
         if entry is None:
             return f'{path} is not there'
         return f'{path} is a directory' if entry.is_directory else None
 
     def file_fault(self, path: str) -> Optional[str]:
-        """Why a path is no file that has bytes."""
+        """Why a path isn't that of a file, which has bytes; None if it is."""
         return self.unlink_fault(path) or self.link_fault(path)
 
     def rights_fault(self, operation: Union[Chmod, Chown, Fsync]) -> Optional[str]:
-        """Why an operation can't change or sync the rights of a path."""
+        """Why an operation can't change or sync the rights of its path; None if it can."""
         if operation.path not in self.entries:
             return f'{operation.path} is not there'
         return None if isinstance(operation, Chown) else self.link_fault(operation.path)
 
     def link_fault(self, path: str) -> Optional[str]:
-        """Why an operation that follows symbolic links isn't on this path."""
+        """Why an operation that follows symbolic links can't be on a path that is there: one is
+        there. None if it can."""
         is_link = self.entries[path].link is not None
         return f'{path} is a symbolic link' if is_link else None
 
     def rename_fault(self, operation: Rename) -> Optional[str]:
-        """Why a rename can't be in the trace."""
+        """Why the trace can't have a rename here; None if it can."""
         source, target = operation.source, operation.target
         moved, replaced = self.entries.get(source), self.entries.get(target)
         parent = self.entries.get(parent_of(target))
@@ -163,7 +164,7 @@ class Tree:
         return fault or self.records_fault(operation) or path_fault(target)
 
     def directory_fault(self, source: str, target: str) -> Optional[str]:
-        """Why a directory can't be renamed so."""
+        """Why a directory can't be renamed from `source` to `target`; None if it can."""
         if self.version < 4:
             return f'{source} is a directory'
         if target == source or target not in self.entries:
@@ -173,7 +174,8 @@ class Tree:
         return self.rmdir_fault(target)
 
     def records_fault(self, operation: Rename) -> Optional[str]:
-        """Why there is no room for a rename, which counts if it goes into another directory."""
+        """Why there is no room for a rename, which counts as a record if it goes into another
+        directory; None if there is."""
         is_counted = self.version >= 4 and self.changes_directory(operation)
         if is_counted and self.records >= limits.RECORDS:
             return f'more than {limits.RECORDS} files and directories'
@@ -187,7 +189,7 @@ class Tree:
         return parent_of(source) != parent_of(target) and not is_nothing
 
     def rmdir_fault(self, path: str) -> Optional[str]:
-        """Why a path is no empty directory."""
+        """Why a path isn't that of an empty directory; None if it is."""
         entry = self.entries.get(path)
         if entry is None or not entry.is_directory:
             return f'{path} is no directory of the trace'
@@ -196,8 +198,8 @@ class Tree:
         return f'{path} has entries' if full else None
 
     def size_fault(self, operation: Operation) -> Optional[str]:
-        """Why a file can't get the size that an operation gives it."""
-        end, most = 0, limits.file_bytes(self.version)
+        """Why a file can't get the size that an operation gives it; None if it can."""
+        end, most = 0, limits.most_file_bytes(self.version)
         if isinstance(operation, Write):
             end = operation.offset + len(operation.data) if operation.data else 0
         elif isinstance(operation, Truncate):
@@ -207,13 +209,13 @@ class Tree:
     # What an operation does
 
     def apply(self, operation: Operation) -> None:
-        """Does an operation that has no fault."""
+        """Does an operation, for which fault() must be None, and counts its micro-operations."""
         if isinstance(operation, (Creat, Mkdir)):
             data = b'' if isinstance(operation, Creat) else None
             entry = Entry(operation.owner, operation.group, operation.mode, data)
             self.add_new(operation.path, entry)
         elif isinstance(operation, Symlink):
-            self.add_new(operation.path, symlink_of(operation))
+            self.add_new(operation.path, symlink_entry(operation))
         elif isinstance(operation, (Unlink, Rmdir)):
             del self.entries[operation.path], self.files[operation.path]
         elif isinstance(operation, Link):
@@ -273,11 +275,12 @@ class Tree:
         return int(size != length)
 
     def count_blocks(self, begin: int, end: int) -> int:
-        """How many blocks have bytes from a place of a file to another."""
+        """How many blocks have bytes of a range that isn't empty."""
         return (end - 1) // self.block - begin // self.block + 1
 
     def set_rights(self, operation: Union[Chmod, Chown]) -> int:
-        """Sets a mode or owners; returns 1, for a micro-operation, if they were others before."""
+        """Sets a mode or an owner and group. Returns how many micro-operations that is: 1, or 0 if
+        they were so before."""
         entry = self.entries[operation.path]
         before = entry.owner, entry.group, entry.mode
         if isinstance(operation, Chmod):
@@ -287,25 +290,26 @@ class Tree:
         return int((entry.owner, entry.group, entry.mode) != before)
 
 
-def symlink_of(made: Union[Symlink, StartSymlink]) -> Entry:
-    """The entry of a symbolic link, which has all rights."""
+def symlink_entry(made: Union[Symlink, StartSymlink]) -> Entry:
+    """The entry of a symbolic link; its mode is 777, as the system shows it."""
     return Entry(made.owner, made.group, 0o777, None, made.link)
 
 
 def page_end(length: int) -> int:
-    """The end of the page in which a length is; the length if it is at a page's end."""
+    """The end of the page in which a file of this length ends: the length itself if it is whole
+    pages."""
     return -(-length // limits.PAGE_BYTES) * limits.PAGE_BYTES
 
 
 def grows_past_page(size: int, end: int) -> bool:
-    """Whether a write up to an end gives a file of a size two sizes in version 4: first that of the
-    page that it has in part."""
+    """Whether a write up to `end` gives a file of this size two new sizes in version 4: first the
+    end of its last page, which it has in part, and then its own end."""
     return size < page_end(size) < end
 
 
 def start_lines(entries: Entries, files: Dict[str, int]) -> Tuple[Header, List[StartLine]]:
-    """The header and the start lines of a tree. files has one number for all paths of a file; its
-    first path has the file's line, the others are links to it."""
+    """The header and the start lines of a tree, each after its directory. files has one number for
+    all paths of a file; its first path has the file's line, the others are links to it."""
     root = entries['/']
     firsts: Dict[int, str] = {}
     lines: List[StartLine] = []
@@ -317,19 +321,13 @@ def start_lines(entries: Entries, files: Dict[str, int]) -> Tuple[Header, List[S
         elif entry.link is not None:
             lines.append(StartSymlink(path, entry.owner, entry.group, entry.link))
         else:
-            lines.append(Start(path, entry.owner, entry.group, entry.mode, data_of(entry)))
+            lines.append(Start(path, entry.owner, entry.group, entry.mode, copied_bytes(entry)))
     return Header(root.owner, root.group, root.mode), lines
 
 
-def data_of(entry: Entry) -> Union[bytes, SparseBytes, None]:
-    """The bytes of a file as they are now, whatever is done to it later; of a large one those that
-    aren't zeros."""
+def copied_bytes(entry: Entry) -> Union[bytes, SparseBytes, None]:
+    """A copy of the bytes of a file, which later operations don't change; None for a directory. Of
+    a large file it is without pages of zeros."""
     if isinstance(entry.data, SparseBytes) or len(entry.data or b'') >= LARGE_BYTES:
-        return SparseBytes.of(entry.data or b'')
+        return SparseBytes.copy_of(entry.data or b'')
     return None if entry.data is None else bytes(entry.data)
-
-
-def resize(data: bytearray, length: int) -> None:
-    """Cuts the bytes, or adds zeros."""
-    del data[length:]
-    data.extend(bytes(length - len(data)))

@@ -7,6 +7,7 @@ mounted again, so that its log is replayed.
 from __future__ import annotations
 
 import os
+from pathlib import Path
 from typing import Iterator, List, Sequence, Tuple
 
 from crashfs_tools.common.entry import Entries
@@ -15,7 +16,7 @@ from crashfs_tools.common.trace import Trace
 from . import images
 from .disk import Crash, read_tree
 from .filesystems import FileSystem
-from .levers import Lever, Pull, pull, pulls
+from .levers import Lever, Pull, Unsynced, pull, pulls, write_earlier
 from .moments import Moment, moments
 from .owners import Owners
 from .replay import Replay, lay_out_start
@@ -25,7 +26,8 @@ DIRECTORY, OTHER = 'd', 'other'
 
 
 class CrashMaker:
-    """One file system, and a folder for its images; mounts are those of this process."""
+    """Crashes a session on one file system. folder is for its images and mount points. The process
+    that calls it has mounts of its own: see own_mounts."""
 
     def __init__(self, filesystem: FileSystem, trace: Trace, folder: str) -> None:
         self.filesystem = filesystem
@@ -33,50 +35,63 @@ class CrashMaker:
         self.owners = Owners(trace)
         self.folder = folder
 
-    def file(self, name: str) -> str:
-        """A file or directory that only this process uses."""
+    def own_path(self, name: str) -> str:
+        """The path of an image or a mount point in the folder, which no other process uses."""
         return os.path.join(self.folder, f'{self.filesystem.name}.{name}.{os.getpid()}')
 
-    def template(self) -> str:
-        """The image with the start tree that each crash begins from. Each process makes one: no two
-        that are mounted at once may have one identity."""
-        template = self.file('template')
-        if not os.path.exists(template):
-            images.make(self.filesystem, template)
-            with images.mounted(self.filesystem, template, self.file('point')) as top:
+    def start_image(self) -> str:
+        """The path of the image that has the start tree; the first call in a process makes it.
+        Processes can't share one: XFS and btrfs mount no two images of one identity at once."""
+        image = self.own_path('start')
+        if not os.path.exists(image):
+            images.make_image(self.filesystem, image)
+            with images.mounted(self.filesystem, image, self.own_path('point')) as top:
                 lay_out_start(self.trace, os.path.join(top, DIRECTORY), self.owners)
-            images.dig_holes(template)
-        return template
+            images.dig_holes(image)
+        return image
 
     def moments(self) -> List[Moment]:
-        return list(moments(self.trace.operations, len(self.trace.start) + 2))
+        """The moments of the session at which it may crash, from the start to the end."""
+        first_line = len(self.trace.start) + 2
+        return list(moments(self.trace.operations, first_line))
 
     def crashes(self, moment: Moment, levers: Sequence[Lever]) -> Iterator[Tuple[Entries, Crash]]:
-        """The trees that crashes at a moment leave, one for each lever and file."""
-        unsynced = self.replay(moment, Pull(Lever.NOTHING))
+        """The trees that crashes at a moment leave, one for each pull of the levers. The session is
+        made again for each. Without a lever it is always made, since that finds the changes that no
+        sync covers; its tree is among those returned only if NOTHING is among the levers."""
+        unsynced = self.crash(moment, Pull(Lever.NOTHING))
         if Lever.NOTHING in levers:
-            yield self.tree(), Crash(moment, Lever.NOTHING)
+            yield self.tree_after_crash(), Crash(moment, Lever.NOTHING)
         for lever in levers:
-            for one in pulls(lever, unsynced) if lever is not Lever.NOTHING else ():
-                self.replay(moment, one)
-                yield self.tree(), Crash(moment, lever)
+            for one in pulls(lever, unsynced, moment.done) if lever is not Lever.NOTHING else ():
+                self.crash(moment, one)
+                yield self.tree_after_crash(), Crash(moment, lever)
 
-    def replay(self, moment: Moment, one: Pull) -> int:
-        """Makes the session up to a moment, pulls a lever and copies the disk; returns how many
-        files had unsynced bytes."""
-        disk = self.file('disk')
-        images.copy(self.template(), disk)
-        with images.mounted(self.filesystem, disk, self.file('point')) as top:
+    def crash(self, moment: Moment, one: Pull) -> Unsynced:
+        """Makes the session up to a moment, pulls a lever, and copies the disk while it is mounted:
+        the copy is what the crash leaves. Returns the changes that no sync covered before the
+        pull."""
+        disk = self.own_path('disk')
+        images.copy_image(self.start_image(), disk)
+        with images.mounted(self.filesystem, disk, self.own_path('point')) as top:
             with Replay(os.path.join(top, DIRECTORY), self.owners) as replay:
                 for operation in self.trace.operations[: moment.done]:
                     replay.do(operation)
-                unsynced = len(replay.unsynced)
+                    write_earlier(replay, one)
+                unsynced = list(replay.unsynced.values())
                 pull(replay, one, os.path.join(top, OTHER))
-                images.copy(disk, self.file('copy'))
+                images.copy_image(disk, self.own_path('copy'))
         return unsynced
 
-    def tree(self) -> Entries:
-        """What is there after the crash."""
-        images.repair(self.filesystem, self.file('copy'))
-        with images.mounted(self.filesystem, self.file('copy'), self.file('point')) as top:
+    def tree_after_crash(self) -> Entries:
+        """The session's directory on the copy that the last crash left. The mount replays the file
+        system's log."""
+        copy = self.own_path('copy')
+        images.repair_image(self.filesystem, copy)
+        with images.mounted(self.filesystem, copy, self.own_path('point')) as top:
             return read_tree(os.path.join(top, DIRECTORY), self.owners)
+
+    def remove_images(self) -> None:
+        """Removes the images of this process, those that it has made."""
+        for name in ('start', 'disk', 'copy'):
+            Path(self.own_path(name)).unlink(missing_ok=True)

@@ -1,4 +1,4 @@
-"""The files that are on a disk after a crash."""
+"""Trees that are on disks after crashes: read, compared by a digest, and each kept once."""
 
 from __future__ import annotations
 
@@ -31,32 +31,32 @@ class Crash(NamedTuple):
 
 @dataclass
 class Disk:
-    """A tree that was on disks of a file system, with the crashes that left it."""
+    """A tree that was on disks of a file system, its digest, and the crashes that left it."""
 
     tree: Entries
     digest: str
     crashes: List[Crash]
 
     @property
-    def says(self) -> List[int]:
-        """The numbers of lines that may be acknowledged with it."""
-        found = {
-            says for one in self.crashes for says in range(one.moment.least, one.moment.most + 1)
-        }
-        return sorted(found)
+    def line_counts(self) -> List[int]:
+        """How many lines may be acknowledged when the disk has this tree: each number that one of
+        its crashes allows, in ascending order."""
+        return sorted({count for one in self.crashes for count in one.moment.line_counts})
 
 
 def read_tree(top: str, owners: Owners) -> Entries:
-    """The tree below a directory, with the directory itself as `/`."""
-    tree: Entries = {'/': entry_of(top, owners)}
+    """Reads the tree below a directory, which is `/` in it, in the order of paths. No symbolic link
+    is followed."""
+    tree: Entries = {'/': read_entry(top, owners)}
     for here, names, files in os.walk(top):
         base = here[len(top) :]
         for name in [*names, *files]:
-            tree[f'{base}/{name}'] = entry_of(os.path.join(here, name), owners)
+            tree[f'{base}/{name}'] = read_entry(os.path.join(here, name), owners)
     return dict(sorted(tree.items()))
 
 
-def entry_of(path: str, owners: Owners) -> Entry:
+def read_entry(path: str, owners: Owners) -> Entry:
+    """Reads a directory, a file with its bytes, or a symbolic link with its text."""
     status = os.lstat(path)
     user, group = owners.users.name(status.st_uid), owners.groups.name(status.st_gid)
     entry = Entry(user, group, status.st_mode & 0o777, None)
@@ -72,16 +72,20 @@ def entry_of(path: str, owners: Owners) -> Entry:
 
 
 def digest_of(tree: Entries) -> str:
-    """Equal trees have equal digests, and others do not."""
+    """Equal trees have equal digests, in whatever order their paths are and however their bytes are
+    kept; others do not."""
     digest = hashlib.sha256()
     for path in sorted(tree):
-        for piece in pieces_of(path, tree[path]):
+        for piece in digested_pieces(path, tree[path]):
             digest.update(len(piece).to_bytes(8, 'little'))
             digest.update(piece)
     return digest.hexdigest()
 
 
-def pieces_of(path: str, entry: Entry) -> Iterator[bytes]:
+def digested_pieces(path: str, entry: Entry) -> Iterator[bytes]:
+    """What a digest has of one entry: its path, its rights and its content. A letter says whether
+    that is a link's text, a file's bytes or a large file's pages. Of these only pages with data are
+    given, with their numbers, since zeros may be kept as holes or not."""
     yield os.fsencode(path)
     yield f'{entry.owner}\0{entry.group}\0{entry.mode:o}'.encode('utf-8', 'surrogateescape')
     if entry.link is not None:
@@ -92,12 +96,13 @@ def pieces_of(path: str, entry: Entry) -> Iterator[bytes]:
         yield b'f' + bytes(entry.data)
     else:
         yield f's{len(entry.data)}'.encode()
-        for number, page in sorted(SparseBytes.of(entry.data).data_pages()):
+        for number, page in sorted(SparseBytes.copy_of(entry.data).data_pages()):
             yield number.to_bytes(8, 'little') + page
 
 
 def different_disks(found: Iterator[Tuple[Entries, Crash]]) -> List[Disk]:
-    """The different trees, each with all crashes that left it, in the order of the first one."""
+    """The different trees that crashes left, each with all its crashes. Trees are in the order of
+    their first crashes, and crashes in that of `found`."""
     disks: Dict[str, Disk] = {}
     for tree, crash in found:
         digest = digest_of(tree)

@@ -12,6 +12,7 @@ from crashfs_tools.common.sparse import PAGE_BYTES, SparseBytes
 from crashfs_tools.common.trace import Start, StartLine, Trace, Write
 
 from .loops import LOOP_CONTROL
+from .own_mounts import missing_own_mounts
 
 MEBIBYTE = 1 << 20
 # So many images of each file system a process has at once: the start, the disk, and its copy.
@@ -24,8 +25,11 @@ LAZY = ('-E', 'lazy_itable_init=0,lazy_journal_init=0')
 
 @dataclass(frozen=True)
 class FileSystem:
-    """How a file system is made and mounted. name is that of --disks, size the image's bytes.
-    repair is the command without which it can't be mounted after a crash."""
+    """How a file system is made and mounted. name is that of --disks. program makes it, `mkfs.` and
+    its type, with words before the image's path; size is the image's in bytes. options are the data
+    that mount(2) passes to it: those of all file systems, such as `ro`, are flags, and refused.
+    repair is the command that must be run on an image before it can be mounted after a crash, if it
+    has no log."""
 
     name: str
     program: str
@@ -36,60 +40,63 @@ class FileSystem:
 
     @property
     def kind(self) -> str:
-        """The type that `mount` is given."""
+        """The type that mount(2) is given."""
         return self.program.partition('.')[2]
 
 
 EXT4 = FileSystem('ext4', 'mkfs.ext4', (*EXT_BLOCKS, '-J', 'size=4', *LAZY), 24 * MEBIBYTE)
 
 
-def ext4(name: str, options: str) -> FileSystem:
+def ext4_with(name: str, options: str) -> FileSystem:
+    """ext4 with options of its own, as mount(2) passes them, under another name."""
     return FileSystem(name, EXT4.program, EXT4.words, EXT4.size, options)
 
 
+# The file systems of --disks, by name.
 KNOWN: Dict[str, FileSystem] = {
     one.name: one
     for one in (
         EXT4,
-        ext4('ext4-writeback', 'data=writeback'),
-        ext4('ext4-nodelalloc', 'nodelalloc'),
+        ext4_with('ext4-writeback', 'data=writeback'),
+        ext4_with('ext4-nodelalloc', 'nodelalloc'),
         FileSystem('ext2', 'mkfs.ext2', EXT_BLOCKS, 24 * MEBIBYTE, repair=('e2fsck', '-f', '-y')),
         FileSystem('xfs', 'mkfs.xfs', ('-q', '-f'), 320 * MEBIBYTE),
         FileSystem('btrfs', 'mkfs.btrfs', ('-q', '-f'), 120 * MEBIBYTE),
         FileSystem('f2fs', 'mkfs.f2fs', ('-q', '-f'), 64 * MEBIBYTE),
     )
 }
-
-
 # An image of the usual size has room for so many bytes of a session.
 USUAL_BYTES = 8 * MEBIBYTE
 
 
 def with_room(filesystem: FileSystem, size: int) -> FileSystem:
-    """A file system whose images have room for a session that writes so many bytes."""
+    """The file system with images that have room for a session that writes so many bytes: two bytes
+    for each that is too many for the usual size, in whole MiB, since a file system may keep the old
+    bytes of a file until the new ones are committed."""
     more = max(0, size - USUAL_BYTES)
     return replace(filesystem, size=filesystem.size + -(-2 * more // MEBIBYTE) * MEBIBYTE)
 
 
 def bytes_written(trace: Trace) -> int:
-    """How many bytes the files of a session take at most: those of the start tree, and what is
-    written, by whole pages."""
-    sizes = [len(run) for line in trace.start for run in runs_of(line)]
+    """How many bytes the files of a session take at most: the start tree's and each write's. Each
+    run of bytes is counted with two pages more, in which it may begin and end."""
+    sizes = [len(run) for line in trace.start for run in start_runs(line)]
     sizes += [len(one.data) for one in trace.operations if isinstance(one, Write)]
     return sum(size + 2 * PAGE_BYTES for size in sizes)
 
 
-def runs_of(line: StartLine) -> List[bytes]:
-    """What a start line gives a file that isn't a hole."""
+def start_runs(line: StartLine) -> List[bytes]:
+    """The bytes of a start line's file, without its holes; none if it is no file."""
     if not isinstance(line, Start) or line.data is None:
         return []
     if isinstance(line.data, SparseBytes):
-        return [run for _, run in line.data.runs()]
+        return [run for _, run in line.data.page_runs()]
     return [line.data]
 
 
 def filesystems_of(names: Sequence[str]) -> List[FileSystem]:
-    """The file systems of some names, each once; Refused if one isn't known."""
+    """The file systems that --disks names, each once, in the order of the names. Refused if one
+    isn't known."""
     unknown = [name for name in names if name not in KNOWN]
     if unknown:
         raise Refused(f'--disks {unknown[0]}: no such file system (known: {", ".join(KNOWN)})')
@@ -104,9 +111,13 @@ def require_filesystems(names: Sequence[str]) -> None:
 
 
 def missing_requirement(filesystems: Sequence[FileSystem]) -> Optional[str]:
-    """What --disks needs and this machine or user doesn't have; None if nothing is missing."""
+    """The first thing that these file systems need and that this machine or user doesn't have; None
+    if nothing is missing."""
     if os.geteuid() != 0:
         return 'it needs root, to make and mount disk images'
+    mounts = missing_own_mounts()
+    if mounts is not None:
+        return mounts
     if not os.path.exists(LOOP_CONTROL):
         return f'it needs loop devices ({LOOP_CONTROL} is missing)'
     for one in filesystems:

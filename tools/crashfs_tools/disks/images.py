@@ -1,4 +1,4 @@
-"""Disk images: made once, copied, and mounted where nobody else sees them."""
+"""Disk images: made once, copied, repaired and mounted."""
 
 from __future__ import annotations
 
@@ -16,8 +16,6 @@ from crashfs_tools.common.file_bytes import data_ranges
 from .filesystems import FileSystem
 from .loops import attached
 
-CLONE_NEWNS = 0x00020000
-MS_REC, MS_PRIVATE = 0x4000, 0x40000
 UMOUNT_TRIES, UMOUNT_SECONDS = 50, 0.05
 PIECE_BYTES = 1 << 20
 # The highest status of e2fsck after which the file system can be mounted.
@@ -26,29 +24,25 @@ REPAIRED = 3
 libc = ctypes.CDLL(None, use_errno=True)
 
 
-def leave_mounts() -> None:
-    """From here on mounts of this process are its own: they are gone when it has ended, however it
-    ends."""
-    if libc.unshare(CLONE_NEWNS) or libc.mount(None, b'/', None, MS_REC | MS_PRIVATE, None):
-        raise Refused(f'--disks: {os.strerror(ctypes.get_errno())}')
-
-
-def make(filesystem: FileSystem, image: str) -> None:
-    """Makes an empty file system in a new image."""
+def make_image(filesystem: FileSystem, image: str) -> None:
+    """Makes an empty file system in a new image. FileExistsError if there is one; Refused if the
+    file system's program fails."""
     with open(image, 'xb') as file:
         file.truncate(filesystem.size)
-    run([filesystem.program, *filesystem.words, image])
+    run_program([filesystem.program, *filesystem.words, image])
 
 
 def dig_holes(image: str) -> None:
-    """Makes holes of the zeros in an image, such as those of a new log: copies are faster."""
-    run(['fallocate', '--dig-holes', image])
+    """Makes holes of the zeros in an image, such as those of a new log. It has the same bytes, and
+    copies are faster."""
+    run_program(['fallocate', '--dig-holes', image])
 
 
 @contextmanager
 def mounted(filesystem: FileSystem, image: str, point: str) -> Iterator[str]:
-    """Within this an image is mounted at a directory. The loop device is free again when it is
-    unmounted."""
+    """Within this an image is mounted at a directory, which is made if it isn't there; it has the
+    directory's path. The mount keeps the loop device, which is free again when it is unmounted.
+    Refused if the image can't be mounted."""
     os.makedirs(point, exist_ok=True)
     with attached(image) as device:
         mount(filesystem, device, point)
@@ -59,7 +53,8 @@ def mounted(filesystem: FileSystem, image: str, point: str) -> Iterator[str]:
 
 
 def mount(filesystem: FileSystem, device: str, point: str) -> None:
-    """Mounts by the system call: the program `mount` takes four times as long."""
+    """Mounts a device with the file system's options; Refused if it can't be mounted. It is the
+    system call: the program `mount` takes four times as long."""
     words = [os.fsencode(word) for word in (device, point, filesystem.kind, filesystem.options)]
     if libc.mount(*words[:3], 0, words[3]):
         why = os.strerror(ctypes.get_errno())
@@ -67,7 +62,8 @@ def mount(filesystem: FileSystem, device: str, point: str) -> None:
 
 
 def unmount(point: str) -> None:
-    """Unmounts; again if it is still in use, as it is for a moment."""
+    """Unmounts what is mounted at a directory. The kernel may use it for a moment longer, so it is
+    tried again for some seconds; OSError if it is in use even then."""
     for _ in range(UMOUNT_TRIES):
         if libc.umount2(os.fsencode(point), 0) == 0:
             return
@@ -77,8 +73,8 @@ def unmount(point: str) -> None:
     raise OSError(ctypes.get_errno(), os.strerror(ctypes.get_errno()), point)
 
 
-def copy(source: str, target: str) -> None:
-    """Copies an image; holes stay holes."""
+def copy_image(source: str, target: str) -> None:
+    """Copies an image to a path, and replaces what is there. Holes stay holes."""
     with open(source, 'rb') as old, open(target, 'wb') as new:
         size = os.fstat(old.fileno()).st_size
         new.truncate(size)
@@ -91,14 +87,16 @@ def copy(source: str, target: str) -> None:
                 )
 
 
-def repair(filesystem: FileSystem, image: str) -> None:
-    """Repairs a file system that can't replay a log; 1 means that it was repaired."""
+def repair_image(filesystem: FileSystem, image: str) -> None:
+    """Repairs an image of a file system without a log, which can't be mounted after a crash; does
+    nothing if it has one, which the mount replays. Refused if it can't be repaired."""
     if filesystem.repair:
-        run([*filesystem.repair, image], most=REPAIRED)
+        run_program([*filesystem.repair, image], highest_status=REPAIRED)
 
 
-def run(words: Sequence[str], most: int = 0) -> None:
-    """Runs a program; Refused with what it printed first if its status is above `most`."""
+def run_program(words: Sequence[str], highest_status: int = 0) -> None:
+    """Runs a program to its end. Refused, with the first line that it printed, if its status is
+    above the highest one or a signal has ended it."""
     done = subprocess.run(
         words,
         stdin=subprocess.DEVNULL,
@@ -106,7 +104,7 @@ def run(words: Sequence[str], most: int = 0) -> None:
         stderr=subprocess.STDOUT,
         check=False,
     )
-    if not 0 <= done.returncode <= most:
+    if not 0 <= done.returncode <= highest_status:
         printed = done.stdout.decode('utf-8', 'replace').strip().splitlines()
         first = printed[0] if printed else f'it failed with status {done.returncode}'
         raise Refused(f'--disks: {words[0]}: {first}')

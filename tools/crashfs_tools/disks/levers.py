@@ -4,9 +4,15 @@ from __future__ import annotations
 
 import os
 from enum import Enum
-from typing import Iterator, NamedTuple, Optional
+from typing import Iterator, List, NamedTuple, Optional, Sequence
 
-from .replay import Replay, sync_directory
+from .replay import UnsyncedChange, Replay, sync_directory
+
+# At most so many earlier changes are tried at a moment: the last ones.
+MOST_EARLIER = 8
+
+# The changes of each file that no sync covers, in their order.
+Unsynced = Sequence[Sequence[UnsyncedChange]]
 
 
 class Lever(Enum):
@@ -18,6 +24,7 @@ class Lever(Enum):
     BOTH = 'the bytes of all files and the log written'
     ONE = 'the bytes of one file and the log written'
     DIRECTORY = 'the directory synced'
+    EARLIER = 'the bytes of one file written earlier, then those of the others'
 
     @property
     def rank(self) -> int:
@@ -26,28 +33,47 @@ class Lever(Enum):
 
 
 class Pull(NamedTuple):
-    """A lever; for ONE also the file's place among those with unsynced bytes."""
+    """A lever; for ONE also the file's place among those with unsynced bytes, and for EARLIER the
+    change after which its file is written."""
 
     lever: Lever
     place: Optional[int] = None
+    change: Optional[UnsyncedChange] = None
 
 
-def pulls(lever: Lever, unsynced: int) -> Iterator[Pull]:
-    """A lever as often as it makes sense with so many files that have unsynced bytes."""
+def pulls(lever: Lever, unsynced: Unsynced, done: int) -> Iterator[Pull]:
+    """The pulls of a lever that can write something which no other pull does, if so many operations
+    are done. ONE is pulled for each of several files; for a single one it would be BOTH."""
     if lever is Lever.ONE:
-        yield from (Pull(lever, place) for place in range(unsynced) if unsynced > 1)
+        yield from (Pull(lever, place) for place in range(len(unsynced)) if len(unsynced) > 1)
+    elif lever is Lever.EARLIER:
+        yield from (Pull(lever, change=one) for one in earlier_changes(unsynced, done))
     elif unsynced or lever not in (Lever.BYTES, Lever.BOTH):
         yield Pull(lever)
 
 
+def earlier_changes(unsynced: Unsynced, done: int) -> List[UnsyncedChange]:
+    """The changes after which a file may have been written, but not after its last one: those of
+    the files that the last operation did not change. There are none if it changed no file, since
+    the others then have no new bytes."""
+    if not any(changes[-1].done == done for changes in unsynced):
+        return []
+    others = [changes for changes in unsynced if changes[-1].done != done]
+    return sorted(one for changes in others for one in changes[:-1])[-MOST_EARLIER:]
+
+
+def write_earlier(replay: Replay, one: Pull) -> None:
+    """Makes the kernel write the file of a pull of EARLIER, if its change is the last operation."""
+    if one.change is not None and one.change.done == replay.done:
+        replay.write_back(replay.inode(one.change.path))
+
+
 def pull(replay: Replay, one: Pull, other: str) -> None:
-    """Moves what the kernel has to the disk. other is the path of a file outside the session's
-    directory, whose fsync writes the log."""
-    lever, files = one.lever, list(replay.unsynced)
-    if one.place is not None:
-        files = files[one.place : one.place + 1]
-    if lever in (Lever.BYTES, Lever.BOTH, Lever.ONE):
-        for inode in files:
+    """Makes the kernel write what a pull says. other is the path of a file that isn't the session's
+    on the same file system: its fsync writes the log."""
+    lever = one.lever
+    if lever in (Lever.BYTES, Lever.BOTH, Lever.ONE, Lever.EARLIER):
+        for inode in files_to_write(replay, one):
             replay.write_back(inode)
     if lever in (Lever.LOG, Lever.BOTH, Lever.ONE):
         write_log(other)
@@ -55,7 +81,16 @@ def pull(replay: Replay, one: Pull, other: str) -> None:
         sync_directory(replay.top)
 
 
+def files_to_write(replay: Replay, one: Pull) -> List[int]:
+    """The inodes of the files whose bytes a pull writes: those with unsynced bytes, of which ONE
+    takes one and EARLIER all but the one that was written before."""
+    files = [inode for inode, changes in replay.unsynced.items() if one.change not in changes]
+    return files if one.place is None else files[one.place : one.place + 1]
+
+
 def write_log(other: str) -> None:
+    """Makes the file system write its log, by a change and an fsync of a file; makes the file if it
+    isn't there."""
     descriptor = os.open(other, os.O_RDWR | os.O_CREAT | os.O_CLOEXEC, 0o600)
     try:
         os.pwrite(descriptor, os.urandom(8), 0)

@@ -7,7 +7,7 @@ import fcntl
 import os
 import struct
 from contextlib import contextmanager
-from typing import Iterator, Tuple
+from typing import Iterator, Optional, Tuple
 
 from crashfs_tools.common.command import Refused
 
@@ -25,39 +25,41 @@ TRIES = 100
 
 @contextmanager
 def attached(image: str) -> Iterator[str]:
-    """Within this the path is that of a loop device with an image. It stays one for as long as it
-    is mounted."""
-    descriptor, path = attach(image)
+    """Within this an image is a loop device; it has the device's path. If the device is mounted
+    meanwhile, it has the image until it is unmounted. Refused if no device is free."""
+    descriptor, path = open_loop_device(image)
     try:
         yield path
     finally:
         os.close(descriptor)
 
 
-def attach(image: str) -> Tuple[int, str]:
-    """Opens a loop device with an image, and returns its descriptor and path."""
+def open_loop_device(image: str) -> Tuple[int, str]:
+    """Opens a free loop device and gives it an image; returns its descriptor and its path. Refused
+    if none is free."""
     control = os.open(LOOP_CONTROL, os.O_RDWR | os.O_CLOEXEC)
     file = os.open(image, os.O_RDWR | os.O_CLOEXEC)
     try:
         for _ in range(TRIES):
             path = f'/dev/loop{fcntl.ioctl(control, LOOP_CTL_GET_FREE)}'
-            device = os.open(path, os.O_RDWR | os.O_CLOEXEC)
-            if is_configured(device, file):
+            device = open_with_file(path, file)
+            if device is not None:
                 return device, path
-            os.close(device)
     finally:
         os.close(control)
         os.close(file)
     raise Refused('--disks: no loop device is free')
 
 
-def is_configured(device: int, file: int) -> bool:
-    """Gives a device a file; False if another process was first."""
+def open_with_file(path: str, file: int) -> Optional[int]:
+    """Opens a loop device and gives it an image's file; None if another process has taken the
+    device."""
+    device = os.open(path, os.O_RDWR | os.O_CLOEXEC)
     try:
         fcntl.ioctl(device, LOOP_CONFIGURE, CONFIG.pack(file, 0, AUTOCLEAR))
     except OSError as error:
-        if error.errno == errno.EBUSY:
-            return False
         os.close(device)
-        raise
-    return True
+        if error.errno != errno.EBUSY:
+            raise
+        return None
+    return device

@@ -8,18 +8,24 @@ from crashfs_tools.common.trace import Operation, Say
 
 
 class Moment(NamedTuple):
-    """After so many operations; from least to most lines may be acknowledged. line is the trace's
-    line of the last operation, 0 before the first."""
+    """A moment after so many operations are done, at which from least to most lines may be
+    acknowledged. line is the trace's line of the last operation, 0 before the first."""
 
     done: int
     least: int
     most: int
     line: int
 
+    @property
+    def line_counts(self) -> range:
+        """How many lines may be acknowledged at the moment: each such number."""
+        return range(self.least, self.most + 1)
+
 
 def moments(operations: List[Operation], first_line: int) -> Iterator[Moment]:
-    """The moments at which the disk may differ: acknowledging a line changes nothing there, so the
-    lines that follow an operation are joined with it. first_line is the line of the first one."""
+    """The moments at which the disk may differ, from the start to the end. Acknowledging a line
+    changes nothing on the disk, so the lines that follow an operation are in its moment. first_line
+    is the trace's line of the first operation."""
     done = says = 0
     while True:
         least = says

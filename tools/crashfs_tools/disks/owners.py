@@ -17,12 +17,12 @@ from crashfs_tools.common.trace import (
     Trace,
 )
 
-# The numbers of names that this machine doesn't know.
+# Names that this machine doesn't know have numbers from here on.
 FIRST_UNKNOWN = 200_000
 
 
 class Numbers:
-    """The numbers of users, or of groups; a name keeps its number."""
+    """The numbers of users, or of groups. A name keeps the number that it was first given."""
 
     def __init__(self, are_groups: bool) -> None:
         self.are_groups = are_groups
@@ -30,24 +30,29 @@ class Numbers:
         self.names: Dict[int, str] = {}
 
     def number(self, name: str) -> int:
+        """The number of a name: this machine's if it knows the name, else one of our own."""
         if name not in self.numbers:
-            self.numbers[name] = self.known(name)
+            self.numbers[name] = self.first_number(name)
             self.names.setdefault(self.numbers[name], name)
         return self.numbers[name]
 
-    def known(self, name: str) -> int:
+    def first_number(self, name: str) -> int:
+        """The number of a name that has none yet. Unknown names have different ones, since each is
+        kept before the next is asked for."""
         try:
             return grp.getgrnam(name).gr_gid if self.are_groups else pwd.getpwnam(name).pw_uid
         except KeyError:
             return FIRST_UNKNOWN + len(self.numbers)
 
     def name(self, number: int) -> str:
-        """The first name that was given this number; else the number as a text."""
+        """The first of the names that were given this number, as several may be; the number as a
+        text if none was."""
         return self.names.get(number, str(number))
 
 
 class Owners:
-    """The users and groups of a trace, in the order in which it names them."""
+    """The numbers of a trace's users and groups. They are given in the order in which the trace
+    names them, so that each process that makes its session again has the same."""
 
     def __init__(self, trace: Trace) -> None:
         self.users = Numbers(are_groups=False)

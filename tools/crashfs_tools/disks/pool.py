@@ -2,26 +2,26 @@
 
 from __future__ import annotations
 
-import ctypes
 import os
 import resource
 import signal
 from functools import partial
 from typing import Callable, Dict, Iterator, List, NamedTuple, Sequence, Tuple
 
+from crashfs_tools.common.descendants import die_with_parent
 from crashfs_tools.common.entry import Entries
 from crashfs_tools.common.trace import Trace
 
-from . import images
 from .crashing import CrashMaker
 from .disk import Crash, Disk, different_disks
 from .filesystems import FileSystem
 from .levers import Lever
 from .moments import Moment
+from .own_mounts import use_own_mounts
 from .workers import DiskWorkers
 
-PR_SET_PDEATHSIG = 1
-Found = List[Tuple[Entries, Crash]]
+# The trees that crashes have left.
+CrashedTrees = List[Tuple[Entries, Crash]]
 
 
 class Task(NamedTuple):
@@ -32,7 +32,8 @@ class Task(NamedTuple):
 
 
 class DiskPool:
-    """The disks of a session on file systems. folder is for their images."""
+    """The disks that crashes of a session leave on file systems. folder is for their images; levers
+    are those that are pulled at each moment."""
 
     def __init__(
         self,
@@ -45,40 +46,45 @@ class DiskPool:
         self.levers = levers
 
     def tasks(self) -> List[Task]:
+        """Each moment of the session on each file system."""
         return [
             Task(name, moment) for name, maker in self.makers.items() for moment in maker.moments()
         ]
 
     def disks(self, jobs: int, on_step: Callable[[int, int], None]) -> Dict[str, List[Disk]]:
-        """The different disks of each file system. on_step is called with how many of the tasks
-        are done, and with how many there are."""
+        """The different disks of each file system, made by so many processes. on_step is called
+        with how many of the tasks are done, and with how many there are. Refused if an image can't
+        be made or mounted, or a process was killed."""
         tasks = self.tasks()
-        found: Dict[str, Found] = {name: [] for name in self.makers}
+        found: Dict[str, CrashedTrees] = {name: [] for name in self.makers}
         with DiskWorkers(jobs, partial(become_worker, os.getpid()), self.crash) as workers:
             for count, (name, crashes) in enumerate(workers.results(tasks), 1):
                 found[name] += crashes
                 on_step(count, len(tasks))
         return {name: different_disks(crashes_in_order(crashes)) for name, crashes in found.items()}
 
-    def crash(self, task: Task) -> Tuple[str, Found]:
+    def crash(self, task: Task) -> Tuple[str, CrashedTrees]:
+        """In a worker: what crashes at the moment leave, with the file system's name."""
         return task.name, list(self.makers[task.name].crashes(task.moment, self.levers))
 
 
 def become_worker(parent: int) -> None:
-    """This process ends with its parent, hears no Ctrl-C, has its mounts for itself, and may open
-    as many files as the system lets it."""
+    """Makes this process a worker, which the parent has forked: it ends with the parent, is deaf to
+    Ctrl-C, has its mounts for itself, and may open as many files as the system allows, since a
+    replay keeps each file open. Refused if it can't have mounts of its own."""
     _, most = resource.getrlimit(resource.RLIMIT_NOFILE)
     resource.setrlimit(resource.RLIMIT_NOFILE, (most, most))
     for number in (signal.SIGINT, signal.SIGHUP):
         signal.signal(number, signal.SIG_IGN)
     signal.signal(signal.SIGTERM, signal.SIG_DFL)
-    ctypes.CDLL(None).prctl(PR_SET_PDEATHSIG, signal.SIGKILL)
+    die_with_parent()
     if os.getppid() != parent:
         os._exit(1)
     os.umask(0)
-    images.leave_mounts()
+    use_own_mounts()
 
 
-def crashes_in_order(found: Found) -> Iterator[Tuple[Entries, Crash]]:
-    """The crashes by moment, and of one moment in the order of the levers."""
+def crashes_in_order(found: CrashedTrees) -> Iterator[Tuple[Entries, Crash]]:
+    """The crashes in the order of their moments, and those of one moment in that of the levers:
+    results of workers come in any order."""
     return iter(sorted(found, key=lambda one: (one[1].moment, one[1].lever.rank)))

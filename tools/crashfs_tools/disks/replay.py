@@ -6,7 +6,7 @@ import ctypes
 import mmap
 import os
 from contextlib import contextmanager
-from typing import Any, Callable, Dict, Iterator, List, Type, Union
+from typing import Any, Callable, Dict, Iterator, List, NamedTuple, Type, Union
 
 from crashfs_tools.common.sparse import SparseBytes
 from crashfs_tools.common.trace import (
@@ -36,7 +36,7 @@ from crashfs_tools.common.trace import (
 
 from .owners import Owners
 
-# Filled before the session's modes are set.
+# The mode of a directory of the start tree until the tree is whole.
 NEW_DIRECTORY = 0o700
 OPEN_FILE = os.O_RDWR | os.O_NOFOLLOW | os.O_CLOEXEC
 NEW_FILE = OPEN_FILE | os.O_CREAT | os.O_EXCL
@@ -46,14 +46,15 @@ libc = ctypes.CDLL(None, use_errno=True)
 
 
 def lay_out_start(trace: Trace, top: str, owners: Owners) -> None:
-    """Makes the start tree of a trace in a new directory, and writes it to the disk. Symbolic links
-    come last: nothing is made through one."""
+    """Makes the start tree of a trace in a new directory, and writes it to the disk. Owners and
+    modes are set from the last entry to the first, so that a directory's own come after those of
+    what is in it. Symbolic links come last: nothing is made through one."""
     os.mkdir(top, NEW_DIRECTORY)
     for entry in trace.start:
         if isinstance(entry, StartLink):
             os.link(top + entry.source, top + entry.path)
         elif isinstance(entry, Start):
-            make(top + entry.path, entry.data)
+            make_entry(top + entry.path, entry.data)
     rights: List[Union[Header, Start]] = [trace.header]
     rights += [one for one in trace.start if isinstance(one, Start)]
     for one in reversed(rights):
@@ -62,25 +63,26 @@ def lay_out_start(trace: Trace, top: str, owners: Owners) -> None:
         os.chmod(path, one.mode)
     for entry in trace.start:
         if isinstance(entry, StartSymlink):
-            make_link(top + entry.path, entry, owners)
+            make_symlink(top + entry.path, entry, owners)
     sync_file_system(top)
 
 
-def make(path: str, data: Union[bytes, SparseBytes, None]) -> None:
-    """Makes a directory, or a file with these bytes; zeros between parts are holes."""
+def make_entry(path: str, data: Union[bytes, SparseBytes, None]) -> None:
+    """Makes a file with these bytes, or a directory if there are none. Where a large file has no
+    bytes, it has a hole."""
     if data is None:
         os.mkdir(path, NEW_DIRECTORY)
         return
     with open(path, 'xb') as file:
-        for at, part in data.runs() if isinstance(data, SparseBytes) else [(0, data)]:
+        for at, part in data.page_runs() if isinstance(data, SparseBytes) else [(0, data)]:
             file.seek(at)
             file.write(part)
         file.truncate(len(data))
 
 
-def make_link(path: str, made: Union[Symlink, StartSymlink], owners: Owners) -> None:
-    """Makes a symbolic link, and gives it its owner and group, if these aren't those that it
-    has."""
+def make_symlink(path: str, made: Union[Symlink, StartSymlink], owners: Owners) -> None:
+    """Makes a symbolic link with its owner and group. They are set only if the new link has others:
+    each change of them is one that the session didn't make."""
     os.symlink(made.link, path)
     rights = owners.users.number(made.owner), owners.groups.number(made.group)
     status = os.lstat(path)
@@ -88,16 +90,27 @@ def make_link(path: str, made: Union[Symlink, StartSymlink], owners: Owners) -> 
         os.lchown(path, *rights)
 
 
+class UnsyncedChange(NamedTuple):
+    """An operation that changed a file's bytes or size: how many operations were done with it, and
+    the file's path then."""
+
+    done: int
+    path: str
+
+
 class Replay:
-    """The session in a directory, as root: modes don't hinder it. Files stay open, so that a file
-    is written and synced by the same descriptor. unsynced has the files with bytes that no sync
-    covers, in the order in which they were written."""
+    """The session in a directory, made again as root, so that modes don't hinder it. Each kind of
+    operation has a method of its name; an OSError of its call is raised. Files stay open, so that a
+    file is written and synced by the same descriptor. done is how many operations were made.
+    unsynced has by inode the changes of each file that no sync of the file covers; the files are in
+    the order of their first ones."""
 
     def __init__(self, top: str, owners: Owners) -> None:
         self.top = top
         self.owners = owners
         self.files: Dict[int, int] = {}
-        self.unsynced: Dict[int, str] = {}
+        self.done = 0
+        self.unsynced: Dict[int, List[UnsyncedChange]] = {}
 
     def __enter__(self) -> Replay:
         return self
@@ -107,23 +120,28 @@ class Replay:
             os.close(descriptor)
 
     def path(self, path: str) -> str:
+        """Where a path of the trace is on the disk."""
         return self.top if path == '/' else self.top + path
 
     def descriptor(self, path: str) -> int:
-        """The descriptor of a file, by its inode: it may have several names."""
+        """The descriptor of a file, which is opened at the first call. It is found by the inode,
+        since a file may have several names, or another one than when it was opened."""
         inode = self.inode(path)
         if inode not in self.files:
             self.files[inode] = os.open(self.path(path), OPEN_FILE)
         return self.files[inode]
 
     def inode(self, path: str) -> int:
+        """The inode of a file of the trace."""
         return os.lstat(self.path(path)).st_ino
 
     def do(self, operation: Operation) -> None:
-        """Makes an operation."""
+        """Makes an operation, after those before it."""
+        self.done += 1
         CALLS[type(operation)](self, operation)
 
     def creat(self, made: Creat) -> None:
+        """Makes a new file, and keeps it open."""
         descriptor = os.open(self.path(made.path), NEW_FILE, made.mode)
         self.files[os.fstat(descriptor).st_ino] = descriptor
         self.set_rights(made)
@@ -133,8 +151,8 @@ class Replay:
         self.set_rights(made)
 
     def set_rights(self, made: Union[Creat, Mkdir]) -> None:
-        """Its owner, group and mode, if they aren't those that it has already: each change is one
-        that the session didn't make."""
+        """Sets the owner, group and mode of what was made, but only those that it doesn't have
+        already: each change is one that the session didn't make."""
         user = self.owners.users.number(made.owner)
         group = self.owners.groups.number(made.group)
         status = os.lstat(self.path(made.path))
@@ -156,28 +174,32 @@ class Replay:
         os.link(self.path(one.source), self.path(one.target))
 
     def write(self, one: Write) -> None:
+        """Writes all bytes, by as many calls as that takes."""
         left, at = one.data, one.offset
         while left:
             count = os.pwrite(self.descriptor(one.path), left, at)
             left, at = left[count:], at + count
-        self.changed(one.path)
+        self.note_unsynced(one.path)
 
     def truncate(self, one: Truncate) -> None:
         os.ftruncate(self.descriptor(one.path), one.length)
-        self.changed(one.path)
+        self.note_unsynced(one.path)
 
-    def changed(self, path: str) -> None:
-        self.unsynced.setdefault(self.inode(path), path)
+    def note_unsynced(self, path: str) -> None:
+        """Notes that a file has bytes that no sync covers."""
+        self.unsynced.setdefault(self.inode(path), []).append(UnsyncedChange(self.done, path))
 
     def chmod(self, one: Chmod) -> None:
         os.chmod(self.path(one.path), one.mode)
 
     def chown(self, one: Chown) -> None:
+        """Changes the owner and group of a path; of a symbolic link its own."""
         users, groups = self.owners.users, self.owners.groups
         user, group = users.number(one.owner), groups.number(one.group)
         os.chown(self.path(one.path), user, group, follow_symlinks=False)
 
     def fsync(self, one: Fsync) -> None:
+        """Syncs a directory, or a file, which then has no unsynced bytes."""
         if os.path.isdir(self.path(one.path)):
             sync_directory(self.path(one.path))
         else:
@@ -185,7 +207,7 @@ class Replay:
             self.unsynced.pop(self.inode(one.path), None)
 
     def symlink(self, made: Symlink) -> None:
-        make_link(self.path(made.path), made, self.owners)
+        make_symlink(self.path(made.path), made, self.owners)
 
     def fdatasync(self, one: Fdatasync) -> None:
         os.fdatasync(self.descriptor(one.path))
@@ -193,7 +215,7 @@ class Replay:
 
     def fsync_range(self, one: FsyncRange) -> None:
         """A sync of the whole file is an fdatasync; one of a part is made by msync, which syncs
-        only the pages of the part."""
+        only the pages of the part. After that the file still counts as unsynced."""
         descriptor = self.descriptor(one.path)
         size = os.fstat(descriptor).st_size
         if one.offset == 0 and one.length >= size:
@@ -211,10 +233,11 @@ class Replay:
         self.unsynced.clear()
 
     def say(self, _: Say) -> None:
-        pass
+        """Does nothing: to acknowledge a line changes nothing on the disk."""
 
     def write_back(self, inode: int) -> None:
-        """Writes the bytes of a file to the disk, and nothing of the log."""
+        """Writes the bytes of a file to the disk, and nothing of the log. A file that the session
+        has not opened has none to write."""
         if inode in self.files and libc.sync_file_range(
             self.files[inode],
             ctypes.c_int64(0),
@@ -224,6 +247,7 @@ class Replay:
             raise OSError(ctypes.get_errno(), os.strerror(ctypes.get_errno()))
 
 
+# How an operation of each kind is made.
 CALLS: Dict[Type[Any], Callable[[Replay, Any], None]] = {
     Creat: Replay.creat,
     Mkdir: Replay.mkdir,
@@ -245,19 +269,21 @@ CALLS: Dict[Type[Any], Callable[[Replay, Any], None]] = {
 
 
 def sync_directory(path: str) -> None:
-    with directory(path) as descriptor:
+    """Makes the names in a directory durable."""
+    with open_directory(path) as descriptor:
         os.fsync(descriptor)
 
 
 def sync_file_system(path: str) -> None:
-    """Writes all of the file system that a directory is in."""
-    with directory(path) as descriptor:
+    """Makes the file system that a directory is in durable, all of it; OSError if it can't."""
+    with open_directory(path) as descriptor:
         if libc.syncfs(descriptor):
             raise OSError(ctypes.get_errno(), os.strerror(ctypes.get_errno()), path)
 
 
 @contextmanager
-def directory(path: str) -> Iterator[int]:
+def open_directory(path: str) -> Iterator[int]:
+    """Within this a directory is open, as the descriptor."""
     descriptor = os.open(path, os.O_RDONLY | os.O_DIRECTORY | os.O_CLOEXEC)
     try:
         yield descriptor

@@ -11,10 +11,4 @@ from .faults import ReadingFault
 from .plan import StateList, plan_of
 from .trace import Reading, read
 
-__all__ = ['Reading', 'ReadingFault', 'StateList', 'count_states', 'plan_of', 'read']
-
-
-def count_states(text: str) -> int:
-    """How many states the prefixes and holes of a trace are; ReadingFault for a trace or a plan
-    that is refused."""
-    return len(plan_of(read(text.encode('utf-8', 'surrogateescape')), holes=True).states)
+__all__ = ['Reading', 'ReadingFault', 'StateList', 'plan_of', 'read']

@@ -15,8 +15,8 @@ KINDS = {'dir': tarfile.DIRTYPE, 'file': tarfile.REGTYPE, 'symlink': tarfile.SYM
 
 
 class ArchiveWriter:
-    """An archive that is written as a stream. With sparse, large files of zeros are written in
-    pieces."""
+    """Writes an archive of states of a plan as a stream; use it in a `with`, at whose end the
+    archive ends. With sparse, large files of zeros are written in pieces."""
 
     def __init__(self, plan: StateList, out: BinaryIO, sparse: bool = False) -> None:
         self.plan = plan
@@ -27,48 +27,50 @@ class ArchiveWriter:
         return self
 
     def __exit__(self, *_: object) -> None:
-        """The end is two empty blocks, and not as many as fill a record of a tape."""
+        """Ends the archive by two empty blocks, without the padding that fills a record of a
+        tape."""
         stream = self.file.fileobj
         assert stream is not None
         stream.write(bytes(2 * tarfile.BLOCKSIZE))
         stream.close()
 
     def tree(self, number: int) -> Dict[str, Item]:
-        """The tree of a state."""
+        """The tree of the state of a number."""
         return self.plan.trees.tree(self.plan.states[number][1])
 
     def write_state(self, number: int) -> None:
-        """The tree of one state."""
+        """Writes the tree of one state, the root as `./`."""
         self.write_tree(number, './')
 
     def write_states(self, numbers: List[int]) -> None:
-        """The trees of states, each below a directory of its number."""
+        """Writes the trees of states, each below a directory of its number."""
         for number in numbers:
             self.write_tree(number, f'{number}/')
 
     def write_changes(self, numbers: List[int]) -> None:
-        """What differs between state 0 and each of these states."""
+        """Writes what differs between state 0 and each of some states: first the names of the paths
+        that are gone, then the entries that are new or others."""
         start = self.tree(0)
         for number in numbers:
             tree = self.tree(number)
-            gone = [path for path in in_order(start) if path not in tree]
+            gone = [path for path in paths_in_order(start) if path not in tree]
             shown = ''.join(shown_name(path, start[path]) + '\0' for path in gone).encode()
             missing = tarfile.TarInfo(f'{number}.missing')
             missing.size = len(shown)
             self.file.addfile(missing, BytesIO(shown))
-            for path in in_order(tree):
+            for path in paths_in_order(tree):
                 if start.get(path) != tree[path]:
                     self.write_item(f'{number}{path}', tree[path])
 
     def write_tree(self, number: int, top: str) -> None:
-        """Writes a state, below a name that is put before its paths."""
+        """Writes the tree of a state; top, which ends in a slash, is put before its paths."""
         tree = self.tree(number)
-        for path in in_order(tree):
+        for path in paths_in_order(tree):
             name = top if path == '/' else ('' if top == './' else top) + path[1:]
             self.write_item(name, tree[path])
 
     def write_item(self, name: str, item: Item) -> None:
-        """Writes one file, directory or symbolic link."""
+        """Writes one file, directory or symbolic link by a name."""
         info = tarfile.TarInfo(name.rstrip('/'))
         info.type = KINDS[item.kind]
         (info.uname, info.gname, mode), data = item.rights, item.data
@@ -85,7 +87,8 @@ class ArchiveWriter:
             self.file.addfile(info, Reader(data, [(0, data.length)]))
 
     def write_sparse(self, info: tarfile.TarInfo, data: Data) -> None:
-        """A file in pieces, in the PAX format 1.0 of GNU tar: a map, and then the pieces."""
+        """Writes a file in pieces, in the PAX format 1.0 of GNU tar: a map, then the pieces. Into
+        the info it writes the name that this format has, and its fields."""
         runs = runs_of(data)
         head = map_of(runs, data.length)
         info.pax_headers = {
@@ -101,7 +104,7 @@ class ArchiveWriter:
 
 
 class Reader(BytesIO):
-    """Reads a head and then pieces of a file, as a file of an archive is read."""
+    """A stream that has a head and then pieces of a file, for tarfile to read."""
 
     def __init__(self, data: Data, runs: List[Tuple[int, int]], head: bytes = b'') -> None:
         super().__init__(head)
@@ -109,7 +112,7 @@ class Reader(BytesIO):
         self.runs = list(runs)
 
     def read(self, size: Optional[int] = -1, /) -> bytes:
-        """So many bytes; fewer only at the end."""
+        """The next so many bytes; fewer only at the end."""
         found = super().read(size)
         while self.runs and len(found) < (size or 0):
             begin, end = self.runs.pop(0)
@@ -120,8 +123,8 @@ class Reader(BytesIO):
         return found
 
 
-def in_order(tree: Dict[str, Item]) -> List[str]:
-    """The paths of a tree, each after its directory, by their names."""
+def paths_in_order(tree: Dict[str, Item]) -> List[str]:
+    """The paths of a tree in the order of archives: name by name, each after its directory."""
     return sorted(tree, key=lambda path: path.split('/'))
 
 

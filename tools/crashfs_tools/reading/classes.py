@@ -10,23 +10,25 @@ from __future__ import annotations
 from typing import Dict, FrozenSet, Iterator, List, NamedTuple, Optional, Set, Tuple, Union
 
 from .contents import Contents
-from .micro import ChangeSize, LinkEntry, Micro, Rights
+from .micro import Acknowledgement, ChangeSize, LinkEntry, Micro, Rights
 from .names import DIRECTORY, Entry, Inode
-from .order import Order, bits
-from .tables import change_entries, change_rights, reached
+from .order import Order
+from .place_sets import places_of
+from .tables import change_entries, change_rights, reachable_paths
 from .trace import Reading
 
 # What the start tree has otherwise: what an entry holds, None if nothing, and a directory's rights.
 Names = Dict[Union[Entry, int], Union[Inode, Rights, None]]
 # Each changed file with its content.
 Files = Tuple[Tuple[int, int], ...]
-# What is at a path: its kind, and its content or a directory's rights.
+# What is at a path: its kind, and the number of its content or a directory's rights.
 Shown = Tuple[object, ...]
 Tree = FrozenSet[Tuple[str, Optional[Shown]]]
 
 
 class SetResult(NamedTuple):
-    """What the micro-operations of a set leave: names and files as numbers, and its lines."""
+    """What the micro-operations of a set leave: the number of its names, the numbers of changed
+    files and of their contents, and how many lines are acknowledged."""
 
     names: int
     files: Files
@@ -34,13 +36,14 @@ class SetResult(NamedTuple):
 
 
 class Classes:
-    """A walk through the sets that an order allows."""
+    """A walk through the sets that an order allows, of a trace's micro-operations. names has the
+    changed names by their numbers."""
 
     def __init__(self, reading: Reading, order: Order) -> None:
         self.reading = reading
         self.order = order
         self.contents = Contents(reading)
-        self.start = {file: self.contents.start(file) for file in reading.made_rights}
+        self.start = {file: self.contents.number_at_start(file) for file in reading.made_rights}
         self.start_entries: Dict[int, List[Entry]] = {}
         for entry, node in reading.start.items():
             if node.kind != DIRECTORY:
@@ -59,13 +62,13 @@ class Classes:
         self._start_paths: Dict[str, Inode] = {}
 
     def different(self) -> Iterator[int]:
-        """The first set of each different state, ascending as every_set has them."""
+        """The first set of each different state, in the order of every_set."""
         followed: Set[Tuple[int, SetResult]] = set()
         trees: Set[Tuple[int, Tree]] = set()
         waiting = [(0, self.order.full, SetResult(self.number_of_names({}), (), 0))]
         while waiting:
             places, future, found = waiting.pop()
-            one = future, self.left(found, future)
+            one = future, self.seen_result(found, future)
             if one in followed:
                 continue
             followed.add(one)
@@ -80,37 +83,42 @@ class Classes:
                 trees.add(tree)
                 yield places
 
-    def left(self, found: SetResult, future: int) -> SetResult:
-        """What was found without what no extension can show."""
+    def seen_result(self, found: SetResult, future: int) -> SetResult:
+        """What a set leaves as far as extensions by a future can show it: without files that have
+        no name then, and bytes past a size that stays."""
         files = []
         for file, content in found.files:
             if self.is_named(found.names, file) or future & self.linked.get(file, 0):
                 if not future & self.resized.get(file, 0):
-                    content = self.contents.shown(content)
+                    content = self.contents.shown_number(content)
                 if content != self.start[file]:
                     files.append((file, content))
         return found._replace(files=tuple(files))
 
     def after_unit(self, found: SetResult, unit: int) -> SetResult:
-        """What a unit of micro-operations leaves."""
-        for place in bits(unit):
+        """What a set leaves after the micro-operations of a unit."""
+        for place in places_of(unit):
             found = self.after_operation(found, place)
         return found
 
     def after_operation(self, found: SetResult, place: int) -> SetResult:
-        """What one micro-operation leaves."""
+        """What a set leaves after the micro-operation at a place, which it doesn't have; one on no
+        file, entry or directory is an acknowledged line. Files are sorted: equal results are equal
+        keys."""
         operation = self.reading.operations[place]
         if operation.file is not None:
             files = dict(found.files)
             content = files.get(operation.file, self.start[operation.file])
-            files[operation.file] = self.contents.changed(content, place)
+            files[operation.file] = self.contents.number_after(content, place)
             return found._replace(files=tuple(sorted(files.items())))
         if operation.entries or operation.directory is not None:
             return found._replace(names=self.names_after(found.names, place, operation))
+        assert isinstance(operation, Acknowledgement)
         return found._replace(says=found.says + 1)
 
     def names_after(self, names: int, place: int, operation: Micro) -> int:
-        """The number of the names after a micro-operation changed entries."""
+        """The number of the names after the micro-operation at a place, of a set whose names have a
+        number; it changes entries or a directory's rights."""
         key = names, place
         if key not in self._renamed:
             changed = dict(self.names[names])
@@ -120,7 +128,8 @@ class Classes:
         return self._renamed[key]
 
     def change_names(self, changed: Names, operation: Micro) -> None:
-        """Changes entries as a micro-operation does; those that are as at the start go."""
+        """Changes `changed` as a micro-operation changes entries; those that are as at the start
+        are dropped from it."""
         nodes = {entry: self.node_at_entry(changed, entry) for entry in operation.entries}
         there = {entry: node for entry, node in nodes.items() if node is not None}
         change_entries(there, operation)
@@ -130,7 +139,8 @@ class Classes:
                 del changed[entry]
 
     def change_directories(self, changed: Names, operation: Micro) -> None:
-        """A directory that is gone has no rights that could differ."""
+        """Changes `changed` as a micro-operation changes the rights of directories; those that are
+        as at the start, or of a removed directory, are dropped from it."""
         rights: Dict[int, Rights] = {}
         change_rights(rights, operation)
         for directory, one in rights.items():
@@ -141,13 +151,13 @@ class Classes:
             changed.pop(operation.removed_directory, None)
 
     def node_at_entry(self, names: Names, entry: Entry) -> Optional[Inode]:
-        """What an entry names, or None."""
+        """What an entry names; None if nothing."""
         node = names[entry] if entry in names else self.reading.start.get(entry)
         assert node is None or isinstance(node, Inode)
         return node
 
     def number_of_names(self, names: Names) -> int:
-        """The number of changed names, the same for equal ones."""
+        """The number of changed names: equal ones have one number."""
         key = frozenset(names.items())
         if key not in self.numbers:
             self.numbers[key] = len(self.names)
@@ -155,14 +165,14 @@ class Classes:
         return self.numbers[key]
 
     def is_named(self, names: int, file: int) -> bool:
-        """Whether a file has a name."""
+        """Whether a file, by its number, has a name, by the number of the names."""
         key = names, file
         if key not in self._named:
             self._named[key] = any(True for _ in self.entries_of(names, file))
         return self._named[key]
 
     def entries_of(self, names: int, file: int) -> Iterator[Entry]:
-        """The entries that name a file."""
+        """The entries that name a file, by the number of the names."""
         changed = self.names[names]
         yield from (entry for entry in self.start_entries.get(file, []) if entry not in changed)
         for entry, node in changed.items():
@@ -185,9 +195,9 @@ class Classes:
 
     @property
     def start_paths(self) -> Dict[str, Inode]:
-        """The paths of the start tree, with what is there."""
+        """The paths of the start tree, the root among them, with what is there."""
         if not self._start_paths:
-            self._start_paths = dict(reached(self.reading.start.items()))
+            self._start_paths = dict(reachable_paths(self.reading.start.items()))
         return self._start_paths
 
     def is_at_home(self, names: Names) -> bool:
@@ -199,11 +209,12 @@ class Classes:
         )
 
     def home_path(self, entry: Entry) -> str:
-        """The path of an entry whose directory is where it was made."""
+        """The path of an entry while no directory above it is moved."""
         return f'{self.reading.homes[entry[0]]}/{entry[1]}'
 
     def nodes_at_home(self, found: SetResult) -> Dict[str, Optional[Inode]]:
-        """What is at the paths of changed entries, files and directories."""
+        """What is at the paths of changed entries, files and directories, if each directory is at
+        home; None where nothing is."""
         names = self.names[found.names]
         nodes: Dict[str, Optional[Inode]] = {}
         for key in names:
@@ -219,7 +230,7 @@ class Classes:
         return nodes
 
     def all_nodes(self, names: Names) -> Dict[str, Optional[Inode]]:
-        """What is at each path, and at each path of the start tree."""
+        """What is at each path, and at each path of the start tree; None where nothing is."""
         entries = dict(self.reading.start)
         for key in names:
             if isinstance(key, tuple):
@@ -228,20 +239,22 @@ class Classes:
                     entries.pop(key, None)
                 else:
                     entries[key] = node
-        return {**dict.fromkeys(self.start_paths), **dict(reached(entries.items()))}
+        return {**dict.fromkeys(self.start_paths), **dict(reachable_paths(entries.items()))}
 
     def shown_item(
         self, node: Optional[Inode], names: Names, contents: Dict[int, int]
     ) -> Optional[Shown]:
-        """What a state shows of a file or directory, with its rights."""
+        """What a state shows of a file or directory, with its rights; None of nothing."""
         if node is None:
             return None
         if node.kind == DIRECTORY:
             return node.kind, names.get(node.number, self.reading.start_rights.get(node.number))
-        return node.kind, self.contents.shown(contents.get(node.number, self.start[node.number]))
+        return node.kind, self.contents.shown_number(
+            contents.get(node.number, self.start[node.number])
+        )
 
 
 def add_place(places: Dict[int, int], file: Optional[int], place: int) -> None:
-    """Adds a place to those of a file."""
+    """Adds a place to the set of a file in `places`."""
     assert file is not None
     places[file] = places.get(file, 0) | 1 << place

@@ -33,69 +33,78 @@ class Contents:
         self._changed: Dict[Tuple[int, int], int] = {}
         self._shown: Dict[int, int] = {}
 
-    def start(self, file: int) -> int:
-        """The content of a file that nothing has changed."""
+    def number_at_start(self, file: int) -> int:
+        """The number of the content with which a file is made, by its number."""
         data = self.reading.made_data.get(file, Data(self.reading.block_size))
-        blocks = tuple((it, self.block(data.blocks[it])) for it in sorted(data.blocks))
-        return self.number(Content(self.reading.made_rights[file], data.length, blocks))
+        blocks = tuple((it, self.block_number(data.blocks[it])) for it in sorted(data.blocks))
+        return self.number_of(Content(self.reading.made_rights[file], data.length, blocks))
 
-    def number(self, content: Content) -> int:
-        """The number of a file's content, the same for equal ones."""
+    def number_of(self, content: Content) -> int:
+        """The number of a content, which is a new one unless an equal content has it."""
         if content not in self.numbers:
             self.numbers[content] = len(self.contents)
             self.contents.append(content)
         return self.numbers[content]
 
-    def block(self, data: bytes) -> int:
-        """The number of a block, which comes without the zeros at its end."""
+    def block_number(self, data: bytes) -> int:
+        """The number of a block, given without the zeros at its end; equal blocks have one
+        number."""
         if data not in self.block_numbers:
             self.block_numbers[data] = len(self.blocks)
             self.blocks.append(data)
         return self.block_numbers[data]
 
-    def changed(self, content: int, place: int) -> int:
-        """The content after a micro-operation of its file."""
+    def number_after(self, content: int, place: int) -> int:
+        """The number of a content after the micro-operation at a place, which must be of its
+        file."""
         key = content, place
         if key not in self._changed:
             operation = self.reading.operations[place]
-            self._changed[key] = self.number(self.after(self.contents[content], operation))
+            self._changed[key] = self.number_of(
+                self.content_after(self.contents[content], operation)
+            )
         return self._changed[key]
 
-    def after(self, content: Content, operation: Micro) -> Content:
-        """The content after a micro-operation on the file."""
+    def content_after(self, content: Content, operation: Micro) -> Content:
+        """A content after a micro-operation of its file: new rights, a new size, or a block that is
+        written."""
         if isinstance(operation, SetRights):
             return content._replace(rights=operation.rights)
         if isinstance(operation, ChangeSize):
             blocks = content.blocks
             if operation.length < content.size:
-                blocks = self.cut(blocks, operation.length)
+                blocks = self.cut_blocks(blocks, operation.length)
             return content._replace(size=operation.length, blocks=blocks)
         assert isinstance(operation, WriteBlock)
-        blocks = self.overwritten(content.blocks, operation)
+        blocks = self.written_blocks(content.blocks, operation)
         return content._replace(blocks=blocks)
 
-    def cut(self, blocks: Tuple[Tuple[int, int], ...], length: int) -> Tuple[Tuple[int, int], ...]:
-        """The blocks without what is past a length."""
+    def cut_blocks(
+        self, blocks: Tuple[Tuple[int, int], ...], length: int
+    ) -> Tuple[Tuple[int, int], ...]:
+        """The blocks of a content without the bytes past a length."""
         full, rest = divmod(length, self.reading.block_size)
         kept = [(it, number) for it, number in blocks if it < full]
         number = dict(blocks).get(full, ZEROS)
-        last = self.block(self.blocks[number][:rest].rstrip(b'\0'))
+        last = self.block_number(self.blocks[number][:rest].rstrip(b'\0'))
         return (*kept, (full, last)) if last != ZEROS else tuple(kept)
 
-    def overwritten(
+    def written_blocks(
         self, blocks: Tuple[Tuple[int, int], ...], write: WriteBlock
     ) -> Tuple[Tuple[int, int], ...]:
-        """The blocks after one was written in part."""
+        """The blocks of a content after a write to one of them."""
         changed = dict(blocks)
         before = self.blocks[changed.pop(write.block, ZEROS)]
-        number = self.block(overwritten(before, write.at, write.data))
+        number = self.block_number(overwritten(before, write.at, write.data))
         if number != ZEROS:
             changed[write.block] = number
         return tuple(sorted(changed.items()))
 
-    def shown(self, content: int) -> int:
-        """The content without the bytes past its size."""
+    def shown_number(self, content: int) -> int:
+        """The number of what a reader sees of a content: it has no bytes past its size."""
         if content not in self._shown:
             it = self.contents[content]
-            self._shown[content] = self.number(it._replace(blocks=self.cut(it.blocks, it.size)))
+            self._shown[content] = self.number_of(
+                it._replace(blocks=self.cut_blocks(it.blocks, it.size))
+            )
         return self._shown[content]

@@ -18,7 +18,8 @@ class Data:
 
     @staticmethod
     def of(block_size: int, length: int, parts: List[Tuple[int, bytes]]) -> Data:
-        """The bytes of a file of a length that has some parts, and zeros elsewhere."""
+        """The bytes of a file of a length that has some parts, each at an offset, and zeros
+        elsewhere."""
         data = Data(block_size, length)
         for at, part in parts:
             for block, begin, piece in split(at, part, block_size):
@@ -26,35 +27,37 @@ class Data:
         return data
 
     def copy(self) -> Data:
+        """The same bytes, to be changed apart."""
         return Data(self.block_size, self.length, dict(self.blocks))
 
     def write(self, block: int, at: int, piece: bytes) -> None:
-        """Puts bytes into a block. The length stays."""
-        self.put(block, overwritten(self.blocks.get(block, b''), at, piece))
+        """Puts bytes into the block of a number, at an offset in it. The length stays."""
+        self.set_block(block, overwritten(self.blocks.get(block, b''), at, piece))
 
-    def put(self, block: int, whole: bytes) -> None:
-        """Sets a block; one without bytes is zeros."""
+    def set_block(self, block: int, whole: bytes) -> None:
+        """Sets the block of a number, which comes without the zeros at its end."""
         if whole:
             self.blocks[block] = whole
         else:
             self.blocks.pop(block, None)
 
     def resize(self, length: int) -> None:
-        """A length that is less drops every byte past it."""
+        """Sets the length. A smaller one drops every byte past it, so that a larger one later shows
+        zeros there."""
         if length < self.length:
-            self.cut(length)
+            self.clear_from(length)
         self.length = length
 
-    def cut(self, length: int) -> None:
-        """Drops the bytes from a place on."""
-        full, rest = divmod(length, self.block_size)
+    def clear_from(self, offset: int) -> None:
+        """Makes all bytes from an offset on zeros, also hidden ones. The length stays."""
+        full, rest = divmod(offset, self.block_size)
         for block in [block for block in self.blocks if block >= full]:
-            self.put(block, self.blocks[block][:rest].rstrip(b'\0') if block == full else b'')
+            self.set_block(block, self.blocks[block][:rest].rstrip(b'\0') if block == full else b'')
 
     def shown(self) -> Data:
         """The same without the bytes past the length."""
         data = self.copy()
-        data.cut(self.length)
+        data.clear_from(self.length)
         return data
 
     def __eq__(self, other: object) -> bool:
@@ -77,7 +80,7 @@ class Data:
         return b''.join(self.pieces())
 
     def read(self, begin: int, end: int) -> bytes:
-        """The bytes between two places that are not past the length."""
+        """The bytes from one offset to before another, of which none is past the length."""
         first, last = begin // self.block_size, -(-end // self.block_size)
         blocks = (
             self.blocks.get(block, b'').ljust(self.block_size, b'\0')
@@ -88,14 +91,15 @@ class Data:
 
 
 def overwritten(block: bytes, at: int, piece: bytes) -> bytes:
-    """A block with bytes put into it, without the zeros at its end."""
+    """A block after bytes were put into it at an offset, without the zeros at its end."""
     whole = bytearray(block.ljust(at, b'\0'))
     whole[at : at + len(piece)] = piece
     return bytes(whole).rstrip(b'\0')
 
 
 def split(at: int, data: bytes, block_size: int) -> Iterator[Tuple[int, int, bytes]]:
-    """Bytes at a place of a file as its blocks have them: the block, where in it, and which."""
+    """Bytes at an offset of a file in pieces, as its blocks have them: of each the number of the
+    block, the offset in it, and the bytes."""
     end = at + len(data)
     place = at
     while place < end:

@@ -8,16 +8,20 @@ from typing import Callable, Dict, Tuple
 
 from .data import Data, overwritten
 from .micro import ChangeSize, Rights, SetRights, WriteBlock
-from .order import bits
+from .place_sets import places_of, set_of
 from .trace import Reading
 
+# The digests of blocks, by their numbers in the file.
 Blocks = Dict[int, bytes]
+# The digest of a block of zeros.
+ZEROS = b''
 
 
 class Digests:
     """The digest of a file is that of its length and of its blocks that aren't zero. A block
-    depends on its own changes and the size alone, so that many states share it. changes has each
-    file's places; data_of makes the bytes of a file."""
+    depends on its own changes and the size alone, so that many states share it. changes has the set
+    of each file's changes, by its number; data_of makes the rights and bytes of a file after some
+    of them."""
 
     def __init__(
         self,
@@ -27,8 +31,8 @@ class Digests:
     ) -> None:
         self.reading = reading
         self.data_of = data_of
-        self.writes = sum(
-            1 << place
+        self.writes = set_of(
+            place
             for place, operation in enumerate(reading.operations)
             if isinstance(operation, WriteBlock)
         )
@@ -43,7 +47,7 @@ class Digests:
         self.made_blocks = lru_cache(64)(self.make_made_blocks)
 
     def digest(self, number: int, places: int) -> Tuple[Rights, bytes]:
-        """The rights and the digest of a file after some of its changes."""
+        """The rights and the digest of a file, by its number, after some of its changes."""
         if number not in self.blocks:
             rights, data = self.data_of(number, places)
             found = {block: digest_of(whole) for block, whole in data.blocks.items()}
@@ -66,11 +70,12 @@ class Digests:
         return rights, whole_digest(size, digests)
 
     def made(self, number: int) -> Data:
-        """The bytes with which a file is made."""
+        """The bytes with which a file is made, by its number."""
         return self.reading.made_data.get(number, Data(self.reading.block_size))
 
     def last_writes(self, places: int) -> int:
-        """The writes of a block that are seen: of a whole block, the last one alone."""
+        """Of a set of writes of one block those whose bytes can be seen: the last one alone if it
+        is of the whole block, else all."""
         last = places.bit_length() - 1
         operation = self.reading.operations[last] if places else None
         if isinstance(operation, WriteBlock) and len(operation.data) == self.reading.block_size:
@@ -78,22 +83,22 @@ class Digests:
         return places
 
     def make_made_blocks(self, number: int) -> Blocks:
-        """The digests of a file's blocks that nothing has changed."""
+        """The digests of the blocks with which a file is made, by their numbers."""
         return {block: digest_of(whole) for block, whole in self.made(number).blocks.items()}
 
     def make_block(self, number: int, block: int, places: int, shown: int) -> bytes:
         """The digest of the first bytes of a block after some of its changes."""
         data = self.made(number).blocks.get(block, b'')
-        for place in bits(places):
+        for place in places_of(places):
             operation = self.reading.operations[place]
             assert isinstance(operation, WriteBlock)
             data = overwritten(data, operation.at, operation.data)
         return digest_of(data[:shown].rstrip(b'\0'))
 
     def make_rights_and_size(self, number: int, places: int) -> Tuple[Rights, int]:
-        """The rights and the size that micro-operations give a file."""
+        """The rights and the size of a file after some of its changes."""
         rights, size = self.reading.made_rights[number], self.made(number).length
-        for place in bits(places):
+        for place in places_of(places):
             operation = self.reading.operations[place]
             if isinstance(operation, SetRights):
                 rights = operation.rights
@@ -102,9 +107,9 @@ class Digests:
         return rights, size
 
     def shrinks(self, number: int, places: int) -> bool:
-        """Whether a file is ever made shorter by some micro-operations."""
+        """Whether a file is ever made shorter by its changes."""
         size = self.made(number).length
-        for place in bits(places):
+        for place in places_of(places):
             operation = self.reading.operations[place]
             if isinstance(operation, ChangeSize):
                 if operation.length < size:
@@ -113,20 +118,17 @@ class Digests:
         return False
 
     def blocks_of(self, places: int) -> Dict[int, int]:
-        """The writes among some places, by the block that they write to."""
+        """The writes of a set of one file's changes, by the block that they write to."""
         blocks: Dict[int, int] = {}
-        for place in bits(places & self.writes):
+        for place in places_of(places & self.writes):
             operation = self.reading.operations[place]
             assert isinstance(operation, WriteBlock)
             blocks[operation.block] = blocks.get(operation.block, 0) | 1 << place
         return blocks
 
 
-ZEROS = b''
-
-
 def digest_of(block: bytes) -> bytes:
-    """The digest of a block without the zeros at its end; of zeros nothing."""
+    """The digest of a block, which comes without the zeros at its end; ZEROS of one of zeros."""
     return hashlib.sha256(block).digest() if block else ZEROS
 
 

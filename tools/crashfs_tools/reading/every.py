@@ -17,7 +17,7 @@ MOST_MEMBERS = 2**64 - 1
 
 
 def every_set(order: Order) -> Iterator[int]:
-    """All allowed sets, ascending: the sets without a place come before those with it, for the
+    """All allowed sets, ascending: the one without a place comes before the one with it, for the
     first place in which two sets differ."""
     waiting = [(0, order.full)]
     while waiting:
@@ -39,7 +39,7 @@ def futures(order: Order) -> List[Dict[int, int]]:
         lowest = 1 << place
         level: Dict[int, int] = {}
         for future, sets in levels[-1].items():
-            for longer in steps(order, future, lowest):
+            for longer in next_futures(order, future, lowest):
                 level[longer] = level.get(longer, 0) + sets
         if len(level) > MOST_FUTURES:
             raise ReadingFault('too many sets to count')
@@ -47,20 +47,22 @@ def futures(order: Order) -> List[Dict[int, int]]:
     return levels
 
 
-def steps(order: Order, future: int, lowest: int) -> List[int]:
-    """The futures that follow one: without its lowest place, and with it; or itself."""
+def next_futures(order: Order, future: int, lowest: int) -> List[int]:
+    """The futures that follow one at a place, given as a set of one: without the place for good,
+    and with it. If the future doesn't have the place, it is its own successor."""
     if not future & lowest:
         return [future]
     return [order.later_without(future, lowest), future & ~order.unit(lowest)]
 
 
 def count_sets(order: Order) -> int:
-    """How many allowed sets there are."""
+    """How many allowed sets there are; ReadingFault if they are too many to count."""
     return sum(futures(order)[-1].values())
 
 
-def sample(order: Order, wanted: int, seed: int) -> Iterator[int]:
-    """So many allowed sets, drawn one after the other, each with the same chance for every set."""
+def drawn_sets(order: Order, wanted: int, seed: int) -> Iterator[int]:
+    """So many allowed sets, drawn one after the other, each with the same chance for every set, and
+    the same ones for each seed; ReadingFault if they are too many to count."""
     extensions = count_extensions(order)
     total = extensions[0][order.full]
     if total > MOST_MEMBERS:
@@ -71,14 +73,15 @@ def sample(order: Order, wanted: int, seed: int) -> Iterator[int]:
 
 
 def count_extensions(order: Order) -> List[Dict[int, int]]:
-    """For each k and each future there, how many sets extend a set that has it."""
+    """For each k and each future there, how many allowed sets extend a set of places below k that
+    has this future. ReadingFault if the futures are too many."""
     levels = futures(order)
     found: List[Dict[int, int]] = [{0: 1}]
     for place in range(order.count - 1, -1, -1):
         above = found[-1]
         found.append(
             {
-                future: sum(above[longer] for longer in steps(order, future, 1 << place))
+                future: sum(above[longer] for longer in next_futures(order, future, 1 << place))
                 for future in levels[place]
             }
         )
@@ -87,7 +90,8 @@ def count_extensions(order: Order) -> List[Dict[int, int]]:
 
 
 def set_at(order: Order, extensions: List[Dict[int, int]], number: int) -> int:
-    """The allowed set that has so many before it."""
+    """The allowed set that has so many before it in the order of every_set; extensions are those of
+    count_extensions."""
     places, future = 0, order.full
     for place in range(order.count):
         lowest = 1 << place

@@ -6,7 +6,8 @@ from typing import Optional
 
 
 class ReadingFault(Exception):
-    """The text is the program's for the same fault; `line` and `why` say more about a trace."""
+    """What the second reading refuses. The text is the program's for the same fault; of a trace's
+    line `line` is its number, and `why` says more."""
 
     def __init__(self, text: str, line: Optional[int] = None, why: str = '') -> None:
         super().__init__(text)
@@ -23,7 +24,7 @@ class LineFault(Exception):
         self.why = why
 
     def at(self, line: int) -> ReadingFault:
-        """The fault with the number of its line, as it is printed."""
+        """This fault as that of the line with a number, as the program prints it."""
         return ReadingFault(f'trace line {line}: {self.kind}', line, self.why)
 
 

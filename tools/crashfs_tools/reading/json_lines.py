@@ -15,9 +15,12 @@ LARGEST = 2**64 - 1
 
 
 def read_object(line: str) -> Dict[str, Any]:
-    """The keys and values of a line; of two equal keys the last one counts."""
+    """The keys and values of a line; of two equal keys the last one counts. LineFault for what the
+    program doesn't read: no JSON, no object, values nested too deep, half of a surrogate pair."""
     try:
-        value = json.loads(line, parse_int=integer, parse_float=finite, parse_constant=refuse)
+        value = json.loads(
+            line, parse_int=number, parse_float=finite, parse_constant=refuse_constant
+        )
     except (ValueError, RecursionError) as error:
         raise syntax(f'no JSON: {error}') from error
     if not isinstance(value, dict):
@@ -29,26 +32,28 @@ def read_object(line: str) -> Dict[str, Any]:
     return value
 
 
-def integer(text: str) -> float:
-    """What has a sign, or more digits than any number that a trace may have, is no integer."""
+def number(text: str) -> float:
+    """The number that digits mean. One with a sign, or with more digits than any number of a trace,
+    is a float, which no key accepts; ValueError if that is infinite."""
     return int(text) if text[0] != '-' and len(text) <= DIGITS else finite(text)
 
 
 def finite(text: str) -> float:
-    """A number with a sign, a fraction or many digits; ValueError if it is infinite."""
+    """The float of a number with a sign, a fraction or many digits; ValueError if it is
+    infinite."""
     value = float(text)
     if math.isinf(value):
         raise ValueError(f'the number {text} is too large')
     return value
 
 
-def refuse(text: str) -> None:
-    """Refuses `NaN` and `Infinity`, which Python's reader takes."""
+def refuse_constant(text: str) -> None:
+    """ValueError for `NaN` and `Infinity`, which Python's reader takes."""
     raise ValueError(f'{text} is no number')
 
 
 def depth(value: Any) -> int:
-    """How many levels of objects and arrays a value has."""
+    """How many levels of objects and arrays a value has; 0 for a value that is neither."""
     if not isinstance(value, (dict, list)):
         return 0
     below = value.values() if isinstance(value, dict) else value
@@ -56,7 +61,7 @@ def depth(value: Any) -> int:
 
 
 def refuse_surrogates(value: Any) -> None:
-    """Refuses texts with half of a surrogate pair."""
+    """LineFault for a value that has a text with half of a surrogate pair."""
     try:
         json.dumps(value, ensure_ascii=False).encode('utf-8')
     except UnicodeEncodeError as error:
@@ -69,10 +74,13 @@ def is_number(value: Any) -> bool:
 
 
 def read_array(line: bytes) -> List[Any]:
-    """The values of a line that is an array."""
+    """The values of a line that is an array; LineFault if it isn't one."""
     try:
         value = json.loads(
-            line.decode('utf-8'), parse_int=integer, parse_float=finite, parse_constant=refuse
+            line.decode('utf-8'),
+            parse_int=number,
+            parse_float=finite,
+            parse_constant=refuse_constant,
         )
     except (ValueError, RecursionError) as error:
         raise syntax(f'no JSON: {error}') from error

@@ -3,6 +3,7 @@
 from __future__ import annotations
 
 import re
+from dataclasses import dataclass
 from typing import Any, Dict, Iterator, List, Set, Tuple
 
 from .faults import LineFault, syntax
@@ -51,27 +52,28 @@ HEXADECIMAL = '0123456789abcdefABCDEF'
 Fields = Dict[str, Any]
 
 
+@dataclass
 class Line:
-    """A line that is well formed: the key that says what it is, its word, and its values."""
+    """A line that is well formed, by its number: the key that says what it is (`trace`, `start` or
+    `op`), its word, which is empty for the header, and its keys with their values."""
 
-    def __init__(self, number: int, key: str, word: str, fields: Fields) -> None:
-        self.number = number
-        self.key = key
-        self.word = word
-        self.fields = fields
+    number: int
+    key: str
+    word: str
+    fields: Fields
 
     def paths(self) -> Iterator[str]:
-        """The paths that a line has."""
+        """The paths that the line has."""
         return (self.fields[key] for key in PATHS if key in self.fields)
 
     @property
     def rights(self) -> Tuple[str, str, str]:
-        """The owner, the group and the mode of a line."""
+        """The owner, the group and the mode of a line that has all three."""
         return self.fields['owner'], self.fields['group'], self.fields['mode']
 
     @property
     def data(self) -> bytes:
-        """The bytes of a file or a write."""
+        """The bytes of a file or a write that has no parts."""
         return bytes_of(self.fields)
 
     @property
@@ -83,26 +85,27 @@ class Line:
 
     @property
     def length(self) -> int:
-        """The length of a start file."""
+        """The length of a start file, with its zeros."""
         return int(self.fields['length']) if 'parts' in self.fields else len(self.data)
 
 
 def bytes_of(fields: Fields) -> bytes:
-    """Bytes, which versions 3 and 4 may have as a text."""
+    """The bytes of a line, or of a part: `text` in UTF-8, or `bytes` in hexadecimal digits."""
     if 'text' in fields:
         return str(fields['text']).encode('utf-8')
     return bytes.fromhex(fields['bytes'])
 
 
 class LineJudge:
-    """Judges line after line. The version is that of the header."""
+    """Reads line after line, the header first. version is that of the header, 0 before it."""
 
     def __init__(self) -> None:
         self.version = 0
         self.has_operation = False
 
     def read(self, number: int, text: str) -> Line:
-        """LineFault for a line with a fault of its own."""
+        """The line of a number, from its text; LineFault for the first fault that the line has by
+        itself. It must be given all lines, in their order."""
         fields = read_object(text)
         keys = [key for key in ('trace', 'start', 'op') if key in fields]
         if len(keys) != 1:
@@ -111,26 +114,27 @@ class LineJudge:
         if (line.key == 'trace') != (self.version == 0):
             raise syntax('the first line, and no other, is the header')
         if line.key == 'trace':
-            self.judge_header(line)
+            self.check_header(line)
         else:
-            self.judge_word(line)
-        judge_names(line)
+            self.check_word(line)
+        check_names(line)
         return line
 
-    def judge_header(self, line: Line) -> None:
-        """Sets the version to that of a header; refuses one that isn't known."""
+    def check_header(self, line: Line) -> None:
+        """Sets the version to that of a header. LineFault for an unknown version, or other keys or
+        values than those of its version."""
         version = line.fields['trace']
         if not is_number(version) or version not in HEADERS:
             raise syntax(f'version {version} is not known (1, 2, 3, 4)')
         self.version = version
-        self.judge_keys(line, (*HEADERS[version], *RIGHTS))
+        self.check_keys(line, (*HEADERS[version], *RIGHTS))
         profile = line.fields.get('profile', 'blocks')
         if PROFILES_SINCE.get(profile, 1) > version:
             raise syntax(f'profile "{profile}" is not known in version {version}')
 
-    def judge_word(self, line: Line) -> None:
-        """Returns the keys of the line's word; refuses one that the version lacks, and a start line
-        after an operation."""
+    def check_word(self, line: Line) -> None:
+        """Sets the word of a line. LineFault for a word that the version lacks, for a start line
+        after an operation, and as check_keys raises it."""
         if line.key == 'start' and self.has_operation:
             raise syntax('a start line after an operation')
         self.has_operation = line.key == 'op'
@@ -141,10 +145,11 @@ class LineJudge:
         if since > self.version:
             raise LineFault('UnknownOp', f'unknown {line.key} "{word}" in version {self.version}')
         line.word = word
-        self.judge_keys(line, keys)
+        self.check_keys(line, keys)
 
-    def judge_keys(self, line: Line, keys: Tuple[str, ...]) -> None:
-        """Refuses a line that lacks a key, or has another one."""
+    def check_keys(self, line: Line, keys: Tuple[str, ...]) -> None:
+        """LineFault for a line that lacks one of some keys, has another one, or a value that its
+        key may not have."""
         wanted, found = {line.key, *keys}, set(line.fields)
         if self.version >= 3:
             wanted |= found & {'note'}
@@ -155,21 +160,22 @@ class LineJudge:
         for key in sorted(wanted - found):
             raise syntax(f'no key "{key}"')
         for key in sorted(wanted - {line.key}):
-            judge_value(key, line.fields[key])
+            check_value(key, line.fields[key])
         if 'parts' in wanted:
-            judge_parts(line)
+            check_parts(line)
         if line.word == 'symlink':
-            judge_target(line.fields['target'])
+            check_target(line.fields['target'])
 
     def other_bytes(self, line: Line) -> Set[str]:
-        """The keys by which a line has its bytes, if it hasn't the key `bytes`."""
+        """The keys by which a line has its bytes if it hasn't `bytes`: `text`, or the length and
+        the parts of a file. `bytes` if it has none of them, so that it is reported as missing."""
         if self.version >= 4 and line.key == 'start' and 'parts' in line.fields:
             return {'length', 'parts'}
         return {'text' if self.version >= 3 and 'text' in line.fields else 'bytes'}
 
 
-def judge_value(key: str, value: Any) -> None:
-    """Syntax for a value that isn't of its key's kind."""
+def check_value(key: str, value: Any) -> None:
+    """LineFault for a value that isn't of its key's kind."""
     if key in ('offset', 'length', 'block', 'at'):
         if not is_number(value) or key == 'block' and value not in BLOCK_SIZES:
             raise syntax(f'{key} {value} is no number that it may have')
@@ -188,14 +194,14 @@ def judge_value(key: str, value: Any) -> None:
         raise syntax(f'profile "{value}" is not known ({", ".join(PROFILES)})')
 
 
-def judge_parts(line: Line) -> None:
-    """Syntax for parts that aren't the bytes of a file: they ascend, are apart and not empty, and
-    end at the file's end at the latest."""
+def check_parts(line: Line) -> None:
+    """LineFault for parts that aren't the bytes of a file: they ascend, are apart and not empty,
+    and end at the file's end at the latest."""
     for part in line.fields['parts']:
         if set(part) not in ({'at', 'bytes'}, {'at', 'text'}):
             raise syntax('a part has at, and bytes or text, and nothing else')
         for key, value in part.items():
-            judge_value(key, value)
+            check_value(key, value)
     end = 0
     for at, data in line.parts:
         if not data:
@@ -207,14 +213,14 @@ def judge_parts(line: Line) -> None:
         raise syntax(f'a part ends at {end}, past the length {line.length}')
 
 
-def judge_target(target: str) -> None:
-    """Refuses a symbolic link's target that is empty, too long, or has a NUL."""
+def check_target(target: str) -> None:
+    """LineFault for a symbolic link's target that is empty, too long, or has a NUL."""
     if not 1 <= len(target.encode('utf-8')) <= TARGET_BYTES or '\0' in target:
         raise syntax(f'a target is 1 to {TARGET_BYTES} bytes without NUL')
 
 
-def judge_names(line: Line) -> None:
-    """BadName for a path, an owner or a group that no file has."""
+def check_names(line: Line) -> None:
+    """LineFault for a path, an owner or a group that no file can have."""
     for path in line.paths():
         if path == '/' and line.word in TAKE_ROOT:
             continue

@@ -6,16 +6,17 @@ import json
 from typing import Any, Dict, Iterator
 
 from .micro import Micro
-from .order import bits
+from .place_sets import places_of
 from .plan import StateList
-from .profiles import Profiles
+from .order import Profiles
 from .states import Digest
 
 
 def listing(plan: StateList, lines: bool = False, same: bool = False) -> Iterator[str]:
-    """The lines of `list`."""
+    """The lines that `list` prints of a plan: with `lines` as --lines has them, with `same` as
+    --same."""
     for place, operation in enumerate(plan.reading.operations):
-        yield f'op {place} {operation.text}{origin(operation) if lines else ""}\n'
+        yield f'op {place} {operation.text}{origin_text(operation) if lines else ""}\n'
     first: Dict[Digest, int] = {}
     for number, (text, places) in enumerate(plan.states):
         tail = ''
@@ -24,16 +25,17 @@ def listing(plan: StateList, lines: bool = False, same: bool = False) -> Iterato
         yield f'state {number} {text} says {plan.trees.count_says(places)}{tail}\n'
 
 
-def origin(operation: Micro) -> str:
-    """The number of the trace's line that a micro-operation comes from, and its path."""
+def origin_text(operation: Micro) -> str:
+    """What --lines adds: the number of the trace's line that a micro-operation comes from, and the
+    path of a file that it changes."""
     path = '' if operation.file is None else operation.path
     return f' line {operation.line} {path}'.rstrip()
 
 
 def json_listing(plan: StateList) -> Iterator[str]:
-    """The same as JSON objects, with what each micro-operation needs."""
+    """The lines that `list --json` prints of a plan."""
     for place, operation in enumerate(plan.reading.operations):
-        needs = list(bits(plan.order.needs[place] | 1 << place))
+        needs = list(places_of(plan.order.needs[place] | 1 << place))
         yield as_line(
             {
                 'op': place,
@@ -59,7 +61,7 @@ def json_listing(plan: StateList) -> Iterator[str]:
 
 
 def state_fields(text: str) -> Dict[str, Any]:
-    """The fields that say which set a state is."""
+    """The fields of JSON that say which set a state is, from its text in a StateList."""
     kind, *numbers = text.split(' ')
     if kind == 'pick':
         places = [] if numbers == ['-'] else list(map(int, numbers[0].split(',')))

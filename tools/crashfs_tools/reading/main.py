@@ -8,7 +8,7 @@ from typing import Dict, List, Union
 
 from .faults import ReadingFault
 from .listing import json_listing, listing
-from .picking import Usage, judge, lines_of
+from .picking import Usage, is_number, printed_lines, refuse_options
 from .plan import StateList, add_families, plan_of, read_picks
 from .trace import read
 
@@ -35,10 +35,10 @@ HELP = (
 
 
 def main(words: List[str]) -> int:
-    """Runs a command and returns its status."""
+    """Runs a command, such as `list`, and returns its exit status, which is the program's."""
     try:
         options = read_options(words)
-        run(words[0], options)
+        print_output(words[0], options)
         sys.stdout.flush()
         return 0
     except Usage as usage:
@@ -56,7 +56,8 @@ def main(words: List[str]) -> int:
 
 
 def read_options(words: List[str]) -> Options:
-    """The options of a command, each with its value; Usage for one that it lacks."""
+    """The options of a command, each with its value, or True if it takes none; Usage for one that
+    it lacks."""
     if not words or words[0] not in FLAGS:
         raise Usage(f"unrecognized subcommand '{words[0] if words else ''}'")
     options: Options = {}
@@ -73,18 +74,19 @@ def read_options(words: List[str]) -> Options:
     if '--trace' not in options:
         raise Usage('the following required arguments were not provided: --trace <FILE>')
     if words[0] == 'picks':
-        judge(options)
+        refuse_options(options)
     return options
 
 
-def run(command: str, options: Options) -> None:
-    """Prints what a command asks for."""
+def print_output(command: str, options: Options) -> None:
+    """Prints what a command asks for. ReadingFault if its input has a fault, Usage if its options
+    don't go together."""
     if '--help' in options:
         print(HELP)
         return
     reading = read(file_bytes(str(options['--trace'])))
     if command == 'picks':
-        sys.stdout.writelines(lines_of(reading, options))
+        sys.stdout.writelines(printed_lines(reading, options))
         return
     picks = read_picks(file_bytes(str(options['--picks']))) if '--picks' in options else []
     plan = plan_of(reading, '--holes' in options, picks)
@@ -98,7 +100,7 @@ def run(command: str, options: Options) -> None:
 
 
 def file_bytes(path: str) -> bytes:
-    """The bytes of a file; a fault that names it if it can't be read."""
+    """The bytes of a file; a ReadingFault that names it if it can't be read."""
     try:
         with open(path, 'rb') as file:
             return file.read()
@@ -107,11 +109,11 @@ def file_bytes(path: str) -> bytes:
 
 
 def write_archive(plan: StateList, options: Options) -> None:
+    """Writes the archive that the options of `tar` ask for."""
     # `list` begins faster without tarfile.
-    """Writes the archive that `tar` asks for."""
     from .archive import ArchiveWriter
 
-    numbers = states_of(plan, options)
+    numbers = numbers_of_states(plan, options)
     with ArchiveWriter(plan, sys.stdout.buffer, '--sparse' in options) as archive:
         if '--changes' in options:
             archive.write_changes(numbers)
@@ -121,29 +123,31 @@ def write_archive(plan: StateList, options: Options) -> None:
             archive.write_states(numbers)
 
 
-def states_of(plan: StateList, options: Options) -> List[int]:
-    """The states that options name, in their order."""
+def numbers_of_states(plan: StateList, options: Options) -> List[int]:
+    """The numbers of the states that the options of `tar` name, in their order. ReadingFault if a
+    state isn't there, Usage if the text is no list of numbers."""
     if '--state' in options:
-        number = str(options['--state'])
-        if not number.isdigit():
-            raise Usage(f"invalid value '{number}' for '--state <N>'")
-        numbers = [int(number)]
+        shown = str(options['--state'])
+        if not is_number(shown):
+            raise Usage(f"invalid value '{shown}' for '--state <N>'")
+        ranges = [range(int(shown), int(shown) + 1)]
     else:
-        numbers = numbers_of(str(options.get('--states', '')))
-    if max(numbers) >= len(plan.states):
+        ranges = ranges_of(str(options.get('--states', '')))
+    # A range may have more numbers than there is memory for.
+    if any(one[-1] >= len(plan.states) for one in ranges):
         raise ReadingFault('no such state')
-    return numbers
+    return [number for one in ranges for number in one]
 
 
-def numbers_of(shown: str) -> List[int]:
-    """The states of a list of numbers and ranges, in its order."""
-    numbers: List[int] = []
+def ranges_of(shown: str) -> List[range]:
+    """The ranges of a list of numbers and ranges, in its order; Usage if it isn't one."""
+    ranges: List[range] = []
     for piece in shown.split(','):
         first, dash, last = piece.partition('-')
-        if not first.isdigit() or bool(dash) != last.isdigit():
+        if not is_number(first) or not is_number(last if dash else first):
             raise Usage(f"invalid value '{shown}' for '--states <LIST>'")
-        more = range(int(first), int(last or first) + 1)
-        if not more:
+        numbers = range(int(first), int(last or first) + 1)
+        if not numbers:
             raise Usage(f"invalid value '{shown}' for '--states <LIST>'")
-        numbers.extend(more)
-    return numbers
+        ranges.append(numbers)
+    return ranges

@@ -11,10 +11,10 @@ Rights = Tuple[str, str, str]
 
 
 class Micro:
-    """paths: those of its line. entries: those that it touches. handled: the files, symbolic links
-    and directories that it makes, links, moves, removes or replaces. file: the file whose size,
-    bytes or rights it changes, with a path of it. directory: the directory whose rights it
-    changes."""
+    """A micro-operation. paths: those of its line. entries: those that it touches. handled: the
+    files, symbolic links and directories that it makes, links, moves, removes or replaces. file:
+    the number of the file whose size, bytes or rights it changes, with a path of it. directory: the
+    number of the directory whose rights it changes. line: the number of its line."""
 
     paths: Tuple[str, ...] = ()
     entries: Tuple[Entry, ...] = ()
@@ -40,12 +40,14 @@ class Micro:
         raise NotImplementedError
 
     def path_of_file(self) -> Dict[str, Any]:
-        """The fields of a micro-operation that changes a file."""
+        """The fields of JSON that a micro-operation on a file has: a path of it, if it has one, and
+        its number."""
         return {'path': self.path or None, 'file': self.file}
 
 
 class CreateEntry(Micro):
-    """target: that of a symbolic link."""
+    """A file, a symbolic link or a directory is made at an entry. target: that of a symbolic
+    link."""
 
     def __init__(
         self, path: str, entry: Entry, node: Inode, rights: Rights, target: str = ''
@@ -69,7 +71,8 @@ class CreateEntry(Micro):
 
 
 class DeleteEntry(Micro):
-    """An entry of a directory is removed."""
+    """An entry of a directory is removed; node is what it named. half is 2 if it is the second half
+    of a rename."""
 
     def __init__(self, path: str, entry: Entry, node: Inode, half: int = 0) -> None:
         self.paths, self.entries, self.handled = (path,), (entry,), (node,)
@@ -87,7 +90,8 @@ class DeleteEntry(Micro):
 
 
 class MoveEntry(Micro):
-    """replaced: what was at the new entry. In JSON only version 4 has what is moved."""
+    """What is at the first entry is moved to the second one. replaced: what was there. In JSON only
+    version 4 has what is moved."""
 
     def __init__(
         self,
@@ -115,7 +119,8 @@ class MoveEntry(Micro):
 
 
 class LinkEntry(Micro):
-    """replaced: what was there, which only the first half of a rename replaces."""
+    """A file gets one more entry. half is 1 if it is the first half of a rename, which alone may
+    replace something."""
 
     def __init__(
         self,
@@ -154,7 +159,8 @@ class ChangeSize(Micro):
 
 
 class WriteBlock(Micro):
-    """begin is where its bytes begin in the file."""
+    """Bytes are written into a block of a file, at an offset in it. begin is their offset in the
+    file."""
 
     def __init__(self, file: int, block: int, size: int, at: int, data: bytes) -> None:
         self.file = file
@@ -195,6 +201,8 @@ class SetRights(Micro):
 
 
 class Acknowledgement(Micro):
+    """A line is acknowledged."""
+
     text = 'say'
 
     def fields(self) -> Dict[str, Any]:

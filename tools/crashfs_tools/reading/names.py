@@ -28,30 +28,36 @@ Entry = Tuple[int, str]
 
 
 def parent(path: str) -> str:
-    """The path of the directory that has a path's last name."""
+    """The path of the directory that has a path's last name; that of the root is the root."""
     return path.rpartition('/')[0] or '/'
 
 
 class Names:
     """The tree after the lines read so far: what each directory holds, and where each directory
     and file is. In versions 1 to 3 a directory's number is that of its path: one that is made
-    again has the old number."""
+    again has the old number.
 
-    def __init__(self) -> None:
-        self.version = 1
+    children has what each directory holds, by its number; entries the entries of each file or
+    symbolic link, by its number, the oldest first; directories the entry of each directory, also of
+    one that is gone. children and these two always agree."""
+
+    def __init__(self, version: int = 1) -> None:
+        self.version = version
         self.children: Dict[int, Dict[str, Inode]] = {ROOT: {}}
-        # The entry of each directory, also of one that is gone.
         self.directories: Dict[int, Entry] = {}
-        self.numbers: Dict[Entry, int] = {}
-        self.sizes: List[int] = []
-        # The entries of each file, the oldest first.
         self.entries: List[List[Entry]] = []
+        # Up to version 3 the number of the directory that was first made at an entry.
+        self.directory_numbers: Dict[Entry, int] = {}
+        # The size of each file, by its number.
+        self.sizes: List[int] = []
+        # How many files, directories and paths the program counts; the root is one.
         self.records = 1
 
     # Where things are
 
-    def node(self, path: str) -> Optional[Inode]:
-        """What is at a path; nothing is looked up through a file or a symbolic link."""
+    def inode_at(self, path: str) -> Optional[Inode]:
+        """What is at a path; None if nothing is. Nothing is looked up through a file or a symbolic
+        link."""
         found: Optional[Inode] = Inode(DIRECTORY, ROOT)
         for name in path.split('/')[1:] if path != '/' else []:
             if found is None or found.kind != DIRECTORY:
@@ -60,31 +66,31 @@ class Names:
         return found
 
     def entry(self, path: str) -> Entry:
-        """The entry of a path whose parent directory is there."""
-        above = self.node(parent(path))
+        """The entry of a path, whose parent directory must be there."""
+        above = self.inode_at(parent(path))
         assert above is not None and above.kind == DIRECTORY
         return above.number, path.rpartition('/')[2]
 
-    def file(self, path: str) -> int:
-        """The number of the file at a path."""
-        node = self.node(path)
+    def file_number(self, path: str) -> int:
+        """The number of the file or symbolic link at a path, which must be there."""
+        node = self.inode_at(path)
         assert node is not None and node.kind != DIRECTORY
         return node.number
 
     def path_of(self, entry: Entry) -> str:
-        """The path of an entry as the tree is now."""
+        """The path that an entry has in the tree as it is now."""
         directory, name = entry
         above = '' if directory == ROOT else self.path_of(self.directories[directory])
         return f'{above}/{name}'
 
     def path_of_file(self, number: int) -> str:
-        """A path of a file."""
+        """The oldest path of a file, by its number; it must have one."""
         return self.path_of(self.entries[number][0])
 
     # What lines do
 
     def add_file(self, path: str, size: int, kind: str = FILE) -> Inode:
-        """Makes a file or a symbolic link."""
+        """Makes a file or a symbolic link at a free path, with the next number."""
         self.sizes.append(size)
         self.entries.append([])
         node = Inode(kind, len(self.sizes) - 1)
@@ -92,11 +98,12 @@ class Names:
         return node
 
     def add_directory(self, path: str) -> Inode:
-        """Makes a directory. Up to version 3 one that is made again has its number again."""
+        """Makes a directory at a free path. Up to version 3 one that is made again has its number
+        again."""
         entry = self.entry(path)
         number = len(self.directories) + 1
         if self.version < 4:
-            number = self.numbers.setdefault(entry, number)
+            number = self.directory_numbers.setdefault(entry, number)
         node = Inode(DIRECTORY, number)
         self.children[number] = {}
         self.directories[number] = entry
@@ -104,18 +111,15 @@ class Names:
         return node
 
     def add_path(self, path: str, node: Inode) -> None:
-        """Gives a file or directory a path, which counts as a record."""
+        """Gives a file or directory a free path, which counts as a record."""
         self.records += 1
-        self.put(self.entry(path), node)
-
-    def put(self, entry: Entry, node: Inode) -> None:
-        """Gives a file or directory an entry."""
+        entry = self.entry(path)
         self.children[entry[0]][entry[1]] = node
         if node.kind != DIRECTORY:
             self.entries[node.number].append(entry)
 
     def remove(self, path: str) -> Inode:
-        """Removes the entry of a path, and returns what it named."""
+        """Removes the entry of a path where something is, and returns what it named."""
         entry = self.entry(path)
         node = self.children[entry[0]].pop(entry[1])
         if node.kind != DIRECTORY:
@@ -123,10 +127,10 @@ class Names:
         return node
 
     def move(self, old: str, new: str) -> None:
-        """What is at the new path is replaced. Among the paths of a file the new one has the old
-        one's place."""
+        """Moves what is at a path to another one; what is there is replaced. Among the paths of a
+        file the new one has the old one's place."""
         source, target = self.entry(old), self.entry(new)
-        if self.node(new) is not None:
+        if self.inode_at(new) is not None:
             self.remove(new)
         if self.version >= 4 and source[0] != target[0]:
             self.records += 1
@@ -138,21 +142,26 @@ class Names:
             entries = self.entries[node.number]
             entries[entries.index(source)] = target
 
+    def set_size(self, number: int, length: int) -> None:
+        """Sets the size of a file, by its number."""
+        self.sizes[number] = length
+
     # What a line needs
 
-    def judge(self, line: Line) -> None:
-        """LineFault for a line that the tree has no place for."""
+    def refuse_unfit(self, line: Line) -> None:
+        """LineFault if a line doesn't fit the tree: a path is missing, taken or of another kind, or
+        a limit is passed."""
         if line.key == 'trace':
             return
         if line.word in ('creat', 'mkdir', 'dir', 'file', 'symlink'):
             self.need_free(line.fields['path'])
         elif line.word == 'link':
-            self.need_file(line.fields['from'])
+            self.need_kind(line.fields['from'], (FILE,))
             self.need_free(line.fields['path' if line.key == 'start' else 'to'])
         elif line.word == 'rename':
-            self.judge_rename(line.fields['from'], line.fields['to'])
+            self.refuse_rename(line.fields['from'], line.fields['to'])
         elif line.word == 'rmdir':
-            self.judge_rmdir(line.fields['path'])
+            self.refuse_rmdir(line.fields['path'])
         elif line.word in ('fsync', 'chmod'):
             self.need_kind(line.fields['path'], (DIRECTORY, FILE))
         elif line.word == 'chown':
@@ -160,66 +169,62 @@ class Names:
         elif line.word == 'unlink':
             self.need_kind(line.fields['path'], (FILE, SYMLINK))
         elif line.word in ('write', 'truncate', 'fdatasync', 'fsync_range'):
-            self.need_file(line.fields['path'])
-        self.judge_size(line)
+            self.need_kind(line.fields['path'], (FILE,))
+        self.refuse_too_large(line)
 
     def need(self, path: str) -> Inode:
-        """What is at a path; a fault if nothing is."""
-        node = self.node(path)
+        """What is at a path; LineFault if nothing is."""
+        node = self.inode_at(path)
         if node is None:
             raise LineFault('Missing', f'{path} is not there')
         return node
 
     def need_kind(self, path: str, kinds: Tuple[str, ...]) -> None:
-        """A fault unless something of one of these kinds is at a path."""
+        """LineFault unless something of one of these kinds is at a path."""
         node = self.need(path)
         if node.kind not in kinds:
             raise LineFault('NotFile', f'{path} is {WORDS[node.kind]}')
 
-    def need_file(self, path: str) -> None:
-        """A fault unless a file is at a path."""
-        self.need_kind(path, (FILE,))
-
     def need_parent(self, path: str) -> None:
-        """A fault unless a path's directory is there."""
-        above = self.node(parent(path))
+        """LineFault unless a path's directory is there."""
+        above = self.inode_at(parent(path))
         if above is None:
             raise LineFault('NoParent', f'{parent(path)} is not there')
         if above.kind != DIRECTORY:
             raise LineFault('NotDir', f'{parent(path)} is {WORDS[above.kind]}')
 
     def need_free(self, path: str) -> None:
-        """A fault unless something can be made at a path."""
+        """LineFault unless something can be made at a path."""
         self.need_parent(path)
-        if self.node(path) is not None:
+        if self.inode_at(path) is not None:
             raise LineFault('Exists', f'{path} is there already')
 
-    def judge_rename(self, old: str, new: str) -> None:
-        """The first fault of a rename."""
+    def refuse_rename(self, old: str, new: str) -> None:
+        """LineFault with the first fault of a rename of `old` to `new`, if it has one."""
         node = self.need(old)
         if node.kind == DIRECTORY and self.version < 4:
             raise LineFault('NotFile', f'{old} is a directory')
         self.need_parent(new)
-        there = self.node(new)
+        there = self.inode_at(new)
         if node.kind == DIRECTORY and new.startswith(old + '/'):
             raise LineFault('BadName', f'{new} is below {old}')
         if there is None or there == node:
             return
         if node.kind == DIRECTORY:
-            self.judge_rmdir(new)
+            self.refuse_rmdir(new)
         elif there.kind == DIRECTORY:
             raise LineFault('NotFile', f'{new} is a directory')
 
-    def judge_rmdir(self, path: str) -> None:
-        """The first fault of a removal of a directory."""
+    def refuse_rmdir(self, path: str) -> None:
+        """LineFault unless an empty directory is at a path."""
         node = self.need(path)
         if node.kind != DIRECTORY:
             raise LineFault('NotDir', f'{path} is {WORDS[node.kind]}')
         if self.children[node.number]:
             raise LineFault('NotEmpty', f'{path} has entries')
 
-    def judge_size(self, line: Line) -> None:
-        """A fault if a path, the records or a file would be larger than a limit."""
+    def refuse_too_large(self, line: Line) -> None:
+        """LineFault if a path, the records or a file would be larger than a limit."""
         if any(path.count('/') > PATH_NAMES for path in line.paths()):
             raise LineFault('TooLarge', f'a path of more than {PATH_NAMES} names')
         if self.records >= RECORDS and (line.word in MAKES_RECORD or self.moves_elsewhere(line)):
@@ -231,12 +236,12 @@ class Names:
             raise LineFault('TooLarge', f'a file of more than {most} bytes')
 
     def moves_elsewhere(self, line: Line) -> bool:
-        """Whether a line is a rename into another directory that isn't nothing: it counts as a
-        record."""
+        """Whether a line is a rename, of version 4, into another directory that does something: it
+        counts as a record."""
         if self.version < 4 or line.word != 'rename':
             return False
         old, new = line.fields['from'], line.fields['to']
-        return parent(old) != parent(new) and self.node(old) != self.node(new)
+        return parent(old) != parent(new) and self.inode_at(old) != self.inode_at(new)
 
 
 def end_of(line: Line) -> int:

@@ -1,4 +1,4 @@
-"""The order of micro-operations: which of them each one needs."""
+"""The order of micro-operations: which of them each one needs, under the rules of each profile."""
 
 from __future__ import annotations
 
@@ -6,6 +6,8 @@ from copy import copy
 from operator import or_
 from typing import Dict, Iterator, List, Optional, Tuple
 
+from .faults import ReadingFault
+from .lines import PROFILES, PROFILES_SINCE
 from .micro import (
     Acknowledgement,
     ChangeSize,
@@ -16,6 +18,7 @@ from .micro import (
     WriteBlock,
 )
 from .names import DIRECTORY
+from .place_sets import lacking_of, places_of, set_of
 from .syncs import SyncPoint
 from .trace import Reading
 
@@ -25,8 +28,9 @@ IN_ORDER = ('ordered', 'journal')
 
 
 def marks_of_same_thing(operation: Micro) -> Iterator[Mark]:
-    """What no two micro-operations change out of order: a block, a size, a file's rights (P1, P7),
-    an entry, and a directory that is made or removed or gets rights (P2)."""
+    """The marks of what a micro-operation changes and no two change out of order: a block, a size,
+    a file's rights (P1, P7), an entry, and a directory that is made or removed or gets rights
+    (P2)."""
     if isinstance(operation, WriteBlock):
         yield 'block', operation.file, operation.block
     elif isinstance(operation, ChangeSize):
@@ -45,7 +49,7 @@ def marks_of_same_thing(operation: Micro) -> Iterator[Mark]:
 
 
 def marks_left(operation: Micro) -> Iterator[Mark]:
-    """What a micro-operation is found by when a later one asks."""
+    """The marks by which a micro-operation is found when a later one asks."""
     yield from marks_of_same_thing(operation)
     if isinstance(operation, Acknowledgement):
         yield ('say',)
@@ -60,7 +64,7 @@ def marks_left(operation: Micro) -> Iterator[Mark]:
 
 
 def marks_asked(operation: Micro, reading: Reading, profile: str) -> Iterator[Mark]:
-    """What a micro-operation asks for: it needs all earlier ones with such a mark."""
+    """The marks that a micro-operation asks for: it needs all earlier ones that have left one."""
     yield from marks_of_same_thing(operation)
     if operation.removed_directory is not None:
         yield 'entry in', operation.removed_directory  # P4
@@ -76,26 +80,27 @@ def marks_asked(operation: Micro, reading: Reading, profile: str) -> Iterator[Ma
 
 class Order:
     """Sets of places are numbers whose bits are the places. needs: for each micro-operation all
-    that it needs, by any chain. synced: for each number of micro-operations what is durable there:
-    what sync points before the next one cover. units: the places that an allowed set has together
-    or not at all, by the first of them, where they are more than one."""
+    that it needs, by any chain. synced: for each number of micro-operations what sync points before
+    the next one cover, and logged: what they wrote to a log. units: the places that an allowed set
+    has together or not at all, by the first of them, where they are more than one."""
 
     def __init__(self, reading: Reading, profile: Optional[str] = None) -> None:
         self.count = len(reading.operations)
         self.profile = profile or reading.profile
         self.synced = synced_sets(reading.operations, reading.syncs)
+        self.logged = logged_sets(reading, self.profile)
         self.needs = self.all_needs(reading)
         self.needed_by = inverse(self.needs)
         self.units: Dict[int, int] = {}
 
     def all_needs(self, reading: Reading) -> List[int]:
-        """What each micro-operation needs, by all rules, as sets of places."""
+        """What each micro-operation needs, by all rules and by any chain, as sets of places; itself
+        isn't among them."""
         needs: List[int] = []
         left: Dict[Mark, int] = {}
         directories: Dict[int, int] = {}
-        logged = logged_sets(reading, self.profile)
         for place, operation in enumerate(reading.operations):
-            direct = self.synced[place] | logged[place]  # P5, P11
+            direct = self.synced[place] | self.logged[place]  # P5, P11
             for mark in marks_asked(operation, reading, self.profile):
                 direct |= left.get(mark, 0)
             for directory, _ in operation.entries:
@@ -103,7 +108,7 @@ class Order:
             if operation.half == 2:
                 direct |= 1 << (place - 1)  # P13
             needs.append(direct)
-            for needed in bits(direct):
+            for needed in places_of(direct):
                 needs[place] |= needs[needed]
             for mark in marks_left(operation):
                 left[mark] = left.get(mark, 0) | 1 << place
@@ -116,38 +121,52 @@ class Order:
         """The set of all places."""
         return (1 << self.count) - 1
 
+    def pending(self, count: int) -> int:
+        """Which of the first so many micro-operations no sync before the next one has made durable,
+        as a set; what a durable one needs is durable too."""
+        durable = self.synced[count] | self.logged[count]
+        for place in places_of(durable):
+            durable |= self.needs[place]
+        return (1 << count) - 1 & ~durable
+
     def later_without(self, future: int, lowest: int) -> int:
-        """What can still be added if the lowest place of a future is left out for good."""
+        """The future in which the lowest place of a future, as a set of one, is left out for good,
+        and so all that need it."""
         return future & ~lowest & ~self.needed_by[lowest.bit_length() - 1]
 
     def unit(self, lowest: int) -> int:
-        """What is added with the lowest place of a future."""
+        """The set that is added with the lowest place of a future, given as a set of one."""
         return self.units.get(lowest.bit_length() - 1, lowest)
 
     def needed_in_both(self, other: Order) -> Order:
-        """The order that allows a set if this one and another do, of the same micro-operations."""
+        """The order that allows a set if this one and another do, of the same micro-operations.
+        What one of them has made durable is durable."""
         both = copy(self)
         both.needs, both.units = [], {**self.units, **other.units}
+        both.synced = list(map(or_, self.synced, other.synced))
+        both.logged = list(map(or_, self.logged, other.logged))
         for place, needs in enumerate(map(or_, self.needs, other.needs)):
             if place in both.units:
                 needs |= (self.needs[place + 1] | other.needs[place + 1]) & ~(1 << place)
-            for needed in bits(needs):
+            for needed in places_of(needs):
                 needs |= both.needs[needed]
             both.needs.append(needs)
         both.needed_by = inverse(both.needs)
         return both
 
-    def within(self, reading: Reading, profile: str) -> Order:
+    def also_under(self, reading: Reading, profile: str) -> Order:
         """The order that allows a set if this one does, and a file system of a profile may leave
-        it: only with `blocks` a rename may be half done."""
+        it: only with `blocks` a rename may be half done. The reading is that of this order."""
         other = Order(reading, profile)
         if profile != 'blocks':
             other.units = {place: 0b11 << place for place in half_places(reading.operations)}
-        return self.needed_in_both(other)
+        both = self.needed_in_both(other)
+        both.profile = profile
+        return both
 
     def acknowledged_first(self, reading: Reading) -> Order:
-        """The order that besides allows only sets that, for each member, have all acknowledged
-        lines before it."""
+        """The order that allows a set if this one does, and the set has, for each member, all
+        acknowledged lines before it."""
         first = copy(self)
         says, first.needs = 0, []
         for place, operation in enumerate(reading.operations):
@@ -156,35 +175,33 @@ class Order:
         return self.needed_in_both(first)
 
     def is_allowed(self, places: int) -> bool:
-        """Whether a crash may leave these micro-operations and no others."""
-        lacking = (1 << places.bit_length()) - 1 & ~places
-        return not any(self.needed_by[place] & places for place in bits(lacking))
+        """Whether a crash may leave the micro-operations of a set and no others."""
+        return not any(self.needed_by[place] & places for place in places_of(lacking_of(places)))
 
     def without(self, places: int, lost: int) -> int:
-        """What stays of a set if some are lost, and with them all that need one of them."""
+        """The set that stays of a set if the members of another are lost, and with them all that
+        need one of these."""
         gone = lost
-        for place in bits(lost):
+        for place in places_of(lost):
             gone |= self.needed_by[place]
         return places & ~gone
 
 
 def inverse(needs: List[int]) -> List[int]:
-    """For each place those that need it."""
+    """For each place the set of those that need it, from the set that each needs."""
     found = [0] * len(needs)
     for place, mask in enumerate(needs):
-        for needed in bits(mask):
+        for needed in places_of(mask):
             found[needed] |= 1 << place
     return found
 
 
 def synced_sets(operations: List[Micro], syncs: List[SyncPoint]) -> List[int]:
-    """For each place what the sync points before it cover."""
+    """For each place, and for the end, the set that the sync points before it cover."""
     covered = [0] * (len(operations) + 1)
     for sync in syncs:
-        covered[sync.at] |= sum(
-            1 << place
-            for place, operation in enumerate(operations[: sync.at])
-            if sync.covers(operation)
+        covered[sync.at] |= set_of(
+            place for place, operation in enumerate(operations[: sync.at]) if sync.covers(operation)
         )
     for place in range(1, len(covered)):
         covered[place] |= covered[place - 1]
@@ -192,8 +209,8 @@ def synced_sets(operations: List[Micro], syncs: List[SyncPoint]) -> List[int]:
 
 
 def logged_sets(reading: Reading, profile: str) -> List[int]:
-    """For each place what the log has that sync points before it wrote: with the profile `journal`
-    all changes of entries before them."""
+    """For each place, and for the end, the set that the log has which sync points before it wrote:
+    with the profile `journal` all changes of entries before them, with others nothing."""
     entries, logged, begin = 0, [0] * (len(reading.operations) + 1), 0
     if profile != 'journal':
         return logged
@@ -213,9 +230,40 @@ def half_places(operations: List[Micro]) -> List[int]:
     return [place for place, operation in enumerate(operations) if operation.half == 1]
 
 
-def bits(mask: int) -> Iterator[int]:
-    """The places of a set, ascending."""
-    while mask:
-        lowest = mask & -mask
-        yield lowest.bit_length() - 1
-        mask ^= lowest
+def profile_names(reading: Reading) -> List[str]:
+    """The names of the profiles that a trace of this version has, from the one that allows the most
+    on."""
+    return [name for name in PROFILES if PROFILES_SINCE.get(name, 1) <= reading.version]
+
+
+def order_in(reading: Reading, profile: str) -> Order:
+    """The order that allows a set if that of the trace does, and a file system of the profile may
+    have it; ReadingFault if traces of this version haven't the profile."""
+    if profile not in profile_names(reading):
+        raise ReadingFault('no such profile')
+    order = Order(reading)
+    return order if profile == order.profile else order.also_under(reading, profile)
+
+
+def orders_in(reading: Reading) -> Dict[str, Order]:
+    """The order of order_in for each profile of the trace, by its name."""
+    return {profile: order_in(reading, profile) for profile in profile_names(reading)}
+
+
+class Profiles:
+    """Under which profiles sets of one trace are allowed. The micro-operations are those of the
+    trace's own profile."""
+
+    def __init__(self, reading: Reading) -> None:
+        self.orders: Dict[str, Order] = {it: Order(reading, it) for it in profile_names(reading)}
+        self.halves = half_places(reading.operations)
+
+    def names(self, places: int) -> List[str]:
+        """The names of the profiles by whose rules a set is allowed. Only `blocks` has a rename
+        that is half done."""
+        is_whole = all(places >> place & 0b11 != 0b01 for place in self.halves)
+        return [
+            name
+            for name, order in self.orders.items()
+            if (is_whole or name == 'blocks') and order.is_allowed(places)
+        ]

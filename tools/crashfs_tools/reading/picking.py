@@ -7,12 +7,12 @@ from itertools import islice
 from typing import Dict, Iterator, List, Union
 
 from .classes import Classes
-from .every import count_sets, every_set, sample
+from .every import count_sets, drawn_sets, every_set
 from .faults import ReadingFault
 from .lines import PROFILES
-from .order import Order, bits
-from .plan import StateList, different, file_sets, lost_sets
-from .profiles import order_in
+from .order import Order, order_in
+from .place_sets import places_of
+from .plan import StateList, different_places, file_sets, lost_sets
 from .trace import Reading
 
 MOST = 1_000_000
@@ -26,7 +26,7 @@ class Usage(Exception):
     """A command line that is refused."""
 
 
-def judge(options: Options) -> None:
+def refuse_options(options: Options) -> None:
     """Usage for options that don't go together, or a value that is out of range."""
     families = [it for it in ('--every', '--sample') if it in options]
     families += ['--lost'] if {'--lost', '--files'} & options.keys() else []
@@ -43,22 +43,28 @@ def judge(options: Options) -> None:
     if options.get('--profile', PROFILES[0]) not in PROFILES:
         raise Usage(f"invalid value '{options['--profile']}' for '--profile <F>'")
     for option in LARGEST:
-        number_of(options, option)
+        number_of_option(options, option)
 
 
-def number_of(options: Options, option: str, default: int = MOST) -> int:
-    """The number that an option has."""
+def number_of_option(options: Options, option: str, default: int = MOST) -> int:
+    """The number that an option has, or a default if it isn't given; Usage if it is no number, or
+    out of range."""
     if option not in options:
         return default
     text = str(options[option])
-    is_number = text.isascii() and text.isdigit() and len(text) <= 20
-    if not is_number or not LEAST[option] <= int(text) <= LARGEST[option]:
+    if not is_number(text) or not LEAST[option] <= int(text) <= LARGEST[option]:
         raise Usage(f"invalid value '{text}' for '{option} <N>'")
     return int(text)
 
 
-def lines_of(reading: Reading, options: Options) -> Iterator[str]:
-    """What `picks` prints; ReadingFault if it is refused, before the first line."""
+def is_number(text: str) -> bool:
+    """Whether a text is a number that eight bytes hold."""
+    return text.isascii() and text.isdecimal() and len(text) <= 20 and int(text) < 2**64
+
+
+def printed_lines(reading: Reading, options: Options) -> Iterator[str]:
+    """The lines that `picks` prints of a trace. ReadingFault, before the first line, if it is
+    refused."""
     if '--count' in options:
         yield f'{shown_count(count_sets(Order(reading)))}\n'
         return
@@ -67,34 +73,36 @@ def lines_of(reading: Reading, options: Options) -> Iterator[str]:
 
 
 def shown_count(count: int) -> str:
-    """A number, or that it is larger than eight bytes hold."""
+    """A number as `picks --count` prints it: one that eight bytes don't hold is only `more
+    than`."""
     largest = 2**64 - 1
     return str(count) if count <= largest else f'more than {largest}'
 
 
 def sets_of(reading: Reading, options: Options) -> Iterator[List[int]]:
-    """The sets that the options ask for."""
+    """The places of each set that the options ask for, in the order in which they are printed;
+    ReadingFault if they are refused."""
     if '--every' in options:
         return every_members(reading, options)
     if '--sample' in options:
-        seed = number_of(options, '--seed')
-        drawn = sample(Order(reading), number_of(options, '--sample'), seed)
-        return (list(bits(places)) for places in drawn)
+        seed = number_of_option(options, '--seed')
+        drawn = drawn_sets(Order(reading), number_of_option(options, '--sample'), seed)
+        return (list(places_of(places)) for places in drawn)
     plan = StateList(reading)
     families = [lost_sets(plan)] if '--lost' in options else []
     families += [file_sets(plan)] if '--files' in options else []
     # A set of both families is printed twice.
-    return (it for family in families for it in different(family))
+    return (it for family in families for it in different_places(family))
 
 
 def every_members(reading: Reading, options: Options) -> Iterator[List[int]]:
-    """The members of --every, none if there are more than --most."""
+    """The places of each set of --every; ReadingFault if there are more than --most."""
     profile = options.get('--profile')
     order = Order(reading) if profile is None else order_in(reading, str(profile))
     is_different = '--different' in options
     members = Classes(reading, order).different() if is_different else every_set(order)
-    most = number_of(options, '--most')
+    most = number_of_option(options, '--most')
     found = list(islice(members, most + 1))
     if len(found) > most:
         raise ReadingFault(f'more than {most} sets')
-    return (list(bits(places)) for places in found)
+    return (list(places_of(places)) for places in found)

@@ -7,7 +7,8 @@ from typing import Iterator, List, Sequence, Tuple
 
 from .faults import LineFault, ReadingFault
 from .json_lines import is_number, read_array
-from .order import Order, bits
+from .order import Order
+from .place_sets import places_of, set_of
 from .states import States
 from .trace import Reading
 
@@ -16,7 +17,7 @@ LARGEST_PLACE = 2**32 - 1
 
 
 class StateList:
-    """states: what `list` prints of each, and its set."""
+    """The states of a plan, by their numbers: what `list` prints of each, and its set."""
 
     def __init__(self, reading: Reading) -> None:
         self.reading = reading
@@ -25,21 +26,23 @@ class StateList:
         self.states: List[Tuple[str, int]] = []
 
     def add(self, text: str, places: int) -> None:
-        """Adds a state; a fault if the plan is full."""
+        """Adds a state by its text and its set; ReadingFault if the plan is full."""
         if len(self.states) >= STATES:
             raise ReadingFault('plan too large')
         self.states.append((text, places))
 
     def add_holes(self) -> None:
-        """Adds each prefix without one micro-operation and what needs it."""
+        """Adds each prefix without one micro-operation and what needs it, unless its last one is
+        lost with it; ReadingFault if the plan is full."""
         for end in range(self.order.count + 1):
             for lost in range(end - 1):
                 kept = self.order.without((1 << end) - 1, 1 << lost)
                 if kept >> (end - 1):
                     self.add(f'hole {lost} {end}', kept)
 
-    def judge_pick(self, number: int, pick: Sequence[int]) -> None:
-        """Refuses a pick that isn't ascending, or that no crash leaves."""
+    def refuse_bad_pick(self, number: int, pick: Sequence[int]) -> None:
+        """ReadingFault, with the pick's number, for places that don't ascend, or that no crash
+        leaves."""
         ascending = all(one < other for one, other in zip(pick, pick[1:]))
         if not (
             ascending
@@ -52,7 +55,8 @@ class StateList:
 def plan_of(
     reading: Reading, holes: bool = False, picks: Sequence[Sequence[int]] = ()
 ) -> StateList:
-    """The prefixes, the holes if they are asked for, and the picks, numbered in this order."""
+    """The prefixes, the holes if they are asked for, and the picks, numbered in this order.
+    ReadingFault if they are too many, or a pick is no allowed set."""
     plan = StateList(reading)
     for count in range(plan.order.count + 1):
         plan.add(f'prefix {count}', (1 << count) - 1)
@@ -61,13 +65,14 @@ def plan_of(
     if len(plan.states) + len(picks) > STATES:
         raise ReadingFault('plan too large')
     for number, pick in enumerate(picks):
-        plan.judge_pick(number, pick)
+        plan.refuse_bad_pick(number, pick)
         plan.add(f'pick {",".join(map(str, pick)) or "-"}', set_of(pick))
     return plan
 
 
 def add_families(plan: StateList, has_lost: bool, has_files: bool) -> None:
-    """Adds the sets of the families that the plan doesn't have, each once."""
+    """Adds to a plan the sets of the families that are asked for and that it lacks, each once;
+    ReadingFault if the plan is full."""
     families = [lost_sets(plan)] if has_lost else []
     families += [file_sets(plan)] if has_files else []
     known = {places for _, places in plan.states}
@@ -75,23 +80,18 @@ def add_families(plan: StateList, has_lost: bool, has_files: bool) -> None:
         if places not in known:
             if len(plan.states) == STATES:
                 raise ReadingFault('plan too large')
-            plan.add(f'pick {",".join(map(str, bits(places))) or "-"}', places)
-
-
-def set_of(places: Sequence[int]) -> int:
-    """A set of places as the bits of a number."""
-    return sum(1 << place for place in places)
+            plan.add(f'pick {",".join(map(str, places_of(places))) or "-"}', places)
 
 
 def read_picks(data: bytes) -> List[List[int]]:
-    """The sets of a picks file."""
+    """The places of each set of a picks file; ReadingFault for a line that isn't one."""
     picks = []
     for number, line in enumerate(data.split(b'\n'), 1):
         if not line:
             continue
         try:
             pick = read_array(line)
-        except (LineFault, UnicodeDecodeError) as fault:
+        except LineFault as fault:
             raise ReadingFault(f'picks line {number}: Syntax') from fault
         if not all(is_number(place) and place <= LARGEST_PLACE for place in pick):
             raise ReadingFault(f'picks line {number}: Syntax')
@@ -105,7 +105,8 @@ def lost_sets(plan: StateList) -> Iterator[int]:
 
 
 def file_sets(plan: StateList) -> Iterator[int]:
-    """The family --files: each prefix without those changes of a file that no sync covers."""
+    """The family --files: each prefix without those changes of one file that no sync covers. A set
+    may come several times."""
     order, trees = plan.order, plan.trees
     for count in range(1, order.count + 1):
         # A sync after the prefix's last micro-operation hasn't ended yet.
@@ -116,10 +117,10 @@ def file_sets(plan: StateList) -> Iterator[int]:
                 yield order.without((1 << count) - 1, lost)
 
 
-def different(sets: Iterator[int]) -> Iterator[List[int]]:
-    """Each set once, as its places."""
+def different_places(sets: Iterator[int]) -> Iterator[List[int]]:
+    """The places of each set; a set that comes again is left out."""
     seen = set()
     for places in sets:
         if places not in seen:
             seen.add(places)
-            yield list(bits(places))
+            yield list(places_of(places))

@@ -9,8 +9,8 @@ from .data import Data
 from .digests import Digests
 from .micro import ChangeSize, Micro, Rights, SetRights, WriteBlock
 from .names import DIRECTORY, Inode
-from .order import bits
-from .tables import Table, change_entries, change_rights
+from .place_sets import places_of
+from .tables import EntryTable, change_entries, change_rights
 from .trace import Reading
 
 
@@ -24,19 +24,22 @@ class Item(NamedTuple):
 
     @property
     def content(self) -> Optional[bytes]:
-        """All its bytes."""
+        """All its bytes; None for a directory."""
         return None if self.data is None else self.data.whole()
 
 
 # A tree in a form in which equal trees are equal, and others are not.
 Digest = Tuple[Tuple[str, str, Rights, Optional[bytes]], ...]
-# The nodes of a state by path, in the order of the paths, and the rights of its directories.
+# What is at each path of a state, in the order of the paths, and the rights of its directories by
+# their numbers.
 Inodes = Tuple[Dict[str, Inode], Dict[int, Rights]]
 
 
 class States:
     """Makes the trees of allowed sets. What a file holds depends on its own changes alone, and the
-    names on changes of entries alone, so that many states share them."""
+    names on changes of entries alone, so that many states share them. change_places has the set of
+    each file's changes, by its number; entry_places, directory_moves and says are the sets of
+    changes of entries, of moves of directories, and of acknowledged lines."""
 
     def __init__(self, reading: Reading) -> None:
         self.reading = reading
@@ -53,7 +56,7 @@ class States:
                 self.directory_moves |= operation.moves_directory << place
             else:
                 self.says |= 1 << place
-        self.start_nodes = dict(Table(reading).paths())
+        self.start_nodes = dict(EntryTable(reading).paths())
         self._nodes = lru_cache(64)(self.make_nodes)
         self._file = lru_cache(64)(self.make_file)
         self._digests = lru_cache(None)(Digests(reading, self.change_places, self.make_file).digest)
@@ -63,7 +66,7 @@ class States:
         return bin(places & self.says).count('1')
 
     def tree(self, places: int) -> Dict[str, Item]:
-        """What is at each path, the root among them."""
+        """The tree of an allowed set: what is at each path, the root among them."""
         nodes, rights = self._nodes(places & self.entry_places)
         return {
             path: (
@@ -75,7 +78,7 @@ class States:
         }
 
     def digest(self, places: int) -> Digest:
-        """Equal for the sets that leave equal trees."""
+        """The tree of an allowed set in a form that is equal for sets that leave equal trees."""
         nodes, rights = self._nodes(places & self.entry_places)
         return tuple(
             (
@@ -87,21 +90,23 @@ class States:
         )
 
     def file(self, number: int, places: int) -> Tuple[Rights, Data]:
-        """The bytes and rights of a file in a set."""
+        """The rights and bytes of a file, by its number, in an allowed set."""
         return self._file(number, places & self.change_places.get(number, 0))
 
     def file_digest(self, number: int, places: int) -> Tuple[Rights, bytes]:
-        """Equal for the sets in which a file has equal bytes and rights."""
+        """The rights of a file, by its number, and a digest of its bytes in an allowed set: equal
+        for the sets in which these are equal."""
         return self._digests(number, places & self.change_places.get(number, 0))
 
     def make_nodes(self, places: int) -> Inodes:
-        """Without a move of a directory each directory is at its home, so that only paths of
-        changed entries are looked at."""
-        operations = [self.reading.operations[place] for place in bits(places)]
+        """What is at each path after the changes of entries in a set, and the rights of
+        directories. Without a move of a directory each directory is at its home, so that only paths
+        of changed entries are looked at."""
+        operations = [self.reading.operations[place] for place in places_of(places)]
         if places & self.directory_moves:
-            table = Table(self.reading)
+            table = EntryTable(self.reading)
             for operation in operations:
-                table.change(operation)
+                table.apply(operation)
             return dict(sorted(table.paths())), table.rights
         rights = dict(self.reading.start_rights)
         changed = {
@@ -125,10 +130,11 @@ class States:
         return f'{self.reading.homes[entry[0]]}/{entry[1]}'
 
     def make_file(self, number: int, places: int) -> Tuple[Rights, Data]:
-        """Applies a set's changes of a file to what it was made with."""
+        """The rights and bytes of a file, by its number, after some of its changes; without hidden
+        bytes."""
         rights = self.reading.made_rights[number]
         data = self.reading.made_data.get(number, Data(self.reading.block_size)).copy()
-        operations: List[Micro] = [self.reading.operations[place] for place in bits(places)]
+        operations: List[Micro] = [self.reading.operations[place] for place in places_of(places)]
         for operation in operations:
             if isinstance(operation, SetRights):
                 rights = operation.rights
@@ -137,7 +143,8 @@ class States:
 
 
 def change_data(data: Data, operation: Micro) -> None:
-    """Bytes past the size are hidden until a size covers them; a size that shrinks drops them."""
+    """Changes a file's bytes as a micro-operation of it does. Bytes past the size are hidden until
+    a size covers them; a size that shrinks drops them."""
     if isinstance(operation, ChangeSize):
         data.resize(operation.length)
     elif isinstance(operation, WriteBlock):

@@ -10,13 +10,15 @@ from .names import DIRECTORY, Inode
 
 
 class SyncPoint:
-    """A sync point of everything, before the micro-operation at its place."""
+    """A sync of everything, after so many micro-operations: before the one at that place. A sync of
+    one file or directory has its number."""
 
-    def __init__(self, at: int) -> None:
+    def __init__(self, at: int, number: int = -1) -> None:
         self.at = at
+        self.number = number
 
     def covers(self, operation: Micro) -> bool:
-        """Whether it makes an earlier micro-operation durable."""
+        """Whether it makes a micro-operation durable that comes before it."""
         return True
 
     def is_fresh(self, since: List[Micro]) -> bool:
@@ -25,20 +27,17 @@ class SyncPoint:
 
 
 class FileSync(SyncPoint):
-    """An fsync of a file."""
-
-    def __init__(self, at: int, file: int) -> None:
-        super().__init__(at)
-        self.file = file
+    """An fsync of a file, by its number."""
 
     def covers(self, operation: Micro) -> bool:
-        """Whether it makes a micro-operation durable."""
-        return operation.file == self.file
+        """Whether a micro-operation that comes before it changes the file's size, bytes or
+        rights."""
+        return operation.file == self.number
 
     def is_fresh(self, since: List[Micro]) -> bool:
         """Whether the file or a name of it was changed since, so that the sync writes the log."""
         return any(
-            one.file == self.file or any(is_file(node, self.file) for node in one.handled)
+            one.file == self.number or any(is_file(node, self.number) for node in one.handled)
             for one in since
         )
 
@@ -48,27 +47,32 @@ class DataSync(FileSync):
     the log."""
 
     def covers(self, operation: Micro) -> bool:
+        """Whether a micro-operation that comes before it changes the file's size or bytes."""
         return super().covers(operation) and not isinstance(operation, SetRights)
 
     def is_fresh(self, since: List[Micro]) -> bool:
+        """Whether the file was made, or got a new size, since."""
         return any(
             isinstance(one, ChangeSize)
-            and one.file == self.file
+            and one.file == self.number
             or isinstance(one, CreateEntry)
-            and is_file(one.node, self.file)
+            and is_file(one.node, self.number)
             for one in since
         )
 
 
 class RangeSync(DataSync):
-    """Of a file's sizes, and of writes all of whose bytes lie in the range."""
+    """A sync of a part of a file: of the file's sizes, and of writes all of whose bytes lie in the
+    part."""
 
-    def __init__(self, at: int, file: int, offset: int, length: int) -> None:
-        super().__init__(at, file)
+    def __init__(self, at: int, number: int, offset: int, length: int) -> None:
+        super().__init__(at, number)
         self.offset = offset
         self.end = offset + length
 
     def covers(self, operation: Micro) -> bool:
+        """Whether a micro-operation that comes before it changes the file's size, or writes bytes
+        that are all in the part."""
         if not super().covers(operation):
             return False
         if isinstance(operation, WriteBlock):
@@ -78,23 +82,21 @@ class RangeSync(DataSync):
 
 
 class DirectorySync(SyncPoint):
-    """An fsync of a directory: of its entries, and of its rights."""
-
-    def __init__(self, at: int, directory: int) -> None:
-        super().__init__(at)
-        self.directory = directory
+    """An fsync of a directory, by its number: of its entries, and of its rights."""
 
     def covers(self, operation: Micro) -> bool:
         """Whether a micro-operation changes the directory or an entry of it."""
-        return operation.directory == self.directory or any(
-            directory == self.directory for directory, _ in operation.entries
+        return operation.directory == self.number or any(
+            directory == self.number for directory, _ in operation.entries
         )
 
     def is_fresh(self, since: List[Micro]) -> bool:
-        own = Inode(DIRECTORY, self.directory)
+        """Whether the directory, or an entry of it, was changed since, or the directory was made or
+        moved."""
+        own = Inode(DIRECTORY, self.number)
         return any(self.covers(one) or own in one.handled for one in since)
 
 
 def is_file(node: Inode, file: int) -> bool:
-    """Whether it is the file or symbolic link of a number."""
+    """Whether an inode is the file or symbolic link of a number."""
     return node.kind != DIRECTORY and node.number == file

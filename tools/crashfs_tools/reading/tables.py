@@ -9,25 +9,28 @@ from .names import DIRECTORY, ROOT, Entry, Inode
 from .trace import Reading
 
 
-class Table:
-    """Two plain maps: an entry to what it holds, and a directory's number to its rights."""
+class EntryTable:
+    """What a state has of names: what each entry holds, and the rights of each directory by its
+    number. At first those of the start tree."""
 
     def __init__(self, reading: Reading) -> None:
         self.entries: Dict[Entry, Inode] = dict(reading.start)
         self.rights: Dict[int, Rights] = dict(reading.start_rights)
 
-    def change(self, operation: Micro) -> None:
-        """Changes entries and rights as a micro-operation does."""
+    def apply(self, operation: Micro) -> None:
+        """Changes entries and rights as a micro-operation does; one that changes a file does
+        nothing here. KeyError if what it needs wasn't applied."""
         change_entries(self.entries, operation)
         change_rights(self.rights, operation)
 
     def paths(self) -> Iterator[Tuple[str, Inode]]:
-        """The paths, each with what is there: the root first, the others in no order."""
-        return reached(self.entries.items())
+        """The paths, each with what is there: the root first, a directory before what is in it."""
+        return reachable_paths(self.entries.items())
 
 
 def change_entries(entries: Dict[Entry, Inode], operation: Micro) -> None:
-    """Changes entries as a micro-operation does."""
+    """Changes a map of entries as a micro-operation does; KeyError if what it needs wasn't
+    applied."""
     if isinstance(operation, (CreateEntry, LinkEntry)):
         entries[operation.entries[0]] = operation.node
     elif isinstance(operation, DeleteEntry):
@@ -37,15 +40,17 @@ def change_entries(entries: Dict[Entry, Inode], operation: Micro) -> None:
 
 
 def change_rights(rights: Dict[int, Rights], operation: Micro) -> None:
-    """Changes the rights of directories as a micro-operation does."""
+    """Changes the rights of directories, by their numbers, as a micro-operation does; one that sets
+    no directory's rights does nothing."""
     if isinstance(operation, CreateEntry) and operation.made_directory is not None:
         rights[operation.made_directory] = operation.rights
     elif isinstance(operation, SetRights) and operation.directory is not None:
         rights[operation.directory] = operation.rights
 
 
-def reached(entries: Iterable[Tuple[Entry, Inode]]) -> Iterator[Tuple[str, Inode]]:
-    """The paths that lead from the root to what entries hold."""
+def reachable_paths(entries: Iterable[Tuple[Entry, Inode]]) -> Iterator[Tuple[str, Inode]]:
+    """The paths that lead from the root to what entries hold, with what is there: the root first, a
+    directory before what is in it. Entries of directories that no path leads to are left out."""
     children: Dict[int, List[Tuple[str, Inode]]] = {}
     for (directory, name), node in entries:
         children.setdefault(directory, []).append((name, node))

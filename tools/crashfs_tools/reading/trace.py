@@ -29,7 +29,9 @@ LINK_MODE = '777'
 
 
 class Reading:
-    """Made line by line; `names` is the tree after the lines read so far."""
+    """A trace, made line by line: read_line() takes the header first. names is the tree after the
+    lines read so far. Files and symbolic links are known by their numbers, and directories by
+    theirs."""
 
     def __init__(self) -> None:
         self.version = 1
@@ -49,8 +51,9 @@ class Reading:
         self.names = Names()
 
     def read_line(self, line: Line) -> None:
-        """Reads one line: judges it, and adds what it does."""
-        self.names.judge(line)
+        """Adds what a line does. LineFault if it doesn't fit the lines before it: then nothing was
+        added."""
+        self.names.refuse_unfit(line)
         if line.key == 'trace':
             self.begin(line)
         else:
@@ -61,14 +64,16 @@ class Reading:
             operation.line = line.number
 
     def begin(self, line: Line) -> None:
-        """Begins the tree, in the header's version."""
-        self.version = self.names.version = line.fields['trace']
+        """Begins the tree, in the header's version and profile."""
+        self.version = line.fields['trace']
+        self.names = Names(self.version)
         self.profile = line.fields.get('profile', self.profile)
         self.block_size = line.fields.get('block', self.block_size)
         self.start_rights[ROOT] = self.rights[Inode(DIRECTORY, ROOT)] = line.rights
 
     def add_change(self, operation: Micro) -> None:
-        """Adds a change of a file, with the oldest of the file's paths."""
+        """Adds a change of a file. The oldest of the file's paths is written into it: the file must
+        have one."""
         assert operation.file is not None
         operation.path = self.names.path_of_file(operation.file)
         self.operations.append(operation)
@@ -76,13 +81,13 @@ class Reading:
     # What is made
 
     def make_file(self, line: Line, length: int) -> Inode:
-        """Makes the file of a line."""
+        """Makes the file of a line, with its length; returns it."""
         node = self.names.add_file(line.fields['path'], length)
         self.made_rights[node.number] = self.rights[node] = line.rights
         return node
 
     def make_link(self, line: Line) -> Inode:
-        """A symbolic link: its bytes are its target's."""
+        """Makes the symbolic link of a line, whose bytes are its target's; returns it."""
         target = line.fields['target'].encode('utf-8')
         node = self.names.add_file(line.fields['path'], len(target), SYMLINK)
         rights = line.fields['owner'], line.fields['group'], LINK_MODE
@@ -91,7 +96,7 @@ class Reading:
         return node
 
     def make_directory(self, line: Line) -> Inode:
-        """Makes the directory of a line."""
+        """Makes the directory of a line; returns it."""
         path = line.fields['path']
         above, name = self.names.entry(path)
         node = self.names.add_directory(path)
@@ -99,7 +104,7 @@ class Reading:
         self.rights[node] = line.rights
         return node
 
-    # The start tree
+    # The start tree: each of these adds what a `start` line of its kind has.
 
     def start_dir(self, line: Line) -> None:
         node = self.make_directory(line)
@@ -119,7 +124,7 @@ class Reading:
         self.names.add_path(line.fields['path'], node)
         self.start[self.names.entry(line.fields['path'])] = node
 
-    # Operations on entries
+    # Operations on entries: each of these adds what an `op` line of its kind does.
 
     def op_creat(self, line: Line) -> None:
         self.add_creation(line, self.make_file(line, 0))
@@ -131,7 +136,8 @@ class Reading:
         self.add_creation(line, self.make_link(line))
 
     def add_creation(self, line: Line, node: Inode) -> None:
-        """Adds the micro-operation that makes a file, a directory or a symbolic link."""
+        """Adds the micro-operation that makes what a line makes: `node`, which make_file(),
+        make_link() or make_directory() has made of this line."""
         path, target = line.fields['path'], line.fields.get('target', '')
         entry = self.names.entry(path)
         self.operations.append(CreateEntry(path, entry, node, self.rights[node], target))
@@ -144,10 +150,11 @@ class Reading:
     op_rmdir = op_unlink
 
     def op_rename(self, line: Line) -> None:
-        """Onto itself, or onto a path of the same file, it does nothing, as rename(2) has it. With
-        the profile `blocks` of version 4 a file goes into another directory in two halves."""
+        """Adds a rename. Onto itself, or onto a path of the same file, it does nothing, as
+        rename(2) has it. With the profile `blocks` of version 4 a file goes into another directory
+        in two halves."""
         old, new = line.fields['from'], line.fields['to']
-        node, replaced = self.names.need(old), self.names.node(new)
+        node, replaced = self.names.need(old), self.names.inode_at(new)
         if node == replaced:
             return
         entries = self.names.entry(old), self.names.entry(new)
@@ -169,9 +176,13 @@ class Reading:
     # Operations on what files and directories are
 
     def op_write(self, line: Line) -> None:
-        """A write: a new size if the file grows, and its blocks. In version 4 a file that ends
+        """Adds a write: a new size if the file grows, and its blocks. In version 4 a file that ends
         inside a page grows to the end of this page first."""
-        number, at, data = self.names.file(line.fields['path']), line.fields['offset'], line.data
+        number, at, data = (
+            self.names.file_number(line.fields['path']),
+            line.fields['offset'],
+            line.data,
+        )
         end, size = at + len(data), self.names.sizes[number]
         if data and end > size:
             if self.version >= 4 and size < page_end(size) < end:
@@ -180,15 +191,16 @@ class Reading:
         self.write_blocks(number, at, data)
 
     def write_blocks(self, number: int, at: int, data: bytes) -> None:
-        """Adds a micro-operation for each block that bytes are in."""
+        """Adds a micro-operation for each block that bytes at an offset are in; none without
+        bytes."""
         size = self.block_size
         for block, begin, piece in split(at, data, size):
             self.add_change(WriteBlock(number, block, size, begin, piece))
 
     def op_truncate(self, line: Line) -> None:
-        """A truncate: a new size. In version 4 the rest of the page in which a file is cut becomes
-        zeros first."""
-        number, length = self.names.file(line.fields['path']), line.fields['length']
+        """Adds a truncate: a new size. In version 4 the rest of the page in which a file is cut
+        becomes zeros first."""
+        number, length = self.names.file_number(line.fields['path']), line.fields['length']
         size = self.names.sizes[number]
         if size == length:
             return
@@ -198,8 +210,8 @@ class Reading:
         self.change_size(number, length)
 
     def change_size(self, number: int, length: int) -> None:
-        """Adds the micro-operation that gives a file a size."""
-        self.names.sizes[number] = length
+        """Gives a file a size, and adds the micro-operation that does."""
+        self.names.set_size(number, length)
         self.add_change(ChangeSize(number, length))
 
     def op_chmod(self, line: Line) -> None:
@@ -211,7 +223,8 @@ class Reading:
         self.set_rights(line, (line.fields['owner'], line.fields['group'], mode))
 
     def set_rights(self, line: Line, rights: Rights) -> None:
-        """Adds the micro-operation that sets owner and mode, unless they are so already."""
+        """Adds the micro-operation that sets owner, group and mode of a line's path, unless they
+        are so already."""
         node = self.names.need(line.fields['path'])
         if self.rights[node] == rights:
             return
@@ -225,7 +238,7 @@ class Reading:
     def op_say(self, line: Line) -> None:
         self.operations.append(Acknowledgement())
 
-    # Sync points
+    # Sync points: each of these adds that of an `op` line of its kind.
 
     def op_fsync(self, line: Line) -> None:
         node = self.names.need(line.fields['path'])
@@ -233,11 +246,11 @@ class Reading:
         self.syncs.append(made(len(self.operations), node.number))
 
     def op_fdatasync(self, line: Line) -> None:
-        number = self.names.file(line.fields['path'])
+        number = self.names.file_number(line.fields['path'])
         self.syncs.append(DataSync(len(self.operations), number))
 
     def op_fsync_range(self, line: Line) -> None:
-        number = self.names.file(line.fields['path'])
+        number = self.names.file_number(line.fields['path'])
         offset, length = line.fields['offset'], line.fields['length']
         self.syncs.append(RangeSync(len(self.operations), number, offset, length))
 
@@ -251,7 +264,8 @@ def page_end(length: int) -> int:
 
 
 def read(data: bytes) -> Reading:
-    """Reads a trace; ReadingFault with its first fault, or for too many micro-operations."""
+    """Reads the bytes of a trace; ReadingFault with its first fault, or for too many
+    micro-operations."""
     try:
         text = data.decode('utf-8')
     except UnicodeDecodeError as error:

@@ -11,20 +11,21 @@ VERSION = 2
 OWNER, GROUP, MASK, OTHERS = 0x01, 0x04, 0x10, 0x20
 
 
-def entries_of(value: bytes) -> Optional[Dict[int, int]]:
-    """The rights by tag; None if the value is no list. Of several users or groups, one is kept."""
+def rights_by_tag(value: bytes) -> Optional[Dict[int, int]]:
+    """The rights of a list by the tags of its entries; None if the value is no list. Of several
+    users or groups one is kept: that there is one is enough for `is_only_mode`."""
     if len(value) % 8 != 4 or struct.unpack('<I', value[:4])[0] != VERSION:
         return None
     found = struct.iter_unpack('<HHI', value[4:])
     return {tag: rights & 7 for tag, rights, _ in found}
 
 
-def mode_of(entries: Dict[int, int]) -> int:
+def mode_of_rights(entries: Dict[int, int]) -> int:
     """The mode that a list gives a file: its mask takes the place of the group's rights."""
     group = entries.get(MASK, entries.get(GROUP, 0))
     return entries.get(OWNER, 0) << 6 | group << 3 | entries.get(OTHERS, 0)
 
 
-def is_mode(entries: Dict[int, int]) -> bool:
-    """Whether a list has nothing but what a mode has."""
+def is_only_mode(entries: Dict[int, int]) -> bool:
+    """Whether a list has only the three entries that a mode has, too."""
     return entries.keys() <= {OWNER, GROUP, OTHERS}

@@ -37,8 +37,9 @@ class Descriptor:
         return self.text if self.text is not None and self.text.startswith('/') else None
 
 
-def split(text: str) -> List[str]:
-    """Splits a call's arguments at their commas."""
+def split_arguments(text: str) -> List[str]:
+    """The arguments of a call, from their text: it is split at the commas that are in no brackets
+    and no text."""
     words, depth, last = [], 0, 0
     match = SIGN.search(text)
     while match:
@@ -58,13 +59,14 @@ def split(text: str) -> List[str]:
 
 
 def end_of_text(text: str, place: int) -> int:
-    """The place after a text: its bytes are numbers, so no quotation mark is inside it."""
+    """The place after the text that begins before `place`: its bytes are numbers, so no quotation
+    mark is inside it."""
     end = text.find('"', place)
     return len(text) if end < 0 else end + 1
 
 
 def from_numbers(text: str) -> bytes:
-    r"""The bytes of `\x61\x62`; LogError for another text."""
+    r"""The bytes of a text such as `\x61\x62`; LogError for any other."""
     signs, count = text.encode('ascii', 'replace'), len(text) // 4
     if len(text) % 4 or signs[::4] != b'\\' * count or signs[1::4] != b'x' * count:
         raise LogError
@@ -76,50 +78,59 @@ def from_numbers(text: str) -> bytes:
         raise LogError from None
 
 
-def packed(word: str) -> str:
-    """Packs a text, or a vector of texts, to a quarter of its size: each byte is one letter.
-    Anything else is returned unchanged."""
+def packed_word(word: str) -> str:
+    """A text, or a vector of texts, in a quarter of its size: each byte is one letter. Any other
+    argument is returned unchanged."""
     try:
-        found = data(word) if word.startswith('"') else vector(word) if '"' in word else None
+        found = (
+            bytes_of_text(word)
+            if word.startswith('"')
+            else bytes_of_vector(word)
+            if '"' in word
+            else None
+        )
     except LogError:
         return word
     return word if found is None else PACKED + found.decode('latin-1')
 
 
-def unpacked(word: str) -> Optional[bytes]:
-    """The bytes of a packed word; None for another word."""
+def unpacked_bytes(word: str) -> Optional[bytes]:
+    """The bytes of an argument that was packed; None for any other."""
     return word[len(PACKED) :].encode('latin-1') if word.startswith(PACKED) else None
 
 
-def data(word: str) -> Optional[bytes]:
-    """The bytes of a text, or None for one that strace cut or printed as an address."""
+def bytes_of_text(word: str) -> Optional[bytes]:
+    """The bytes of an argument that is a text, also a packed one; None for one that strace cut or
+    printed as an address."""
     if word.startswith(PACKED):
-        return unpacked(word)
+        return unpacked_bytes(word)
     if not word.startswith('"') or word.endswith('...'):
         return None
     return from_numbers(word[1:-1])
 
 
-def path(word: str) -> Optional[str]:
-    """The text of a path; bytes that are not UTF-8 become surrogates, as in os.fsdecode."""
-    raw = data(word)
+def path_of_text(word: str) -> Optional[str]:
+    """The path in an argument; bytes that are not UTF-8 become surrogates, as in os.fsdecode. None
+    if strace cut it or printed an address."""
+    raw = bytes_of_text(word)
     return None if raw is None else raw.decode('utf-8', 'surrogateescape')
 
 
 def shown_text(text: Optional[str]) -> Optional[str]:
-    """What is between `<` and `>` after a descriptor."""
+    """What strace shows between `<` and `>` after a descriptor, a path in numbers, as text; None
+    and a text without numbers, as `pipe:[7]`, stay."""
     if not text or not text.startswith('\\x'):
         return text
     return from_numbers(text).decode('utf-8', 'surrogateescape')
 
 
 def shown_path(text: Optional[str]) -> Optional[str]:
-    """The path between `<` and `>`; None for a socket, a pipe and such."""
+    """The path that strace shows between `<` and `>`; None for a socket, a pipe and such."""
     return Descriptor(-1, shown_text(text), False).path
 
 
 def integer(word: str) -> int:
-    """A number; LogError for another word."""
+    """The number in an argument, decimal or `0x..`; LogError for another argument."""
     try:
         return int(word, 16) if word.startswith('0x') else int(word)
     except ValueError:
@@ -127,7 +138,7 @@ def integer(word: str) -> int:
 
 
 def octal(word: str) -> int:
-    """A mode, by octal digits; LogError for another word."""
+    """The mode in an argument, which has octal digits; LogError for another argument."""
     try:
         return int(word, 8)
     except ValueError:
@@ -135,7 +146,8 @@ def octal(word: str) -> int:
 
 
 def descriptor(word: str) -> Descriptor:
-    """A descriptor; one that strace couldn't read is -1."""
+    """The descriptor in an argument. Its number is -1 if strace couldn't read it, and
+    CURRENT_DIRECTORY for AT_FDCWD."""
     match = DESCRIPTOR.match(word)
     if not match:
         return Descriptor(-1, None, False)
@@ -143,27 +155,29 @@ def descriptor(word: str) -> Descriptor:
     return Descriptor(number, shown_text(match[2]), bool(match[3]))
 
 
-def vector(word: str) -> Optional[bytes]:
-    """The bytes of a writev's pieces, or None if one is cut."""
+def bytes_of_vector(word: str) -> Optional[bytes]:
+    """The bytes of all pieces in an argument of writev, in one; None if strace cut a piece."""
     if word.startswith(PACKED):
-        return unpacked(word)
-    pieces = [b'' if text == 'NULL' else data(text) for text in PIECE.findall(word)]
+        return unpacked_bytes(word)
+    pieces = [b'' if text == 'NULL' else bytes_of_text(text) for text in PIECE.findall(word)]
     whole = [piece for piece in pieces if piece is not None]
     return b''.join(whole) if len(whole) == len(pieces) else None
 
 
-def vectors(word: str) -> Optional[bytes]:
-    """The bytes of sendmmsg's messages, each as far as it was sent, or None if one is cut."""
+def bytes_of_messages(word: str) -> Optional[bytes]:
+    """The bytes of the messages in an argument of sendmmsg, each as far as it was sent; None if one
+    is cut."""
     found = b''
     for one in word.split('msg_hdr=')[1:]:
-        data, sent = vector(one), re.search(r'msg_len=(\d+)', one)
-        if data is None or sent is None:
+        whole, sent = bytes_of_vector(one), re.search(r'msg_len=(\d+)', one)
+        if whole is None or sent is None:
             return None
-        found += data[: int(sent[1])]
+        found += whole[: int(sent[1])]
     return found
 
 
-def offset_cell(word: str) -> Optional[int]:
-    """An offset that is passed by its address, as `[42]` or `[42] => [45]`; None for NULL."""
+def offset_in_cell(word: str) -> Optional[int]:
+    """The offset before the call, in an argument that is the address of one, as `[42]` or `[42] =>
+    [45]`; None if it isn't shown so, as for NULL."""
     match = re.match(r'\[(\d+)', word)
     return int(match[1]) if match else None

@@ -11,8 +11,8 @@ from .recording import Recording
 
 
 class LateStart:
-    """Waits for the line that is wanted: the one of a number, or the first that a pattern
-    matches."""
+    """Begins the trace again after the acknowledged line that is wanted: the line of a number, from
+    1, or the first one that a pattern matches."""
 
     def __init__(self, recording: Recording, wanted: str) -> None:
         self.recording, self.wanted = recording, wanted
@@ -21,21 +21,22 @@ class LateStart:
         recording.on_acknowledged = self.count_line
 
     def count_line(self, said: Say) -> None:
-        """Counts an acknowledged line; at the wanted one the trace begins."""
+        """Counts an acknowledged line; at the wanted one, once, it begins the trace again."""
         self.count += 1
         if not self.has_begun and self.is_wanted(said.text):
             self.has_begun = True
             restart_trace(self.recording)
 
     def is_wanted(self, text: str) -> bool:
-        """Whether the newest line is the one at which the trace begins."""
-        if self.wanted.isdigit():
+        """Whether the line that was counted last is the wanted one, by its number or its text."""
+        if self.wanted.isdecimal():
             return self.count == int(self.wanted)
         return fnmatch.fnmatchcase(text, self.wanted)
 
 
 def restart_trace(recording: Recording) -> None:
-    """Begins the trace again. What wasn't synced up to here counts as durable."""
+    """Begins the trace again, with the recording's tree as its start. What wasn't synced up to here
+    counts as durable."""
     header, start = start_lines(recording.tree.entries, recording.tree.files)
     recording.begin_trace(header)
     for line in start:

@@ -67,17 +67,18 @@ FILE_SYNCS = {'fsync', 'fdatasync', 'msync'}
 WHOLE_SYNCS = {'sync', 'syncfs'}
 TARGET_PLACES = {'copy_file_range': 2, 'splice': 2, 'tee': 1}
 
+# A line of the log, and 0 for what comes before all else of that line, or 1.
 Moment = Tuple[int, int]
 
 
-def in_order(calls: List[Call]) -> List[Tuple[int, Call]]:
+def calls_in_order(calls: List[Call]) -> List[Tuple[int, Call]]:
     """The calls in the order of their operations in the trace, each with the log's line that it
     counts from."""
     moments: Dict[int, Moment] = {id(call): moment_of(call) for call in calls}
     changes = ChangeIndex([call for call in calls if is_change(call)])
     for sync in calls:
         if sync.name in FILE_SYNCS or sync.name in WHOLE_SYNCS:
-            order_apart(sync, changes.overlapping(sync), moments)
+            order_apart(sync, changes.changes_during(sync), moments)
     ordered = sorted(calls, key=lambda call: moments[id(call)])
     return [(moments[id(call)][0], call) for call in ordered]
 
@@ -88,7 +89,8 @@ def is_change(call: Call) -> bool:
 
 
 def moment_of(call: Call) -> Moment:
-    """The line that places a call in the trace, unless a sync and a change overlap."""
+    """The moment of a call in the trace, unless a sync and a change overlap: a change, or a close,
+    is placed where it begins, and anything else where it ends."""
     begins = is_change(call) or call.name in ('close', 'close_range')
     return (call.begin if begins else call.end, 1)
 
@@ -101,15 +103,16 @@ class ChangeIndex:
         self.short = [call for call in changes if call.begin == call.end]
         self.lines = [call.begin for call in self.short]
 
-    def overlapping(self, sync: Call) -> List[Call]:
-        """The changes that overlap a sync."""
+    def changes_during(self, sync: Call) -> List[Call]:
+        """The changes of other threads that ran while a sync did, and that it may cover."""
         first = bisect.bisect_left(self.lines, sync.begin)
         last = bisect.bisect_right(self.lines, sync.end)
-        return [call for call in self.short[first:last] + self.long if overlaps(sync, call)]
+        return [call for call in self.short[first:last] + self.long if ran_during(sync, call)]
 
 
-def overlaps(sync: Call, change: Call) -> bool:
-    """Whether a change ran while a sync did, in another thread, and on what the sync covers."""
+def ran_during(sync: Call, change: Call) -> bool:
+    """Whether a change of another thread ran while a sync did, and the sync may cover it: paths
+    that aren't known may be the same."""
     if sync.process == change.process or sync.end < change.begin or change.end < sync.begin:
         return False
     synced, changed = synced_path(sync), changed_paths(change)
@@ -119,30 +122,33 @@ def overlaps(sync: Call, change: Call) -> bool:
 
 
 def order_apart(sync: Call, changes: List[Call], moments: Dict[int, Moment]) -> None:
-    """Orders a sync before the changes that overlap it, each of which is placed where it ends."""
+    """Sets the moments, by the calls' ids, of a sync and of the changes that overlap it: each
+    change is placed where it ends, and the sync right before the first of them."""
     for change in changes:
         moments[id(change)] = (change.end, 1)
         moments[id(sync)] = min(moments[id(sync)], (change.end, 0))
 
 
 def synced_path(sync: Call) -> Optional[str]:
-    """The path that a sync covers; None if it may be any."""
+    """The path that an fsync or fdatasync covers; None if strace doesn't show it, and for other
+    syncs, which cover more."""
     return sync.descriptor().path if sync.name in ('fsync', 'fdatasync') else None
 
 
 def changed_paths(change: Call) -> Optional[Set[str]]:
-    """The paths whose syncs cover a change; None if that isn't known."""
+    """The paths whose syncs cover a change: of a file, or of a name and its directory. None if that
+    isn't known; none if the change is on no file."""
     if change.name in DESCRIPTOR_CHANGES:
         path = change.descriptor(TARGET_PLACES.get(change.name, 0)).path
         return set() if path is None else {path}
     paths: Set[str] = set()
     base: Optional[str] = None
-    for word in change.words:
+    for word in change.arguments:
         shown = arguments.descriptor(word).path
         if shown is not None:
             base = shown
         elif word.startswith('"'):
-            path = arguments.path(word)
+            path = arguments.path_of_text(word)
             if path is None or base is None and not path.startswith('/'):
                 return None
             full = os.path.normpath(os.path.join(base or '/', path))

@@ -10,7 +10,7 @@ from crashfs_tools.common.entry import Entries, Entry
 from crashfs_tools.common.program import Crashfs
 from crashfs_tools.common.trace import StartSymlink
 from crashfs_tools.common.trace_read import replay
-from crashfs_tools.common.tree import Tree, symlink_of
+from crashfs_tools.common.tree import Tree, symlink_entry
 
 from .directory import Scan, ScannedEntry
 from .troubles import Trouble
@@ -35,6 +35,8 @@ class Replayed(LastState):
         self.lines = lines
 
     def entries(self, trace: str) -> Entries:
+        """The entries at the end of a replay, without the root. ValueError for a trace that
+        `crashfs` would refuse."""
         if self.lines is not None:
             tree = replay(self.lines)
         else:
@@ -53,11 +55,14 @@ class ByProgram(LastState):
         self.program = program
 
     def entries(self, trace: str) -> Entries:
+        """The entries that the program writes of the last state, without the root; ProgramFault if
+        it refuses the trace."""
         return self.program.tree(trace, self.program.count_states(trace, holes=False) - 1)
 
 
-def differences(directory: Scan, last: Entries, reported: Iterable[str]) -> List[str]:
-    """Lines on what differs, except for paths of which something is reported already."""
+def lines_on_differences(directory: Scan, last: Entries, reported: Iterable[str]) -> List[str]:
+    """A line for each difference between a directory and the trace's last state, except at and
+    below the paths of which something is reported already."""
     known = set(reported)
     there = {entry.path: entry for entry in directory.entries}
     lines = []
@@ -69,35 +74,35 @@ def differences(directory: Scan, last: Entries, reported: Iterable[str]) -> List
         elif path not in there:
             lines.append(f'{path}: the trace has it, and at the end it is not there')
         else:
-            real = scanned_entry(there[path])
+            real = as_entry(there[path])
             lines += [f'{path}: {text}' for text in entry_differences(real, last[path])]
     return lines
 
 
-def scanned_entry(one: ScannedEntry) -> Entry:
-    """What the directory has at the end, as an entry."""
+def as_entry(one: ScannedEntry) -> Entry:
+    """What a scan has of a path, as an entry."""
     if isinstance(one, StartSymlink):
-        return symlink_of(one)
+        return symlink_entry(one)
     return Entry(one.owner, one.group, one.mode, one.data)
 
 
-def kind_of(entry: Entry) -> str:
-    """What an entry is, in words."""
+def kind_text(entry: Entry) -> str:
+    """What an entry is, as `a file`."""
     if entry.link is not None:
         return 'a symbolic link'
     return 'a directory' if entry.is_directory else 'a file'
 
 
 def is_below(path: str, known: Set[str]) -> bool:
-    """Whether a path is one of the known ones, or below one."""
+    """Whether a path is one of the known ones, or below one; the root counts for itself only."""
     parts = path.split('/')
     return any('/'.join(parts[:count]) in known for count in range(2, len(parts) + 1))
 
 
 def entry_differences(real: Entry, traced: Entry) -> List[str]:
-    """How an entry at the end differs from that of the trace; nothing if it doesn't."""
-    if kind_of(real) != kind_of(traced):
-        return [f'it is {kind_of(real)} at the end, and {kind_of(traced)} in the trace']
+    """How an entry at the end differs from that of the trace, in words; empty if it doesn't."""
+    if kind_text(real) != kind_text(traced):
+        return [f'it is {kind_text(real)} at the end, and {kind_text(traced)} in the trace']
     if real.link != traced.link:
         here = f'it is a symbolic link to {real.link} at the end'
         return [f'{here}, and one to {traced.link} in the trace']
@@ -114,8 +119,9 @@ def entry_differences(real: Entry, traced: Entry) -> List[str]:
     return found
 
 
-def links_that_differ(directory: Scan, last: Tree, reported: Iterable[str]) -> List[str]:
-    """Lines on paths that are one file in the directory, and two in the trace, or the other way."""
+def lines_on_links(directory: Scan, last: Tree, reported: Iterable[str]) -> List[str]:
+    """A line for each path that is a link to another path in the directory, and not so in the
+    trace's last tree, or the other way."""
     known = set(reported)
     groups: Dict[int, List[str]] = {}
     for path, number in last.files.items():
@@ -133,8 +139,9 @@ def links_that_differ(directory: Scan, last: Tree, reported: Iterable[str]) -> L
     return lines
 
 
-def notes_on(before: Scan, now: Scan, troubles: List[Trouble]) -> List[str]:
-    """What a scan sees and no trace has, if nothing was reported of it."""
+def lines_on_attributes(before: Scan, now: Scan, troubles: List[Trouble]) -> List[str]:
+    """A line for each path whose extended attributes, or what else a scan only notes, changed
+    during the session, unless it was reported."""
     reported = {trouble.where for trouble in troubles}
     changed = [
         path
@@ -150,8 +157,9 @@ def notes_on(before: Scan, now: Scan, troubles: List[Trouble]) -> List[str]:
     return [f'not in the trace: {line}' for line in lines if line.partition(':')[0] not in reported]
 
 
-def left_out_at_the_end(before: Scan, now: Scan, reported: Iterable[str]) -> List[str]:
-    """Lines on devices, links and such that are new, if nothing was reported of them."""
+def lines_on_new_left_out(before: Scan, now: Scan, reported: Iterable[str]) -> List[str]:
+    """A line for each device, or what else no trace has, that is new at the end, unless something
+    was reported of its path."""
     known = set(reported)
     return [
         f'{path}: at the end it is {why}, which no trace has'

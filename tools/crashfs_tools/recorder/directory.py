@@ -55,13 +55,15 @@ def permission_bits(status: os.stat_result) -> int:
     return status.st_mode & 0o777
 
 
-def scan(top: str, ignored: Ignored, version: int = NEWEST) -> Scan:
-    """Reads what traces of a version can have of a directory; OSError if it can't be read."""
-    return Scanner(top, ignored, version).scan()
+def scan_directory(top: str, ignored: Ignored, version: int = NEWEST) -> Scan:
+    """What traces of a version can have of a directory, and what they can't. OSError if something
+    can't be read."""
+    return Scanner(top, ignored, version).scan_all()
 
 
 class Scanner:
-    """Reads a directory; firsts has the first path of each file that has several."""
+    """Reads a directory. By device and inode, firsts has the first path of each file with several
+    names, and unseen how many of its names were not found yet."""
 
     def __init__(self, top: str, ignored: Ignored, version: int) -> None:
         self.top, self.ignored, self.version = top, ignored, version
@@ -70,18 +72,19 @@ class Scanner:
             Header(user_name(status.st_uid), group_name(status.st_gid), permission_bits(status))
         )
         self.firsts: Dict[Tuple[int, int], str] = {}
-        self.seen: Dict[Tuple[int, int], int] = {}
+        self.unseen: Dict[Tuple[int, int], int] = {}
 
-    def scan(self) -> Scan:
-        """Scans the whole directory; notes files that also have a name outside it."""
+    def scan_all(self) -> Scan:
+        """Scans the whole directory; of files that also have a name outside it, that is noted."""
         self.scan_below('')
         for inode, path in self.firsts.items():
-            if self.seen[inode] > 0:
+            if self.unseen[inode] > 0:
                 self.found.noted.append((path, 'that it has a name outside the directory'))
         return self.found
 
     def scan_below(self, base: str) -> None:
-        """Adds the entries of a directory, in the order of their names, and what is below them."""
+        """Adds the entries of a directory, in the order of their names, and what is below them. Its
+        path in the scan is `base`, which is empty for the root."""
         with os.scandir(self.top + base) as listed:
             names = sorted(entry.name for entry in listed)
         for name in names:
@@ -103,26 +106,26 @@ class Scanner:
             self.found.attributes[path] = attributes
         if stat.S_ISREG(status.st_mode) and status.st_nlink > 1:
             self.note_link(path, status)
-        self.found.entries.append(entry_of(self.top, path, status))
+        self.found.entries.append(scanned_entry(self.top, path, status))
         if stat.S_ISDIR(status.st_mode):
             self.scan_below(path)
 
     def kind_fault(self, path: str, status: os.stat_result) -> str:
-        """Why a trace can't have a file of this kind, or nothing."""
+        """Why a trace can't have a file of this kind or size; an empty text if it can."""
         if stat.S_ISDIR(status.st_mode):
             return ''
         if stat.S_ISLNK(status.st_mode) and self.version >= NEWEST:
             return target_fault(os.readlink(self.top + path))
         if not stat.S_ISREG(status.st_mode):
-            return kind_of(status.st_mode)
-        most = limits.file_bytes(self.version)
+            return kind_left_out(status.st_mode)
+        most = limits.most_file_bytes(self.version)
         return f'a file of more than {most} bytes' if status.st_size > most else ''
 
     def note_link(self, path: str, status: os.stat_result) -> None:
-        """Notes a path of a file that has several: its first, or a link to that."""
+        """Notes a path of a file that has several: as its first path, or as a link to that."""
         inode = status.st_dev, status.st_ino
         first = self.firsts.setdefault(inode, path)
-        self.seen[inode] = self.seen.get(inode, status.st_nlink) - 1
+        self.unseen[inode] = self.unseen.get(inode, status.st_nlink) - 1
         if first != path:
             self.found.links[path] = first
 
@@ -136,8 +139,8 @@ def attributes_of(path: str) -> Dict[str, bytes]:
         return {}
 
 
-def kind_of(mode: int) -> str:
-    """What a file is that is no plain file and no directory, in words."""
+def kind_left_out(mode: int) -> str:
+    """What a file is that a trace leaves out for its kind, as `a socket`."""
     kinds = {
         stat.S_IFLNK: 'a symbolic link',
         stat.S_IFSOCK: 'a socket',
@@ -147,7 +150,7 @@ def kind_of(mode: int) -> str:
 
 
 def target_fault(target: str) -> str:
-    """Why a trace can't have a symbolic link with this target, or nothing."""
+    """Why a trace can't have a symbolic link with this target; an empty text if it can."""
     try:
         target.encode()
     except UnicodeEncodeError:
@@ -155,8 +158,9 @@ def target_fault(target: str) -> str:
     return ''
 
 
-def entry_of(top: str, path: str, status: os.stat_result) -> ScannedEntry:
-    """The start line of a file, directory or symbolic link, with its bytes."""
+def scanned_entry(top: str, path: str, status: os.stat_result) -> ScannedEntry:
+    """A file, directory or symbolic link as a start line of a trace, with all its bytes. OSError if
+    it can't be read."""
     owner, group = user_name(status.st_uid), group_name(status.st_gid)
     if stat.S_ISLNK(status.st_mode):
         return StartSymlink(path, owner, group, os.readlink(top + path))

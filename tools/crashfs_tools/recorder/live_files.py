@@ -30,8 +30,8 @@ from .directory import Ignored, Scan, ScannedEntry
 from .live_tree import Change, LiveTree, Node
 from .output_streams import OutputStream
 from .processes import Descriptors, OpenFile, PathContext, Process
-from .recording import Recording, symbolic_link
-from .resolving import LinkOf, Resolver
+from .recording import Recording, symlink_reason
+from .resolving import TargetOf, Resolver
 from .strace_log import Call
 
 UNKNOWN = 'by something that the log has not'
@@ -40,25 +40,26 @@ BY_DESCRIPTOR = re.compile(r'^(?:/proc/(self|thread-self|\d+)(?:/task/\d+)?|/dev
 STANDARD_NAMES = {'/dev/stdin': 0, '/dev/stdout': 1, '/dev/stderr': 2}
 
 
-def no_link(_: str) -> None:
-    """None: the links outside the directory aren't known for a log from elsewhere."""
+def no_target(_: str) -> None:
+    """None: of a log from elsewhere no target of a link outside the directory is known."""
 
 
 @dataclass(frozen=True)
 class StartConditions:
     """What COMMAND started with: the directory's path as the calls name it, the umask, and the
-    owner and group of new files. link_of gives the target of a symbolic link that is not in the
-    directory."""
+    owner and group of new files. target_outside gives the target of a symbolic link that
+    is not in the directory."""
 
     top: str
     umask: int
     owner: str
     group: str
-    link_of: LinkOf = no_link
+    target_outside: TargetOf = no_target
 
 
 class LiveFiles:
-    """The state that the calls change. Handlers of calls are in the modules of `calls`."""
+    """The files, processes and streams that the calls change, with the recording. Handlers of
+    calls are in the modules of `calls`."""
 
     def __init__(
         self, recording: Recording, conditions: StartConditions, scan: Scan, ignored: Ignored
@@ -69,7 +70,7 @@ class LiveFiles:
         root = Node.directory(scan.header.mode)
         root.traced_paths = {'/'}
         self.tree = LiveTree(root)
-        self.resolver = Resolver(conditions.top, self.link_at, conditions.link_of)
+        self.resolver = Resolver(conditions.top, self.target_at, conditions.target_outside)
         self.processes: Dict[int, Process] = {}
         # Syncs of writes that had not ended where the writes are, with their calls.
         self.late_syncs: List[Tuple[Call, Node, int, int]] = []
@@ -77,64 +78,67 @@ class LiveFiles:
         self.add_scan(scan)
 
     def add_scan(self, scan: Scan) -> None:
-        """Makes what the directory has at the start the trace's start tree."""
+        """Makes what the directory has at the start the trace's start tree, and reports what a
+        trace can't have."""
         for entry in scan.entries[: limits.RECORDS - 1]:
             source = scan.links.get(entry.path)
             if source is None:
-                self.add_scanned(entry, node_of(entry), entry)
+                self.add_scanned(entry, start_node(entry), entry)
             elif self.recording.trace.has_kind(StartLink):
                 self.add_scanned(entry, self.tree.nodes[source], StartLink(entry.path, source))
             else:
-                self.add_scanned(entry, node_of(entry), entry)
-                self.report(f'the start tree leaves out that it is a link to {source}', entry.path)
+                self.add_scanned(entry, start_node(entry), entry)
+                self.recording.report(
+                    f'the start tree leaves out that it is a link to {source}', entry.path
+                )
         self.add_left_out(scan)
 
     def add_scanned(self, entry: ScannedEntry, node: Node, line: StartLine) -> None:
         """Adds a file, directory or symbolic link of the start, with its line in the trace."""
-        self.tree.add(entry.path, node)
+        self.tree.add_name(entry.path, node)
         if self.recording.add_start(line):
             node.traced_paths.add(entry.path)
         else:
-            self.report('the start tree leaves out a symbolic link', entry.path)
+            self.recording.report('the start tree leaves out a symbolic link', entry.path)
 
     def add_left_out(self, scan: Scan) -> None:
         """Reports what the start tree doesn't have. Entries come after their directories."""
         too_many = scan.entries[limits.RECORDS - 1 :]
         if too_many:
-            self.report(
+            self.recording.report(
                 f'the start tree leaves out {len(too_many):,} of its files and directories: a '
                 f'trace has {limits.RECORDS - 1:,} at most',
                 '/',
             )
         for entry in too_many:
             self.recording.differing.add(entry.path)
-            self.tree.add(entry.path, Node.unknown())
+            self.tree.add_name(entry.path, Node.unknown())
         for path, why in scan.left_out:
-            self.report(f'the start tree leaves out {why}', path)
+            self.recording.report(f'the start tree leaves out {why}', path)
             if path not in self.tree.nodes:
-                self.tree.add(path, Node.unknown())
+                self.tree.add_name(path, Node.unknown())
         for path, why in scan.noted:
             self.recording.report_note(f'the start tree leaves out {why}', path)
 
-    def report(self, what: str, where: str) -> None:
-        """Reports what the trace doesn't have."""
-        self.recording.report(what, where)
-
     def first_process(self) -> Process:
         """The process that strace starts, with the streams that it inherits."""
-        inherited = self.recording.streams.inherited()
+        inherited = self.recording.streams.inherited_streams()
         files = {number: OpenFile(None, stream=stream) for number, stream in inherited.items()}
         return Process(Descriptors(files), PathContext(self.conditions.top, self.conditions.umask))
 
     # Paths
 
-    def link_at(self, path: str) -> Optional[str]:
-        """The target of a symbolic link in the directory. Those that are ignored aren't followed
-        by the calls: they are asked for as they are now."""
-        node = self.tree.get(path)
+    def target_at(self, path: str) -> Optional[str]:
+        """The target of a symbolic link at a path of the directory; None if there is none. What is
+        ignored isn't in the tree: there the disk is asked as it is now."""
+        node = self.tree.node_at(path)
         if node is not None:
             return node.link
-        return self.conditions.link_of(self.conditions.top + path) if self.ignored(path) else None
+        return (
+            self.conditions.target_outside(self.conditions.top + path)
+            if self.ignored(path)
+            else None
+        )
 
     def relative_path(self, path: str, follows: bool = False) -> Optional[str]:
         """A path as the trace has it; None for one outside the directory, or ignored. follows says
@@ -145,51 +149,57 @@ class LiveFiles:
     def path_argument(
         self, process: Process, call: Call, place: int, follows: bool = False
     ) -> Optional[str]:
-        """The path of an argument that has no descriptor before it."""
-        return self.join_path(process.paths.directory, call.word(place), follows)
+        """The path of the argument at a place, which has no descriptor before it; None as from
+        relative_path."""
+        return self.join_path(process.paths.directory, call.argument(place), follows)
 
     def path_argument_at(
         self, process: Process, call: Call, place: int, follows: bool = False
     ) -> Optional[str]:
-        """The path of the argument after a directory's descriptor, which is at place."""
+        """The path of the argument that follows a directory's descriptor, which is at `place`; None
+        as from relative_path."""
         base = call.descriptor(place).path or process.paths.directory
-        return self.join_path(base, call.word(place + 1), follows)
+        return self.join_path(base, call.argument(place + 1), follows)
 
     def join_path(self, base: str, word: str, follows: bool = False) -> Optional[str]:
-        """The path of a word of a call, which may be relative to a directory."""
-        path = arguments.path(word)
+        """The path in an argument, which may be relative to the directory `base`; None if the
+        log hasn't all of it, or as from relative_path."""
+        path = arguments.path_of_text(word)
         return None if path is None else self.relative_path(os.path.join(base, path), follows)
 
     def node_argument(
         self, process: Process, call: Call, place: int, follows: bool = True
     ) -> Optional[Node]:
-        """The file of a path, also by /proc/self/fd."""
-        file = self.open_file_of_path(process, call.word(place))
+        """The file of the path at a place, also by /proc/self/fd; None if it isn't followed."""
+        file = self.open_file_of_path(process, call.argument(place))
         if file is not None:
             return file.node
-        return self.tree.get(self.path_argument(process, call, place, follows))
+        return self.tree.node_at(self.path_argument(process, call, place, follows))
 
     def node_argument_at(
         self, process: Process, call: Call, place: int, follows: bool = True
     ) -> Optional[Node]:
-        """The file of a path after a directory's descriptor; an empty one is the descriptor's."""
-        file = self.open_file_of_path(process, call.word(place + 1))
-        if call.word(place + 1) == '""':
+        """The file of a path that follows a directory's descriptor, which is at `place`. An empty
+        path is the descriptor's own file. None if it isn't followed."""
+        file = self.open_file_of_path(process, call.argument(place + 1))
+        if call.argument(place + 1) == '""':
             file = process.descriptors.files.get(call.descriptor(place).number)
         if file is not None:
             return file.node
-        return self.tree.get(self.path_argument_at(process, call, place, follows))
+        return self.tree.node_at(self.path_argument_at(process, call, place, follows))
 
-    def move_directories(self, source: str, target: str) -> None:
-        """Moves the working directories of processes that are in a directory that was renamed."""
+    def move_working_directories(self, source: str, target: str) -> None:
+        """Moves the working directories that are in a directory which was renamed. Processes that
+        share one change it once."""
         top = self.conditions.top
         for paths in {id(one.paths): one.paths for one in self.processes.values()}.values():
             if (paths.directory + '/').startswith(f'{top}{source}/'):
                 paths.directory = top + target + paths.directory[len(top + source) :]
 
     def open_file_of_path(self, process: Process, word: str) -> Optional[OpenFile]:
-        """The open file that a path of /proc or /dev means."""
-        path = arguments.path(word) or ''
+        """The open file that a path such as /proc/self/fd/3 or /dev/stdout means; None for any
+        other path."""
+        path = arguments.path_of_text(word) or ''
         if path in STANDARD_NAMES:
             return process.descriptors.files.get(STANDARD_NAMES[path])
         match = BY_DESCRIPTOR.match(path)
@@ -199,17 +209,21 @@ class LiveFiles:
         return of.descriptors.files.get(int(match[2]))
 
     def open_file(self, process: Process, call: Call, place: int = 0) -> Optional[OpenFile]:
-        """The open file of a descriptor; one below the directory that isn't known is reported."""
+        """The open file of the descriptor at a place; None if it isn't followed. One of a file of
+        the directory that should be, and isn't known, is reported."""
         shown = call.descriptor(place)
         file = process.descriptors.files.get(shown.number)
         if file is None and shown.path is not None and not shown.deleted:
             below = self.relative_path(shown.path)
             if below is not None:
-                self.report(f'{call.name} by a descriptor that was opened {UNKNOWN}', below)
+                self.recording.report(
+                    f'{call.name} by a descriptor that was opened {UNKNOWN}', below
+                )
         return file
 
     def stream_of(self, process: Process, call: Call, place: int = 0) -> Optional[OutputStream]:
-        """The output stream that a descriptor's bytes go to, or None."""
+        """The output stream that the bytes of the descriptor at a place go to; None if it is of a
+        file. What strace shows for standard output is noted."""
         shown = call.descriptor(place)
         streams = self.recording.streams
         file = process.descriptors.files.get(shown.number)
@@ -222,9 +236,10 @@ class LiveFiles:
     # Changes
 
     def add_new(self, path: str, node: Node) -> None:
-        """Adds a new file or directory; to the trace too, if that has its parent."""
-        self.tree.add(path, node)
-        parent = self.tree.get(parent_of(path))
+        """Adds a new file, directory or symbolic link at a free path; to the trace too, if that has
+        its parent and may have the operation."""
+        self.tree.add_name(path, node)
+        parent = self.tree.node_at(parent_of(path))
         if parent is None or parent.traced_path is None:
             return
         owner, group = self.conditions.owner, self.conditions.group
@@ -233,10 +248,10 @@ class LiveFiles:
             made = Mkdir(path, owner, group, node.mode)
         elif node.link is not None:
             made = Symlink(path, owner, group, node.link)
-            if not self.recording.raise_version_for(symbolic_link(path)):
-                self.report('a symbolic link was made', path)
+            if not self.recording.raise_version_for(symlink_reason(path)):
+                self.recording.report('a symbolic link was made', path)
                 return
-        if self.recording.add(made):
+        if self.recording.add_operation(made):
             node.traced_paths.add(path)
 
     def write_by_call(self, node: Node, offset: int, data: bytes, floats: object = None) -> None:
@@ -246,9 +261,17 @@ class LiveFiles:
             return
         call, end = self.recording.call, offset + len(data)
         if call is not None and node.add_change(
-            Change(call.process, call.begin, call.end, offset, end, floats, end > node.size)
+            Change(
+                process=call.process,
+                begin=call.begin,
+                end=call.end,
+                first=offset,
+                last=end,
+                floats=floats,
+                grows=end > node.size,
+            )
         ):
-            self.report(
+            self.recording.report(
                 'two calls changed it at once, and their order is not in the log', node.name
             )
         self.write_bytes(node, offset, data)
@@ -266,30 +289,32 @@ class LiveFiles:
     def write_bytes(self, node: Node, offset: int, data: bytes) -> None:
         """Writes bytes to a file, and adds the write to the trace if that has the file."""
         path = node.path_of_traced_bytes
-        node.put(offset, data)
-        if path is not None and not self.recording.add(Write(path, offset, bytes(data))):
+        node.write(offset, data)
+        if path is not None and not self.recording.add_operation(Write(path, offset, bytes(data))):
             node.drop_bytes()
 
     def set_length(self, node: Node, length: int) -> None:
         """Cuts a file or makes it longer, in the trace too if that has the file."""
         path = node.path_of_traced_bytes
         node.resize(length)
-        if path is not None and not self.recording.add(Truncate(path, length)):
+        if path is not None and not self.recording.add_operation(Truncate(path, length)):
             node.drop_bytes()
 
     def drop_bytes(self, node: Node, what: str) -> None:
-        """Stops following a file's bytes after a change that no trace has."""
+        """Stops following a file's bytes after a change that no trace has, and reports it if the
+        file has a name."""
         if node.names:
-            self.report(f'{what}; its later bytes are not recorded', node.name)
+            self.recording.report(f'{what}; its later bytes are not recorded', node.name)
         node.drop_bytes()
 
     # Syncs
 
     def sync_file(self, node: Node) -> None:
-        """Adds a sync of a file or directory, with its mode and owner."""
+        """Adds to the trace a sync of a file or directory, with its mode and owner, if the trace
+        has it, and notes that it was synced."""
         node.was_synced, node.has_new_rights = True, False
         if node.traced_path is not None:
-            self.recording.add(Fsync(node.traced_path))
+            self.recording.add_operation(Fsync(node.traced_path))
 
     def sync_data(self, node: Node) -> None:
         """Syncs a file's size and all its bytes, but not its mode and owner. Of a directory no
@@ -297,20 +322,24 @@ class LiveFiles:
         if not node.is_directory:
             node.was_synced = True
             if node.traced_path is not None:
-                self.recording.add(Fdatasync(node.traced_path))
+                self.recording.add_operation(Fdatasync(node.traced_path))
             return
         if node.has_new_rights:
-            self.report('fdatasync of a directory whose mode or owner was changed', node.name)
+            self.recording.report(
+                'fdatasync of a directory whose mode or owner was changed', node.name
+            )
         self.sync_file(node)
 
     def sync_range(self, node: Node, offset: int, length: int) -> None:
-        """Adds a sync of a part of a file's bytes."""
+        """Adds to the trace a sync of a part of a file's bytes, if the trace has the file, and
+        notes that the file was synced."""
         node.was_synced = True
         if node.traced_path is not None:
-            self.recording.add(FsyncRange(node.traced_path, offset, length))
+            self.recording.add_operation(FsyncRange(node.traced_path, offset, length))
 
     def sync_when_ended(self, node: Node, offset: int, length: int) -> None:
-        """Adds the sync that a write makes when its call has ended."""
+        """Adds the sync of a range that the current write makes by itself (O_SYNC): now, or when
+        its call has ended."""
         call = self.recording.call
         if call is None or call.begin == call.end:
             self.sync_range(node, offset, length)
@@ -318,7 +347,7 @@ class LiveFiles:
             self.late_syncs.append((call, node, offset, length))
 
     def add_ended_syncs(self, line: Optional[int]) -> None:
-        """Adds the syncs of writes that had ended before a line of the log; all for None."""
+        """Adds the syncs of writes whose calls had ended before a line of the log; all for None."""
         for late in sorted(self.late_syncs, key=lambda late: late[0].end):
             if line is None or late[0].end < line:
                 self.late_syncs.remove(late)
@@ -326,8 +355,8 @@ class LiveFiles:
                 self.sync_range(*late[1:])
 
 
-def node_of(entry: ScannedEntry) -> Node:
-    """A file, directory or symbolic link of the start."""
+def start_node(entry: ScannedEntry) -> Node:
+    """The node of an entry that the directory has at the start."""
     if isinstance(entry, StartSymlink):
         return Node.symbolic_link(entry.link)
     if entry.data is None:

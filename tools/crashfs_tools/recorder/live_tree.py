@@ -14,8 +14,9 @@ END = 'end'
 
 @dataclass(frozen=True)
 class Change:
-    """A change of a file's bytes, by the log's lines at which its call began and ended. floats is
-    what gave it its place: END, an open file whose offset is shared, or None."""
+    """A change of a file's bytes from the offset first up to last, by a call that began and ended
+    at these lines of the log. floats is what gave it its place: END, an open file whose offset is
+    shared, or None for an offset that the call names."""
 
     process: int
     begin: int
@@ -57,14 +58,17 @@ class Node:
 
     @staticmethod
     def file(mode: int, data: Union[bytes, SparseBytes] = b'') -> Node:
-        return Node(False, mode, SparseBytes.of(data), len(data))
+        """A file without a name, with a copy of these bytes."""
+        return Node(False, mode, SparseBytes.copy_of(data), len(data))
 
     @staticmethod
     def symbolic_link(target: str) -> Node:
+        """A symbolic link without a name."""
         return Node(False, 0o777, link=target)
 
     @staticmethod
     def directory(mode: int) -> Node:
+        """An empty directory without a name."""
         return Node(True, mode)
 
     @staticmethod
@@ -74,31 +78,32 @@ class Node:
 
     @property
     def name(self) -> str:
-        """The first of its names, for a report."""
+        """The first of its names in their order, for a report."""
         return min(self.names) if self.names else '(a file without a name)'
 
     @property
     def traced_path(self) -> Optional[str]:
-        """One of the paths at which the trace has it, or None."""
+        """The first of the paths at which the trace has it; None if it has it nowhere."""
         return min(self.traced_paths, default=None)
 
     @property
     def path_of_traced_bytes(self) -> Optional[str]:
-        """The path in the trace of a file whose bytes it has up to now."""
+        """The first path of the file in the trace, if its bytes are followed; None if they aren't,
+        or the trace has no path of it."""
         return None if self.data is None else self.traced_path
 
     def drop_bytes(self) -> None:
-        """Follows the bytes no longer; the size is still kept."""
+        """Stops following the bytes; the size is still kept."""
         self.data = None
 
-    def put(self, offset: int, data: bytes) -> None:
-        """Writes bytes, and makes the file longer if they end past its end."""
+    def write(self, offset: int, data: bytes) -> None:
+        """Writes bytes at an offset, and makes the file longer if they end past its end."""
         self.resize(max(self.size, offset + len(data)))
         if self.data is not None:
             self.data.write(offset, data)
 
     def resize(self, length: int) -> None:
-        """Cuts the file, or adds zeros; bytes of one that is too large are lost."""
+        """Cuts the file, or adds zeros. Bytes of one that no trace may have are dropped."""
         self.size = length
         if length > limits.LARGE_FILE_BYTES:
             self.drop_bytes()
@@ -106,7 +111,8 @@ class Node:
             self.data.resize(length)
 
     def add_change(self, change: Change) -> bool:
-        """Adds a change, and returns whether another ran at once whose order counts."""
+        """Adds a change, and returns whether another ran at the same time and the order of the two
+        decides the file's bytes."""
         self.recent = [one for one in self.recent if one.end >= change.begin]
         unordered = any(change.is_unordered(one) for one in self.recent)
         self.recent.append(change)
@@ -118,36 +124,37 @@ class LiveTree:
 
     def __init__(self, root: Node) -> None:
         self.nodes: Dict[str, Node] = {}
-        self.add('/', root)
+        self.add_name('/', root)
 
-    def get(self, path: Optional[str]) -> Optional[Node]:
+    def node_at(self, path: Optional[str]) -> Optional[Node]:
+        """The node at a path; None if nothing is there, and for no path."""
         return None if path is None else self.nodes.get(path)
 
-    def add(self, path: str, node: Node) -> None:
+    def add_name(self, path: str, node: Node) -> None:
         """Gives a node a name, which it may have in addition to others."""
         self.nodes[path] = node
         node.names.add(path)
 
-    def remove(self, path: str) -> Node:
-        """Removes a name, and returns the node that had it."""
+    def remove_name(self, path: str) -> Node:
+        """Removes a name, which must be there, and returns the node that had it."""
         node = self.nodes.pop(path)
         node.names.discard(path)
         return node
 
-    def below(self, path: str) -> List[str]:
-        """The paths below a directory."""
+    def paths_below(self, path: str) -> List[str]:
+        """All paths below a directory, at any depth."""
         return [other for other in self.nodes if other.startswith(path + '/')]
 
-    def move(self, source: str, target: str) -> None:
-        """Moves a node, and what is below it."""
-        below = self.below(source)
-        self.add(target, self.remove(source))
+    def move_node(self, source: str, target: str) -> None:
+        """Moves the node at a path, and all that is below it, to a free path."""
+        below = self.paths_below(source)
+        self.add_name(target, self.remove_name(source))
         for path in below:
-            self.add(target + path[len(source) :], self.remove(path))
+            self.add_name(target + path[len(source) :], self.remove_name(path))
 
     def move_traced(self, source: str, target: str) -> None:
         """Moves the traced paths of a directory that was moved, and of what is below it."""
-        for path in [target] + self.below(target):
+        for path in [target] + self.paths_below(target):
             paths, old = self.nodes[path].traced_paths, source + path[len(target) :]
             if old in paths:
                 paths.remove(old)

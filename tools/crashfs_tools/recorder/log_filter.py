@@ -65,21 +65,25 @@ class LogFilter:
         return False
 
     def note_result(self, name: str, line: str) -> None:
-        """Notes what a whole call made that was read: a descriptor that may count, or a mapping."""
+        """Notes what a whole call made that was read: a needed descriptor by its number, or a
+        mapping."""
         if name in MAPPERS:
             self.has_mapped |= self.top in line
         elif name in MAKERS:
             result = RESULT.search(line)
-            if result is not None and (self.may_count(line, result[2]) or self.is_known(line)):
+            if result is not None and (
+                self.makes_needed_descriptor(line, result[2]) or self.has_needed_descriptor(line)
+            ):
                 self.descriptors.add(int(result[1]))
 
-    def may_count(self, line: str, shown: Optional[str]) -> bool:
-        """Whether a line makes a descriptor that may count, by what strace shows for it."""
+    def makes_needed_descriptor(self, line: str, shown: Optional[str]) -> bool:
+        """Whether a line makes a descriptor that may be of the directory or of a stream, by what
+        strace shows for it."""
         if shown is None or self.top in shown:
             return True
         return any(path in line for path in OF_DESCRIPTORS)
 
-    def is_known(self, line: str) -> bool:
-        """Whether a line's first argument is a descriptor that may count."""
+    def has_needed_descriptor(self, line: str) -> bool:
+        """Whether a line's first argument is the number of a needed descriptor."""
         match = HEAD.match(line)
         return match is not None and match[2] is not None and int(match[2], 0) in self.descriptors

@@ -25,48 +25,51 @@ SAME_STOP = 0.005
 STOPPED = re.compile(r'^(\d+) +--- stopped by SIGSTOP ---')
 
 
-def open_log(path: str) -> TextIO:
-    """The file of a log that is kept; never one that another user's link or pipe names."""
+def create_log(path: str) -> TextIO:
+    """Opens the file in which a log is kept. OSError if it can't be written, or if another user
+    has put a link or a pipe there."""
     refuse_planted(path)
     return open(path, 'w', encoding='ascii')
 
 
 class LogStream:
-    """strace writes to `pipe`; the lines are kept in a file too if one is named."""
+    """strace writes to `pipe`; the lines are kept in the file `keep`, too, if one is named.
+    keep_fault says why not all could be kept, log_error why the log is none."""
 
     def __init__(
         self,
         folder: str,
         keep: Optional[str],
         mapped: Optional[MappedFiles],
-        needed: Optional[LogFilter] = None,
+        line_filter: Optional[LogFilter] = None,
     ) -> None:
         self.pipe = os.path.join(folder, 'log')
         os.mkfifo(self.pipe)
-        self.kept = None if keep is None else open_log(keep)
+        self.kept = None if keep is None else create_log(keep)
         self.mapped = mapped
-        self.reader = LogReader(needed)
-        self.lines = 0
+        self.reader = LogReader(line_filter)
+        self.line_number = 0
         # Whether threads ran while the newest copy was taken: the next one isn't sure either.
         self.was_late = False
-        self.fault: Optional[OSError] = None
+        self.keep_fault: Optional[OSError] = None
         self.log_error: Optional[LogError] = None
         self.opened = threading.Event()
-        self.thread = threading.Thread(target=self.read, daemon=True)
+        self.thread = threading.Thread(target=self.read_pipe, daemon=True)
 
     def start(self) -> None:
+        """Starts the thread that reads the pipe."""
         self.thread.start()
 
     def finish(self) -> Log:
-        """The log, when strace has ended; LogError if it isn't strace's. fault says why it could
-        not be kept whole."""
-        self.release()
+        """Waits for the thread that reads the pipe, and returns the log. LogError if the log isn't
+        strace's."""
+        self.release_reader()
         self.thread.join()
         if self.log_error is not None:
             raise self.log_error
         return self.reader.log
 
-    def release(self) -> None:
+    def release_reader(self) -> None:
         """Ends the wait for a strace that has never opened the pipe."""
         while not self.opened.is_set():
             try:
@@ -75,52 +78,50 @@ class LogStream:
                 # The thread is not waiting yet.
                 time.sleep(0.001)
 
-    def read(self) -> None:
-        """Reads the pipe to its end, in the thread."""
+    def read_pipe(self) -> None:
+        """Reads the pipe to its end; the thread does only this."""
         descriptor = os.open(self.pipe, os.O_RDONLY)
         self.opened.set()
         enlarge_pipe(descriptor)
         try:
             # A process whose mapped files are copied is stopped until its line is read.
             lines = PipeLines(descriptor, gathers=self.mapped is None)
-            while self.process_line(lines.next_line(), lines):
-                pass
+            line = lines.next_line()
+            while line is not None:
+                stopped = self.add_line(line)
+                if stopped is not None and self.mapped is not None:
+                    self.copy_and_continue(self.mapped, stopped, lines)
+                line = lines.next_line()
         finally:
             os.close(descriptor)
         if self.mapped is not None:
-            self.mapped.finish(self.lines)
+            self.mapped.make_last_copy(self.line_number)
         self.close_kept()
 
-    def process_line(self, line: Optional[str], lines: PipeLines) -> bool:
-        """Does what one line asks for; False for the end."""
-        stopped = self.add_line(line)
-        if stopped is not None and self.mapped is not None:
-            self.copy_and_continue(self.mapped, stopped, lines)
-        return line is not None
-
-    def add_line(self, line: Optional[str]) -> Optional[int]:
-        """Reads a line, and returns the thread that is stopped by it."""
-        if line is None:
-            return None
-        self.lines += 1
+    def add_line(self, line: str) -> Optional[int]:
+        """Adds a line to the log and to the kept file. Returns the thread that it reports as
+        stopped by a signal, or None."""
+        self.line_number += 1
         self.keep_line(line)
-        self.read_line(line.rstrip('\n'))
+        self.parse_line(line.rstrip('\n'))
         if self.mapped is not None:
-            self.mapped.note_mapping(line, self.lines)
+            self.mapped.note_mapping(line, self.line_number)
         stopped = STOPPED.match(line)
         return int(stopped[1]) if stopped else None
 
-    def read_line(self, line: str) -> None:
-        """Reads a line. After one that isn't strace's no other is read, and COMMAND runs on."""
+    def parse_line(self, line: str) -> None:
+        """Adds what a line says to the log. After a line that isn't strace's, `log_error` is set,
+        and no further line is read: COMMAND runs on."""
         try:
             if self.log_error is None:
-                self.reader.read_line(self.lines, line)
+                self.reader.read_line(self.line_number, line)
         except LogError as error:
-            self.log_error = LogError(f'{error}, in line {self.lines}')
+            self.log_error = LogError(f'{error}, in line {self.line_number}')
 
     def copy_and_continue(self, mapped: MappedFiles, thread: int, lines: PipeLines) -> None:
-        """Copies the mapped files of a process whose threads are all stopped, and continues it."""
-        process = stopped_processes.group_of(thread)
+        """Waits until all threads of a stopped thread's process are stopped, copies the mapped
+        files, and continues the process; then does the same for others that stopped meanwhile."""
+        process = stopped_processes.process_of_thread(thread)
         if process is None:
             return
         stop = stopped_processes.wait_until_stopped(thread, process)
@@ -131,7 +132,7 @@ class LogStream:
         is_alone = stop is Stop.ALL_STOPPED and not self.was_late and len(threads) == 1
         self.was_late = stop is Stop.SOME_RUN
         others = self.reader.processes - set(self.reader.log.ended) - {process}
-        mapped.copy(self.lines, thread, is_alone, others)
+        mapped.copy_changed(self.line_number, thread, is_alone, others)
         try:
             os.kill(process, signal.SIGCONT)
         except ProcessLookupError:
@@ -155,12 +156,13 @@ class LogStream:
         return later
 
     def keep_line(self, line: str) -> None:
-        """Keeps a line. After one that can't be kept no other is tried, and COMMAND runs on."""
+        """Writes a line into the kept file. After one that can't be written, `keep_fault` is set,
+        and no further one is tried: COMMAND runs on."""
         try:
-            if self.kept is not None and self.fault is None:
+            if self.kept is not None and self.keep_fault is None:
                 self.kept.write(line)
         except OSError as error:
-            self.fault = error
+            self.keep_fault = error
 
     def close_kept(self) -> None:
         """Closes the file in which the log is kept; what fails then is a fault of the log."""
@@ -169,4 +171,4 @@ class LogStream:
         try:
             self.kept.close()
         except OSError as error:
-            self.fault = self.fault or error
+            self.keep_fault = self.keep_fault or error

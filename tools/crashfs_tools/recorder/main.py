@@ -11,20 +11,20 @@ from typing import List, Optional, Tuple
 from crashfs_tools.common import descendants
 from crashfs_tools.common.command import Refused, print_line, write_whole
 from crashfs_tools.common.guard import Guard, Stopped, stop_by_exception
-from crashfs_tools.common.own_faults import prepare_standard_streams, print_own_fault
-from crashfs_tools.common.printable import printable
+from crashfs_tools.common.own_faults import print_own_fault
+from crashfs_tools.common.printable import prepare_standard_streams, printable
 from crashfs_tools.common.program import Crashfs
 from crashfs_tools.common.trace import Say
 
 from . import stacks, strace_run, summary
 from .begin_after import LateStart
 from .arguments import LogError
-from .directory import NEWEST, Scan, group_name, scan, user_name
+from .directory import NEWEST, Scan, group_name, scan_directory, user_name
 from .log_filter import LogFilter
-from .live_files import LiveFiles, StartConditions, no_link
+from .live_files import LiveFiles, StartConditions, no_target
 from .log_stream import LogStream
 from .mapped_files import FileCopies, MappedFiles
-from .options import NAME, RecordOptions, refuse_bad_options, read_options
+from .options import NAME, RecordOptions, prepare_options, read_options
 from .output_streams import SayEach
 from .own_path import NOTE as OWN_PATH
 from .own_path import files_with_path
@@ -32,7 +32,7 @@ from .recording import Recording, TraceSettings, is_private
 from .strace_log import Log, read_log
 from .translate import Translator
 
-NOTHING = 1
+NOTHING_WRITTEN = 1
 WRITTEN, NOT_WRITTEN = 'the trace is written', 'no trace is written'
 NEW_VERSION = (
     f'the trace has version {NEWEST} (%s): the program crashfs does not read it yet, so '
@@ -56,34 +56,35 @@ class RecordedRun:
     log_fault: str = ''
 
 
-def run_command(options: RecordOptions, guard: Guard) -> RecordedRun:
-    """Runs COMMAND under strace. Refused if there is no log of it, or not a whole one."""
+def run_under_strace(options: RecordOptions, guard: Guard) -> RecordedRun:
+    """Runs COMMAND under strace, and ends all that it leaves. Refused if there is no strace, or no
+    log of a whole run; LogError if the log isn't strace's."""
     strace = strace_run.find_strace()
     mapped = MappedFiles(options.directory, options.ignored) if options.mapped else None
     # Copies of mapped files are placed by all calls, also those on other files.
-    needed = None if options.mapped else log_filter(options, options.directory)
-    stream = LogStream(guard.directory, options.keep_log, mapped, needed)
-    line = strace_run.command_line(strace, stream.pipe, options)
+    line_filter = None if options.mapped else filter_for(options, options.directory)
+    stream = LogStream(guard.directory, options.keep_log, mapped, line_filter)
+    line = strace_run.strace_command(strace, stream.pipe, options)
     running = strace_run.StraceRun(line, options, stream, guard)
     try:
         status = running.run()
     finally:
         left = guard.end_processes()
     log = stream.finish()
-    refuse_part_of_log(log, options.command[0])
+    refuse_incomplete_log(log, options.command[0])
     return RecordedRun(
         log,
-        mapped.copies if mapped else None,
-        status,
-        tuple(running.stops),
-        running.output,
-        descendants.processes_text(left),
-        stream.fault.strerror if stream.fault else '',
+        copies=mapped.copies if mapped else None,
+        status=status,
+        stops=tuple(running.stops),
+        output=running.output,
+        left=descendants.processes_text(left),
+        log_fault=stream.keep_fault.strerror if stream.keep_fault else '',
     )
 
 
-def refuse_part_of_log(log: Log, program: str) -> None:
-    """Refuses a log that isn't of a whole run of a program."""
+def refuse_incomplete_log(log: Log, program: str) -> None:
+    """Refused if a log isn't of a whole run of a program."""
     if log.first is None:
         raise Refused('strace recorded nothing (it may not trace here: see its message)')
     if not log.is_whole:
@@ -92,37 +93,40 @@ def refuse_part_of_log(log: Log, program: str) -> None:
         raise Refused(f'{program} could not be started (strace prints why)')
 
 
-def log_filter(options: RecordOptions, top: str) -> LogFilter:
-    """Which lines of the log need reading, for a directory that the calls name so."""
-    numbers = [int(number) for number in options.acknowledged if number.isdigit()]
+def filter_for(options: RecordOptions, top: str) -> LogFilter:
+    """The filter that keeps the log's lines on a directory, named by the path that the calls have
+    for it, and on the descriptors of --say-fd."""
+    numbers = [int(number) for number in options.acknowledged if number.isdecimal()]
     return LogFilter(os.fsencode(top), numbers)
 
 
-def load_log(path: str, needed: LogFilter) -> Log:
-    """Reads a log from a file; Refused if no process called anything."""
+def load_log(path: str, line_filter: LogFilter) -> Log:
+    """Reads a log from a file. Refused if no process called anything, LogError if strace didn't
+    write it, OSError if it can't be read."""
     with open(path, encoding='ascii', errors='replace') as lines:
-        log = read_log(lines, needed)
+        log = read_log(lines, line_filter)
     if log.first is None:
         raise Refused(f'{path} has no call of any process: strace -f -o FILE writes such a log')
     return log
 
 
 def start_conditions(options: RecordOptions) -> StartConditions:
-    """What COMMAND starts with: of this system, or what is assumed of a log from elsewhere."""
+    """What COMMAND starts with: as it is here, or what is assumed of a log from elsewhere, as the
+    umask 022."""
     is_here = options.from_log is None
     umask = os.umask(0)
     os.umask(umask)
     top = options.directory if is_here else options.log_directory or options.directory
     return StartConditions(
-        top if is_here else os.path.normpath(top),
-        umask if is_here else 0o022,
-        user_name(os.geteuid()),
-        group_name(os.getegid()),
-        link_of if is_here else no_link,
+        top=top if is_here else os.path.normpath(top),
+        umask=umask if is_here else 0o022,
+        owner=user_name(os.geteuid()),
+        group=group_name(os.getegid()),
+        target_outside=target_on_disk if is_here else no_target,
     )
 
 
-def link_of(path: str) -> Optional[str]:
+def target_on_disk(path: str) -> Optional[str]:
     """The target of a symbolic link of this system; None if there is no link, or one that means
     something else in each process."""
     if path.startswith('/proc/'):
@@ -134,17 +138,19 @@ def link_of(path: str) -> Optional[str]:
 
 
 def record(options: RecordOptions) -> int:
-    """Records a session, writes the trace, prints the summary, and returns the status."""
-    refuse_bad_options(options)
+    """Records a session, writes the trace, prints the summary, and returns the status. Refused,
+    LogError or an OSError come before the trace is written; of later errors a line is printed, and
+    the status is NOT_WHOLE."""
+    prepare_options(options)
     Crashfs.find(options.crashfs)
-    before = scan(options.directory, options.ignored, options.version or NEWEST)
+    before = scan_directory(options.directory, options.ignored, options.version or NEWEST)
     recording = Recording(before.header, trace_settings(options))
     files = LiveFiles(recording, start_conditions(options), before, options.ignored)
-    run = run_or_load(options, files)
+    run = recorded_run(options, files)
     translate(options, files, run)
     write_trace(options, recording)
     try:
-        return report_end(options, recording, before, run)
+        return report_recording(options, recording, before, run)
     except OSError as error:
         print_text(f'{error.filename or options.out}: {error.strerror}; {WRITTEN}')
     except Exception as error:
@@ -153,45 +159,52 @@ def record(options: RecordOptions) -> int:
 
 
 def trace_settings(options: RecordOptions) -> TraceSettings:
-    """How the options want the trace to be made."""
+    """How the trace is made, by the options."""
     return TraceSettings(
-        options.acknowledged,
-        SayEach(options.each) if options.each else None,
-        options.profile,
-        options.block,
-        options.version,
+        acknowledged=options.acknowledged,
+        each=SayEach(options.each) if options.each else None,
+        profile=options.profile,
+        block=options.block,
+        version=options.version,
     )
 
 
-def run_or_load(options: RecordOptions, files: LiveFiles) -> RecordedRun:
-    """The run of COMMAND, or that of a log which was kept."""
+def recorded_run(options: RecordOptions, files: LiveFiles) -> RecordedRun:
+    """Runs COMMAND and returns its run, or the run of the log that --from-log names. Refused and
+    LogError as of these."""
     if options.from_log is None:
-        with Guard('crashfs-record-') as guard:
-            return run_command(options, guard)
-    run = RecordedRun(load_log(options.from_log, log_filter(options, files.conditions.top)))
+        with Guard(NAME) as guard:
+            return run_under_strace(options, guard)
+    run = RecordedRun(load_log(options.from_log, filter_for(options, files.conditions.top)))
     if not run.log.is_whole:
-        files.report('the log ends before the program did', '/')
+        files.recording.report('the log ends before the program did', '/')
     return run
 
 
 def write_trace(options: RecordOptions, recording: Recording) -> None:
-    """Writes the trace; only for its owner if a file that it has is not for everybody."""
+    """Writes the trace to OUT, as a whole. Only its owner may read it if some file of it isn't
+    readable by everybody."""
     mode = 0o600 if is_private(recording.trace) else 0o666
     write_whole(options.out, (line + '\n' for line in recording.trace.lines()), mode)
 
 
-def report_end(options: RecordOptions, recording: Recording, before: Scan, run: RecordedRun) -> int:
-    """Compares the trace, which is written, prints what it doesn't have, and returns the status."""
-    found = summary.final_report(recording, options, summary.ending_of(run.status, run.stops))
+def report_recording(
+    options: RecordOptions, recording: Recording, before: Scan, run: RecordedRun
+) -> int:
+    """Compares the directory with the written trace, prints what the trace doesn't have, and the
+    summary; returns the status."""
+    found = summary.final_report(
+        recording, options, summary.failure_of_command(run.status, run.stops)
+    )
     how = summary.NOT_COMPARED
     if options.from_log is None:
         how = summary.compare_directory(options, recording, before, found)
     also = [BEGINS] if recording.begins_later else []
     also += [NEW_VERSION % recording.new_version] if recording.new_version else []
-    also += summary.operations_without_note(recording.trace) if options.stacks else []
+    also += summary.lines_on_missing_notes(recording.trace) if options.stacks else []
     for line in found.lines + found.notes + also:
         print_text(line)
-    print_text(summary.last_line(options, recording, how))
+    print_text(summary.summary_line(options, recording, how))
     return found.status
 
 
@@ -201,15 +214,14 @@ def print_text(text: str) -> None:
 
 
 def translate(options: RecordOptions, files: LiveFiles, run: RecordedRun) -> None:
-    """Translates the log into the recording's operations."""
+    """Translates the log into the recording's operations, and reports what it can't. Refused if a
+    log from elsewhere changes nothing, LogError for a line that isn't strace's."""
     recording = files.recording
     report_faults_of_log(options, recording, run)
     recording.streams.set_standard_output(run.output)
     if options.stacks or any(call.frames for call in run.log.calls):
         for program in stacks.note_calls(run.log.calls):
-            print_text(
-                f'--stacks: no source line of {program} is known{stacks.missing_addr2line()}'
-            )
+            print_text(f'--stacks: no source line of {program} is known{stacks.addr2line_hint()}')
     wanted = options.begin_after
     start = None if wanted is None else LateStart(recording, wanted)
     Translator(files, run.log, run.copies).run()
@@ -219,7 +231,7 @@ def translate(options: RecordOptions, files: LiveFiles, run: RecordedRun) -> Non
         )
     for path in files_with_path(recording.trace, files.conditions.top):
         recording.report_note(OWN_PATH, path)
-    refuse_log_of_elsewhere(options, files)
+    refuse_log_without_changes(options, files)
 
 
 def report_faults_of_log(options: RecordOptions, recording: Recording, run: RecordedRun) -> None:
@@ -232,7 +244,7 @@ def report_faults_of_log(options: RecordOptions, recording: Recording, run: Reco
         recording.report(f'a process that COMMAND left could not be ended: {run.left}', '/')
 
 
-def refuse_log_of_elsewhere(options: RecordOptions, files: LiveFiles) -> None:
+def refuse_log_without_changes(options: RecordOptions, files: LiveFiles) -> None:
     """Refuses a log that changes nothing in the directory: the path is most likely another."""
     operations = files.recording.trace.operations
     if options.from_log is not None and all(isinstance(it, Say) for it in operations):
@@ -243,6 +255,8 @@ def refuse_log_of_elsewhere(options: RecordOptions, files: LiveFiles) -> None:
 
 
 def main(arguments: Optional[List[str]] = None) -> int:
+    """Runs crashfs-record with these words, or those of its command line, and returns its status,
+    which --help explains."""
     prepare_standard_streams()
     options = read_options(sys.argv[1:] if arguments is None else arguments)
     stop_by_exception()
@@ -259,4 +273,4 @@ def main(arguments: Optional[List[str]] = None) -> int:
         print_text(f'{error}')
     except Exception as error:
         print_own_fault(NAME, error, NOT_WRITTEN)
-    return NOTHING
+    return NOTHING_WRITTEN

@@ -89,8 +89,8 @@ class MappedFiles:
         self.last: Dict[int, Bytes] = {}
 
     def note_mapping(self, line: str, number: int) -> None:
-        """Looks for a mapping in a line of strace's. Its file is held open from then on, since
-        it may be renamed or unlinked later."""
+        """If a line of strace's shows a mapping of a followed file, holds the file open from then
+        on: it may be renamed or unlinked later. One that can't be opened is noted as missed."""
         match = MAPPED.match(line)
         path = arguments.shown_path(match[3]) if match else None
         if match is None or path is None or not path.startswith(self.top.rstrip('/') + '/'):
@@ -116,8 +116,11 @@ class MappedFiles:
             self.descriptors.append(descriptor)
         self.copies.numbers[number] = self.inodes[inode]
 
-    def copy(self, line: int, process: int, is_alone: bool, others: Iterable[int] = ()) -> None:
-        """Copies the files that changed since the last copy."""
+    def copy_changed(
+        self, line: int, process: int, is_alone: bool, others: Iterable[int] = ()
+    ) -> None:
+        """Copies the files that changed since the last copy, when `line` lines of the log were
+        read; others are the processes that aren't stopped."""
         changed: Dict[int, Bytes] = {}
         for number, descriptor in enumerate(self.descriptors):
             data = file_bytes(descriptor)
@@ -127,14 +130,19 @@ class MappedFiles:
         self.copies.taken.append(FileCopy(line, process, is_alone, changed, shared))
 
     def mapped_by(self, processes: Iterable[int]) -> Set[int]:
-        """The files that processes have mapped."""
+        """The numbers of the followed files that these processes may have mapped: rather too many.
+        A file counts by its inode, whatever its device; all count if a process doesn't show what it
+        has mapped."""
         mapped: Set[str] = set()
         for process in processes:
-            mapped |= stopped_processes.inodes_mapped(process)
+            inodes = stopped_processes.inodes_mapped(process)
+            if inodes is None:
+                return set(self.inodes.values())
+            mapped |= inodes
         return {number for (_, inode), number in self.inodes.items() if str(inode) in mapped}
 
-    def finish(self, line: int) -> None:
+    def make_last_copy(self, line: int) -> None:
         """Makes the last copy, of what the program left, and closes the files."""
-        self.copy(line, 0, True)
+        self.copy_changed(line, 0, True)
         for descriptor in self.descriptors:
             os.close(descriptor)

@@ -44,30 +44,34 @@ def copies_by_call(
 
 
 def add_stores(files: LiveFiles, node: Node, data: Bytes, is_sure: bool) -> None:
-    """Adds the stores that a copy of a mapped file shows: each page that differs is one."""
+    """Adds the stores that a copy of a mapped file shows, a write for each page that differs.
+    is_sure says that no other process or thread can have made them."""
     if node.data is None:
         return
     if len(data) != node.size:
-        files.report('a copy of the mapped file has another size than is known', node.name)
+        files.recording.report(
+            'a copy of the mapped file has another size than is known', node.name
+        )
         return
-    for begin in page_places(node.data, SparseBytes.of(data)):
+    for begin in offsets_of_pages(node.data, SparseBytes.copy_of(data)):
         end = begin + PAGE_BYTES
-        first, last = difference(node.data[begin:end], data[begin:end])
+        first, last = changed_range(node.data[begin:end], data[begin:end])
         if first < last and not is_sure:
-            files.report(NOT_ALONE, node.name)
+            files.recording.report(NOT_ALONE, node.name)
         if first < last:
             files.write_bytes(node, begin + first, data[begin + first : begin + last])
         if node.data is None:
             return
 
 
-def page_places(old: SparseBytes, new: SparseBytes) -> List[int]:
-    """The offsets of the pages that may differ."""
+def offsets_of_pages(old: SparseBytes, new: SparseBytes) -> List[int]:
+    """The offsets of the pages that may differ: those that one of the two has."""
     return [page * PAGE_BYTES for page in sorted(old.pages.keys() | new.pages.keys())]
 
 
-def difference(old: bytes, new: bytes) -> Tuple[int, int]:
-    """The smallest range that has all bytes in which two pages of one size differ."""
+def changed_range(old: bytes, new: bytes) -> Tuple[int, int]:
+    """The smallest range, by its ends, that has all bytes in which two pages of one size differ;
+    an empty one if they are equal."""
     if old == new:
         return 0, 0
     places = [place for place in range(len(new)) if old[place] != new[place]]

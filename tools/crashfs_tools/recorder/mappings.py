@@ -19,10 +19,12 @@ class Mapping:
 
     @property
     def end(self) -> int:
+        """The first address after it."""
         return self.address + self.length
 
     def part_between(self, first: int, last: int) -> Mapping:
-        """The part between two addresses, as far as the mapping reaches."""
+        """The part from one address up to, and without, another. Its length is 0 if the mapping
+        isn't there."""
         begin, end = max(first, self.address), min(last, self.end)
         offset = self.offset + begin - self.address
         return replace(self, address=begin, length=max(0, end - begin), offset=offset)
@@ -40,7 +42,7 @@ class Memory:
         self.mappings.append(mapping)
 
     def unmap(self, address: int, length: int) -> None:
-        """Unmaps a range, also if another mapping takes its place."""
+        """Unmaps whole pages from an address on; parts of mappings outside them stay."""
         end = address + in_whole_pages(length)
         kept = []
         for mapping in self.mappings:
@@ -48,7 +50,7 @@ class Memory:
             kept.append(mapping.part_between(end, mapping.end))
         self.mappings = [mapping for mapping in kept if mapping.length > 0]
 
-    def move(self, old: int, old_length: int, new: int, new_length: int, keeps: bool) -> None:
+    def move(self, old: int, old_length: int, new: int, new_length: int, *, keeps: bool) -> None:
         """Moves a mapping, as mremap does; the old range stays mapped only if `keeps`."""
         moved = [part for part, _ in self.parts_in(old, old_length or 1)]
         if not keeps and old_length:
@@ -57,16 +59,18 @@ class Memory:
             self.map(replace(part, address=new, length=in_whole_pages(new_length)))
 
     def parts_in(self, address: int, length: int) -> Iterator[Tuple[Mapping, Tuple[int, int]]]:
-        """The parts of mappings in a range, each with its offset in its file and its length."""
+        """The parts of mappings that are in a range of addresses, each with its offset in its file
+        and its length there."""
         for mapping in self.mappings:
             part = mapping.part_between(address, address + length)
             if part.length > 0:
                 yield part, (part.offset, part.length)
 
     def copy(self) -> Memory:
+        """What a process has after a fork: the same mappings, in a list of its own."""
         return Memory(list(self.mappings))
 
 
 def in_whole_pages(length: int) -> int:
-    """A length in whole pages of 4,096 bytes."""
+    """The least length in whole pages, of 4,096 bytes, that isn't below a length."""
     return -(-length // 4_096) * 4_096

@@ -7,9 +7,14 @@ import os
 from dataclasses import dataclass, field
 from typing import List, Optional
 
-from crashfs_tools.common.command import Refused, folder_to_write, with_program_path, parse
+from crashfs_tools.common.command import (
+    Refused,
+    folder_to_write,
+    parse_command_line,
+    version_text,
+    with_program_path,
+)
 from crashfs_tools.common.trace import BLOCK_SIZES, BLOCKS, JOURNAL, PROFILES
-from crashfs_tools.common.version import version_of
 
 from .ignore import Ignore, Rule
 from .output_streams import SOCKETS, SayEach
@@ -19,7 +24,7 @@ NAME = 'crashfs-record'
 AUTO, VERSIONS = 'auto', ('3', '4')
 
 DESCRIPTION = """\
-Records what COMMAND does to the directory DIR, as a trace that crashfs reads.
+Records what COMMAND does to the directory DIR, as a trace of file operations.
 
 COMMAND runs in DIR under strace, and changes DIR as it would without crashfs-record. The content of
 DIR before the run becomes the start lines. Each call that changes something below DIR becomes an
@@ -37,7 +42,7 @@ example: crashfs-record store.d store.trace -- sqlite3 test.db ".read session.sq
 
 @dataclass
 class RecordOptions:
-    """The options of a command line, with COMMAND."""
+    """The values of a command line, by the names that the parser gives them, and COMMAND."""
 
     directory: str
     out: str
@@ -68,33 +73,33 @@ class RecordOptions:
         return None if self.trace_version == AUTO else int(self.trace_version)
 
 
-def parser() -> argparse.ArgumentParser:
-    """The parser of the command line."""
-    made = argparse.ArgumentParser(
+def make_parser() -> argparse.ArgumentParser:
+    """A parser of the command line up to COMMAND."""
+    parser = argparse.ArgumentParser(
         prog=NAME,
         description=DESCRIPTION,
         epilog=EPILOG,
         usage='crashfs-record [OPTION].. DIR OUT.trace -- COMMAND [ARG]..',
         formatter_class=argparse.RawDescriptionHelpFormatter,
     )
-    made.add_argument('--version', action='version', version=version_of(NAME))
-    made.add_argument('directory', metavar='DIR', help='the directory that COMMAND changes')
-    made.add_argument('out', metavar='OUT.trace', help='the trace to write; - is standard output')
-    add_recording_options(made)
-    add_trace_options(made)
-    add_log_options(made)
-    return made
+    parser.add_argument('--version', action='version', version=version_text(NAME))
+    parser.add_argument('directory', metavar='DIR', help='the directory that COMMAND changes')
+    parser.add_argument('out', metavar='OUT.trace', help='the trace to write; - is standard output')
+    add_recording_options(parser)
+    add_trace_options(parser)
+    add_log_options(parser)
+    return parser
 
 
-def add_recording_options(made: argparse.ArgumentParser) -> None:
-    """Adds the options that say what is recorded."""
-    made.add_argument(
+def add_recording_options(parser: argparse.ArgumentParser) -> None:
+    """Adds the options that say what is recorded, to a parser."""
+    parser.add_argument(
         '--mapped',
         action='store_true',
         help='also record stores through shared mappings: COMMAND is stopped at each '
         'call that syncs, writes, maps or changes a name (slower)',
     )
-    made.add_argument(
+    parser.add_argument(
         '--ignore',
         metavar='GLOB',
         action='append',
@@ -102,7 +107,7 @@ def add_recording_options(made: argparse.ArgumentParser) -> None:
         default=[],
         help='leave out files that match, by the rules of .gitignore (may be ' 'repeated)',
     )
-    made.add_argument(
+    parser.add_argument(
         '--say-fd',
         metavar='N',
         action='append',
@@ -113,7 +118,7 @@ def add_recording_options(made: argparse.ArgumentParser) -> None:
         f"standard output; `{SOCKETS}`: from each connection that it accepts "
         '(may be repeated)',
     )
-    made.add_argument(
+    parser.add_argument(
         '--say-each',
         metavar='WHAT',
         dest='each',
@@ -121,28 +126,28 @@ def add_recording_options(made: argparse.ArgumentParser) -> None:
         help='what acknowledges something: each `line`, or each `write`, as in binary '
         'protocols (default: line; over a connection without line feeds: write)',
     )
-    made.add_argument(
+    parser.add_argument(
         '--no-say',
         action='store_true',
-        help='do not warn if no line is acknowledged, if all are in one write, or if one is held '
-        'for long',
+        help='do not warn if no line is acknowledged, if all are in one write, or if '
+        'files change while one is written in parts',
     )
-    made.add_argument(
+    parser.add_argument(
         '--stacks',
         action='store_true',
         help="note at each operation which of COMMAND's functions made it (slower)",
     )
 
 
-def add_trace_options(made: argparse.ArgumentParser) -> None:
-    """Adds the options that say what the trace has."""
-    made.add_argument(
+def add_trace_options(parser: argparse.ArgumentParser) -> None:
+    """Adds the options that say what the trace has, to a parser."""
+    parser.add_argument(
         '--begin-after',
         metavar='LINE',
         help='begin the trace after the acknowledged line with this number, or after '
         'the first that matches; earlier changes belong to the start tree',
     )
-    made.add_argument(
+    parser.add_argument(
         '--profile',
         choices=[*PROFILES, JOURNAL],
         default=BLOCKS,
@@ -150,7 +155,7 @@ def add_trace_options(made: argparse.ArgumentParser) -> None:
         'names (blocks, the default), all (ordered), or all, with each sync that writes the log '
         'making them durable (journal, as ext4 and XFS do; needs a trace of version 4)',
     )
-    made.add_argument(
+    parser.add_argument(
         '--block',
         type=int,
         choices=BLOCK_SIZES,
@@ -158,7 +163,7 @@ def add_trace_options(made: argparse.ArgumentParser) -> None:
         help='how many bytes the disk writes whole; with 512, records inside a page '
         'may be torn (default: 4096)',
     )
-    made.add_argument(
+    parser.add_argument(
         '--trace-version',
         metavar='VERSION',
         choices=[AUTO, *VERSIONS],
@@ -167,7 +172,7 @@ def add_trace_options(made: argparse.ArgumentParser) -> None:
         'to 1 GiB; states of such a trace are not proved yet (default: auto, which is 3 if that '
         'has all that happens, else 4)',
     )
-    made.add_argument(
+    parser.add_argument(
         '--crashfs',
         metavar='PATH',
         help='the program crashfs, for the comparison at the end (default: the one on PATH, then '
@@ -175,16 +180,16 @@ def add_trace_options(made: argparse.ArgumentParser) -> None:
     )
 
 
-def add_log_options(made: argparse.ArgumentParser) -> None:
-    """Adds the options on strace's log."""
-    made.add_argument('--keep-log', metavar='FILE', help="keep strace's log")
-    made.add_argument(
+def add_log_options(parser: argparse.ArgumentParser) -> None:
+    """Adds the options on strace's log, to a parser."""
+    parser.add_argument('--keep-log', metavar='FILE', help="keep strace's log")
+    parser.add_argument(
         '--from-log',
         metavar='FILE',
         help='run nothing, but convert the log of an earlier run; DIR must be as it '
         'was before that run',
     )
-    made.add_argument(
+    parser.add_argument(
         '--log-dir',
         metavar='PATH',
         dest='log_directory',
@@ -193,38 +198,40 @@ def add_log_options(made: argparse.ArgumentParser) -> None:
 
 
 def checked_glob(text: str) -> str:
-    """A pattern of --ignore, as it is."""
+    """A pattern of --ignore, unchanged; ArgumentTypeError if it has no meaning."""
     try:
-        Rule.of(text)
+        Rule.of_glob(text)
     except ValueError as error:
         raise argparse.ArgumentTypeError(str(error)) from error
     return text
 
 
 def descriptor_to_acknowledge(word: str) -> str:
-    """A value of --say-fd: a descriptor, or all sockets."""
-    if word != SOCKETS and not word.isdigit():
+    """A value of --say-fd, unchanged; ArgumentTypeError unless it is a descriptor's number or means
+    all sockets."""
+    if word != SOCKETS and not word.isdecimal():
         raise argparse.ArgumentTypeError(f'{word} is neither a number nor `{SOCKETS}`')
     return word
 
 
 def read_options(arguments: List[str]) -> RecordOptions:
-    """The options of a command line; a wrong one ends the program with its reason."""
-    made = parser()
-    values, command = parse(made, arguments)
+    """The options of a command line; a wrong one ends the program (SystemExit) with its reason."""
+    parser = make_parser()
+    values, command = parse_command_line(parser, arguments)
     if values.from_log is None and not command:
-        made.error('COMMAND is missing: put -- before it')
+        parser.error('COMMAND is missing: put -- before it')
     if values.from_log is not None and (
         command or values.mapped or values.keep_log or values.stacks
     ):
-        made.error('--from-log goes with no COMMAND, --mapped, --stacks or --keep-log')
+        parser.error('--from-log goes with no COMMAND, --mapped, --stacks or --keep-log')
     if values.profile == JOURNAL and values.trace_version == VERSIONS[0]:
-        made.error(f'--profile {JOURNAL} needs --trace-version {VERSIONS[-1]} or {AUTO}')
+        parser.error(f'--profile {JOURNAL} needs --trace-version {VERSIONS[-1]} or {AUTO}')
     return RecordOptions(command=command, **vars(values))
 
 
-def refuse_bad_options(options: RecordOptions) -> None:
-    """Refuses, before anything runs, options that can't work."""
+def prepare_options(options: RecordOptions) -> None:
+    """Replaces the directory in the options by its real path, and COMMAND's program by its whole
+    path. Refused, before anything runs, if something of them can't work."""
     if not os.path.isdir(options.directory):
         raise Refused(f'{options.directory} is no directory')
     options.directory = os.path.realpath(options.directory)

@@ -49,7 +49,8 @@ class OutputStream:
     is_held: bool = False
 
     def texts_of(self, data: bytes, moment: int) -> List[bytes]:
-        """The texts that a write of these bytes acknowledges; moment counts earlier changes."""
+        """The texts that a write of these bytes completes; moment is how many changes the
+        recording had before it."""
         if self.each is SayEach.WRITE:
             texts = [written_as_line(data)] if data else []
         else:
@@ -59,7 +60,7 @@ class OutputStream:
         return texts
 
     def complete_lines(self, data: bytes, moment: int) -> List[bytes]:
-        """The lines that a write completes, without their ends."""
+        """The lines that a write completes, without their ends; the rest waits in pieces."""
         if not self.pieces:
             self.gaps = 0
         elif moment != self.moment:
@@ -104,16 +105,16 @@ class OutputStreams:
         self.standard = {1: self.new_stream(OUTPUT, 1), 2: self.new_stream(ERRORS, 2)}
 
     def new_stream(self, name: str, number: int) -> OutputStream:
-        """A stream that acknowledges something if its descriptor is asked for."""
+        """A new stream, which acknowledges something if --say-fd names its descriptor."""
         return OutputStream(name, str(number) in self.acknowledged, self.each or SayEach.LINE)
 
-    def is_asked(self, number: int) -> bool:
+    def is_asked_for(self, number: int) -> bool:
         """Whether --say-fd names a descriptor that isn't a standard one."""
         return number > 2 and str(number) in self.acknowledged
 
-    def inherited(self) -> Dict[int, OutputStream]:
+    def inherited_streams(self) -> Dict[int, OutputStream]:
         """The streams that COMMAND may start with, by their descriptors."""
-        asked = [int(number) for number in self.acknowledged if number.isdigit()]
+        asked = [int(number) for number in self.acknowledged if number.isdecimal()]
         named = {
             number: self.by_text.setdefault(
                 f'{number}', self.new_stream(f'descriptor {number}', number)
@@ -124,29 +125,31 @@ class OutputStreams:
         return {**self.standard, **named}
 
     def set_standard_output(self, text: Optional[str]) -> None:
-        """Makes a pipe COMMAND's standard output."""
+        """Makes what strace shows for a pipe a name of COMMAND's standard output. Anything else
+        than a pipe is left out: a file or a terminal may be of others, too."""
         if text is not None and text.startswith('pipe:'):
             self.by_text.setdefault(text, self.standard[1])
 
     def add_connection(self, text: Optional[str]) -> None:
-        """Adds a connection that COMMAND accepted, if connections are asked for."""
+        """Makes a connection that COMMAND accepted a stream, if --say-fd asks for connections."""
         if SOCKETS in self.acknowledged and text is not None:
             each = SayEach.LINE if text in self.with_lines else SayEach.WRITE
             self.by_text[text] = OutputStream('a socket', True, self.each or each)
 
     def find_stream(self, number: int, text: Optional[str]) -> Optional[OutputStream]:
-        """The stream of a descriptor that isn't known as a standard one. Two descriptors of a
-        device may be two streams."""
+        """The stream of a descriptor, by what strace shows for it. One that isn't known is made if
+        --say-fd names the descriptor; None for any other. Two descriptors of a device may be two
+        streams."""
         if text is None:
             return None
         known = self.by_text.get(text)
-        if known is not None or not self.is_asked(number):
+        if known is not None or not self.is_asked_for(number):
             return known
         key = f'{number}<{text}>' if text.startswith('/dev/') else text
         return self.by_text.setdefault(key, self.new_stream(f'descriptor {number}', number))
 
     def all_streams(self) -> Iterator[OutputStream]:
-        """Each stream once."""
+        """Each stream once, though it may have several names; the standard ones come first."""
         yield from dict.fromkeys([*self.standard.values(), *self.by_text.values()])
 
 
@@ -160,15 +163,19 @@ def connections_with_lines(calls: Iterable[Call]) -> FrozenSet[str]:
             accepted.add(call.made.text)
         elif call.name in WRITES or call.name in SENDS:
             text = call.descriptor().text
-            if text in accepted and text not in found and b'\n' in bytes_of(call):
+            if text in accepted and text not in found and b'\n' in sent_bytes(call):
                 found.add(text)
     return frozenset(found)
 
 
-def bytes_of(call: Call) -> bytes:
-    """The bytes that a call sends, as far as the log has them."""
+def sent_bytes(call: Call) -> bytes:
+    """The bytes that a call writes or sends; none if the log lacks them."""
     if call.name == 'sendmmsg':
-        return arguments.vectors(call.word(1)) or b''
+        return arguments.bytes_of_messages(call.argument(1)) or b''
     is_text = call.name in ('write', 'pwrite64', 'sendto')
-    data = arguments.data(call.word(1)) if is_text else arguments.vector(call.word(1))
+    data = (
+        arguments.bytes_of_text(call.argument(1))
+        if is_text
+        else arguments.bytes_of_vector(call.argument(1))
+    )
     return (data or b'')[: max(0, call.result)]

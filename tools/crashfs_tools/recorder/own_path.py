@@ -22,16 +22,16 @@ def files_with_path(trace: Trace, top: str) -> List[str]:
         return []
     # A longer name, as `/store2` for `/store`, is another path.
     pattern = re.compile(re.escape(os.fsencode(top)) + rb'(?![\w.-])')
-    return list(dict.fromkeys(path for path, data in bytes_of(trace) if pattern.search(data)))
+    return list(dict.fromkeys(path for path, data in bytes_by_file(trace) if pattern.search(data)))
 
 
-def bytes_of(trace: Trace) -> Iterator[Tuple[str, bytes]]:
-    """The bytes that a trace has, with the path of their file there; of a symbolic link its
-    target."""
+def bytes_by_file(trace: Trace) -> Iterator[Tuple[str, bytes]]:
+    """Each piece of bytes that a trace has, after the path of its file there; of a symbolic link
+    its target."""
     for line in (*trace.start, *trace.operations):
         if isinstance(line, (StartSymlink, Symlink)):
             yield line.path, os.fsencode(line.link)
         elif isinstance(line, Start) and isinstance(line.data, SparseBytes):
-            yield from ((line.path, run) for _, run in line.data.runs())
+            yield from ((line.path, run) for _, run in line.data.page_runs())
         elif isinstance(line, (Start, Write)) and line.data:
             yield line.path, bytes(line.data)

@@ -39,14 +39,15 @@ class PipeLines:
         return self.ready.popleft() if self.ready else None
 
     def read_piece(self) -> None:
-        """Waits for the next bytes, and takes them."""
+        """Waits for bytes of the pipe, or its end, and adds them."""
         piece = os.read(self.descriptor, PIECE)
         if self.gathers and 0 < len(piece) < PIECE // 4:
             time.sleep(GATHER_SECONDS)
         self.add_bytes(piece)
 
     def add_bytes(self, piece: bytes) -> None:
-        """Adds bytes of the pipe to the lines; none at all are its end."""
+        """Splits bytes of the pipe into lines, with what was left of the last one; an empty piece
+        is the pipe's end."""
         self.rest.append(piece)
         if b'\n' in piece:
             *lines, rest = b''.join(self.rest).split(b'\n')

@@ -22,8 +22,8 @@ class OpenFile:
     stream: Optional[OutputStream] = None
 
     @staticmethod
-    def of(node: Node, flags: str) -> OpenFile:
-        """A file that was opened with these flags."""
+    def opened_with(node: Node, flags: str) -> OpenFile:
+        """A file that was opened with flags such as `O_WRONLY|O_APPEND`."""
         return OpenFile(
             node,
             appends='O_APPEND' in flags,
@@ -38,8 +38,9 @@ class Descriptors:
     files: Dict[int, OpenFile] = field(default_factory=dict)
     closed_by_exec: Set[int] = field(default_factory=set)
 
-    def put(self, number: int, file: Optional[OpenFile], closed_by_exec: bool) -> None:
-        """Adds a descriptor that a call made; None for a file outside the directory."""
+    def set_file(self, number: int, file: Optional[OpenFile], closed_by_exec: bool) -> None:
+        """Adds a descriptor that a call made, in the place of an older one. A file that is None is
+        outside the directory, and isn't followed."""
         self.close(number)
         if file is not None:
             self.files[number] = file
@@ -52,10 +53,12 @@ class Descriptors:
         self.closed_by_exec.discard(number)
 
     def copy(self) -> Descriptors:
+        """The table of a forked process: its own, of the same open files."""
         return Descriptors(dict(self.files), set(self.closed_by_exec))
 
     def after_exec(self) -> Descriptors:
-        """The table after exec, which closes some of the files."""
+        """The table after exec: a new one, which no thread shares, without the descriptors that
+        exec closes."""
         kept = {n: file for n, file in self.files.items() if n not in self.closed_by_exec}
         return Descriptors(kept)
 
@@ -68,6 +71,7 @@ class PathContext:
     umask: int
 
     def copy(self) -> PathContext:
+        """The same directory and umask, to be changed apart."""
         return PathContext(self.directory, self.umask)
 
 
@@ -80,17 +84,11 @@ class Process:
     memory: Memory = field(default_factory=Memory)
 
     def forked_child(self, fork: Call) -> Process:
-        """The process that a fork makes."""
-        flags = ' '.join(fork.words)
+        """The process or thread that a fork makes: its flags say what both share."""
+        flags = ' '.join(fork.arguments)
         shares_memory = 'CLONE_VM' in flags or fork.name == 'vfork'
         return Process(
             self.descriptors if 'CLONE_FILES' in flags else self.descriptors.copy(),
             self.paths if 'CLONE_FS' in flags else self.paths.copy(),
             self.memory if shares_memory else self.memory.copy(),
         )
-
-    def exec(self) -> None:
-        """Runs another program: some files are closed, and nothing is mapped any more."""
-        self.descriptors = self.descriptors.after_exec()
-        self.paths = self.paths.copy()
-        self.memory = Memory()

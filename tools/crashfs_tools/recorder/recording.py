@@ -52,7 +52,8 @@ class TraceSettings:
 
 
 def path_of(operation: Operation) -> str:
-    """The path that an operation is about."""
+    """The path that a report names for an operation: the old one of a rename, and `/` for what is
+    on no path."""
     if isinstance(operation, (Rename, Link)):
         return operation.source
     return '/' if isinstance(operation, (Sync, Say)) else operation.path
@@ -67,24 +68,25 @@ def is_private(trace: Trace) -> bool:
 
 
 def end_of_change(operation: Operation) -> int:
-    """The offset at which an operation's bytes end, or the length that it gives a file."""
+    """The offset at which a write's bytes end, or the length that a truncate sets; 0 for any
+    other operation."""
     if isinstance(operation, Write):
         return operation.offset + len(operation.data)
     return operation.length if isinstance(operation, Truncate) else 0
 
 
-# Why a trace has the newest version.
-
-
-def symbolic_link(path: str) -> str:
+def symlink_reason(path: str) -> str:
+    """That there is a symbolic link, as a reason for the newest version."""
     return f'{path} is a symbolic link'
 
 
-def renamed_directory(path: str) -> str:
+def renamed_directory_reason(path: str) -> str:
+    """That a directory was renamed, as a reason for the newest version."""
     return f'{path} is a directory that was renamed'
 
 
-def large_file(path: str) -> str:
+def large_file_reason(path: str) -> str:
+    """That a file is large, as a reason for the newest version."""
     return f'{path} has more than {limits.FILE_BYTES:,} bytes'
 
 
@@ -98,7 +100,6 @@ class Recording:
 
     def __init__(self, header: Header, settings: TraceSettings) -> None:
         self.settings = settings
-        self.new_version = ''
         self.begin_trace(header)
         self.streams = OutputStreams(settings.acknowledged, settings.each)
         self.troubles = Troubles()
@@ -109,7 +110,9 @@ class Recording:
         self.changes = 0
 
     def begin_trace(self, header: Header) -> None:
-        """Begins the trace, in the oldest version that it may have."""
+        """Begins the trace, in the oldest version that it may have, and a tree of the root alone.
+        If it is begun again, all else of the recording stays, as the streams, the troubles, the
+        paths that differ and the count of changes."""
         profile, block = self.settings.profile, self.settings.block
         version = self.settings.version or WRITTEN_VERSION
         self.trace = Trace(header, version=version, profile=profile, block=block)
@@ -120,38 +123,40 @@ class Recording:
 
     def add_start(self, line: StartLine) -> bool:
         """Adds a start line to the trace, and returns whether its version may have it."""
-        if isinstance(line, StartSymlink) and not self.raise_version_for(symbolic_link(line.path)):
+        if isinstance(line, StartSymlink) and not self.raise_version_for(symlink_reason(line.path)):
             return False
         if isinstance(line, Start) and len(line.data or b'') > limits.FILE_BYTES:
-            self.raise_version_for(large_file(line.path))
+            self.raise_version_for(large_file_reason(line.path))
         self.trace.start.append(line)
         self.tree.add_start(line)
         return True
 
     def report(self, what: str, where: str, is_note: bool = False) -> None:
-        """Reports what the trace doesn't have, once for each thing and place."""
+        """Reports what the trace doesn't have, and where: once for each of both, with the lines of
+        the trace before it."""
         line = self.trace.line_of_operation(len(self.trace.operations)) - 1
         self.troubles.add(what, where, None if self.call is None else line, is_note)
 
     def report_note(self, what: str, where: str) -> None:
-        """Reports what no trace has, and what decides about no crash state."""
+        """Reports what no trace has, but what decides about no crash state."""
         self.report(what, where, is_note=True)
 
-    def raise_version_for(self, what: str) -> bool:
-        """Gives the trace the newest version, for this reason, unless --trace-version names one.
-        Returns whether it has the newest now."""
+    def raise_version_for(self, reason: str) -> bool:
+        """Gives the trace the newest version, for the first such reason, unless --trace-version
+        names one. Returns whether it has the newest version afterwards. It keeps that version even
+        if the operation that needs it is left out after all."""
         if self.trace.version < NEWEST and self.settings.version is None:
             self.trace.version = self.tree.version = NEWEST
-            self.new_version = what
+            self.new_version = reason
         return self.trace.version >= NEWEST
 
-    def add(self, operation: Operation) -> bool:
-        """Adds an operation to the trace, and returns whether it could: one that `crashfs` would
-        refuse is reported."""
-        if not self.has_line(operation):
+    def add_operation(self, operation: Operation) -> bool:
+        """Adds an operation to the trace and its tree. Returns False if it couldn't: what `crashfs`
+        would refuse is reported instead."""
+        if not self.has_line_for(operation):
             return self.add_in_older_version(operation)
         if limits.FILE_BYTES < end_of_change(operation) <= limits.LARGE_FILE_BYTES:
-            self.raise_version_for(large_file(path_of(operation)))
+            self.raise_version_for(large_file_reason(path_of(operation)))
         fault = self.tree.fault(operation)
         if fault:
             name = self.call.name if self.call else 'a change'
@@ -164,7 +169,7 @@ class Recording:
         self.changes += not isinstance(operation, Say)
         return True
 
-    def has_line(self, operation: Operation) -> bool:
+    def has_line_for(self, operation: Operation) -> bool:
         """Whether the trace's version has a line for an operation: version 3 has one for an
         fdatasync, too."""
         kind = FsyncRange if isinstance(operation, Fdatasync) else type(operation)
@@ -175,27 +180,27 @@ class Recording:
         if not isinstance(operation, (FsyncRange, Fdatasync)):
             return False
         self.report('a sync of a part is written as one of the file', operation.path)
-        return self.add(Fsync(operation.path))
+        return self.add_operation(Fsync(operation.path))
 
     def add_output(self, stream: OutputStream, data: bytes) -> None:
         """Adds bytes that COMMAND wrote to a stream: an acknowledgement for each whole line, or for
         each write."""
         for text in stream.texts_of(data, self.changes):
             if stream.is_acknowledged:
-                self.acknowledge(stream, text)
+                self.add_acknowledgement(stream, text)
 
-    def acknowledge(self, stream: OutputStream, text: bytes) -> None:
+    def add_acknowledgement(self, stream: OutputStream, text: bytes) -> None:
         """Adds an acknowledgement; reports one that the trace has only in part."""
-        said = Say.cut(text)
+        said = Say.from_line(text)
         if said.text.encode() != text and stream.each is SayEach.WRITE:
             self.report_note('an acknowledgement is cut at 1,024 bytes', stream.name)
         elif said.text.encode() != text:
             self.report('a line is cut at 1,024 bytes, or is no UTF-8', stream.name)
-        self.add(said)
+        self.add_operation(said)
         self.on_acknowledged(said)
 
     def end_streams(self) -> None:
-        """Ends the last line of each stream, if that has no end."""
+        """Counts, at the end, the last line of each stream that has no end."""
         for stream in self.streams.all_streams():
             if stream.pieces:
                 self.add_output(stream, b'\n')

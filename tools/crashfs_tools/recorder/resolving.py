@@ -8,14 +8,14 @@ from typing import Callable, List, Optional
 # So many links the system follows in one path.
 MOST_LINKS = 40
 
-LinkOf = Callable[[str], Optional[str]]
+TargetOf = Callable[[str], Optional[str]]
 
 
 class Resolver:
     """Resolves paths. inside gives the targets of symbolic links below the directory, by their
     paths there; outside those of all others, by their whole paths."""
 
-    def __init__(self, top: str, inside: LinkOf, outside: LinkOf) -> None:
+    def __init__(self, top: str, inside: TargetOf, outside: TargetOf) -> None:
         self.top = top
         self.inside, self.outside = inside, outside
         self.known: dict[str, Optional[str]] = {}
@@ -28,13 +28,13 @@ class Resolver:
         return path[len(prefix) :] if path.startswith(prefix + '/') else None
 
     def resolve(self, path: str, follows: bool) -> Optional[str]:
-        """A whole path without symbolic links; None if there are too many. `follows` says whether a
-        link at its end is followed."""
+        """The whole path that a whole path leads to, without symbolic links; None if there are too
+        many. `follows`, or a slash at its end, says that a link at its end is followed."""
         follows = follows or path.endswith('/')
-        here, left = '/', names_of(path)
+        here, left = '/', names_in_reverse(path)
         # The directory's own path has none.
         if path.startswith(self.top + '/'):
-            here, left = self.top, names_of(path[len(self.top) :])
+            here, left = self.top, names_in_reverse(path[len(self.top) :])
         links = 0
         while left:
             name = left.pop()
@@ -42,7 +42,7 @@ class Resolver:
                 here = os.path.dirname(here)
                 continue
             found = os.path.join(here, name)
-            target = self.link_of(found) if left or follows else None
+            target = self.target_of(found) if left or follows else None
             if target is None:
                 here = found
                 continue
@@ -50,10 +50,10 @@ class Resolver:
             if links > MOST_LINKS:
                 return None
             here = '/' if target.startswith('/') else here
-            left += names_of(target)
+            left += names_in_reverse(target)
         return here
 
-    def link_of(self, path: str) -> Optional[str]:
+    def target_of(self, path: str) -> Optional[str]:
         """The target of the symbolic link at a whole path; None if there is none."""
         below = self.path_below(path)
         if below is not None:
@@ -63,6 +63,6 @@ class Resolver:
         return self.known[path]
 
 
-def names_of(path: str) -> List[str]:
-    """The names of a path, in reverse."""
+def names_in_reverse(path: str) -> List[str]:
+    """The names of a path, the last one first, without empty ones and `.`."""
     return [name for name in reversed(path.split('/')) if name not in ('', '.')]

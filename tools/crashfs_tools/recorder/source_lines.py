@@ -28,7 +28,7 @@ class Segment(NamedTuple):
 
 
 def segments_of(path: str) -> List[Segment]:
-    """The loaded parts of an ELF file; none if it isn't one, or can't be read."""
+    """The loaded parts of a program's file; none if it is no ELF file, or can't be read."""
     try:
         with open(path, 'rb') as file:
             return read_segments(file)
@@ -37,7 +37,8 @@ def segments_of(path: str) -> List[Segment]:
 
 
 def read_segments(file: BinaryIO) -> List[Segment]:
-    """The loaded parts that the headers of an ELF file list."""
+    """The loaded parts that the headers of an ELF file list; none of one with the most significant
+    byte first. struct.error if it is cut."""
     head = file.read(64)
     if head[:4] != b'\x7fELF' or head[5] != 1:
         return []
@@ -60,7 +61,8 @@ def read_segments(file: BinaryIO) -> List[Segment]:
 
 
 def address_of(offset: int, segments: Iterable[Segment]) -> int:
-    """The address, in a program's own address space, of the byte at an offset of its file."""
+    """The address, in a program's own address space, of the byte at an offset of its file: the
+    offset itself if no segment has it."""
     for segment in segments:
         if segment.offset <= offset < segment.offset + segment.size:
             return offset - segment.offset + segment.address
@@ -68,8 +70,8 @@ def address_of(offset: int, segments: Iterable[Segment]) -> int:
 
 
 def source_frames(addresses: Iterable[Address]) -> Dict[Address, List[Frame]]:
-    """The functions at each address, the innermost first: more than one if some are inlined. None
-    without addr2line, or if a program has no debugging information."""
+    """The functions at each address, the innermost first: more than one if some are inlined. An
+    address of a program without debugging information is left out; all are without addr2line."""
     tool = shutil.which('addr2line')
     by_file: Dict[str, List[int]] = {}
     for path, offset in dict.fromkeys(addresses) if tool else []:
@@ -83,8 +85,8 @@ def source_frames(addresses: Iterable[Address]) -> Dict[Address, List[Frame]]:
 
 
 def run_addr2line(tool: str, path: str, offsets: List[int]) -> List[List[Frame]]:
-    """What addr2line prints for offsets of a file. Each is where a call returns to: the call is
-    before it."""
+    """The frames of each offset of a program's file, in their order. An offset is where a call
+    returns to, so addr2line is asked for the byte before it."""
     segments = segments_of(path)
     asked = ''.join(f'{address_of(offset, segments) - 1:#x}\n' for offset in offsets)
     ran = subprocess.run(
@@ -106,7 +108,8 @@ def run_addr2line(tool: str, path: str, offsets: List[int]) -> List[List[Frame]]
 
 
 def frames_of(lines: List[str]) -> List[Frame]:
-    """Pairs of lines as frames, without those that have no source line."""
+    """What addr2line prints for one address, a function and a place in turn, as frames; those
+    without a source line are left out."""
     pairs = zip(lines[::2], lines[1::2])
     return [
         Frame(function, place.partition(' ')[0])

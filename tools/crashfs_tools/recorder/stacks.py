@@ -38,7 +38,7 @@ SHOWN = 3
 
 
 def environment_with_hook(before: Dict[str, str]) -> Dict[str, str]:
-    """The environment with the hook, which Python programs load by themselves."""
+    """An environment with the hook, which each Python program loads as it starts."""
     paths = [HOOK, *filter(None, [before.get('PYTHONPATH')])]
     return {**before, 'PYTHONPATH': os.pathsep.join(paths)}
 
@@ -63,19 +63,19 @@ def note_calls(calls: List[Call]) -> List[str]:
     for call in calls:
         if call.name in ('execve', 'execveat') and call.result == 0:
             python.pop(call.process, None)
-        mark = mark_of(call)
+        mark = marked_line(call)
         if mark is not None:
             python[call.process] = mark
-        call.note = python.get(call.process) or note_of(frames[id(call)], lines)
+        call.note = python.get(call.process) or stack_text(frames[id(call)], lines)
     programs = {frame.address[0] for own in frames.values() for frame in own}
     return sorted(programs - {path for path, _ in lines})
 
 
-def mark_of(call: Call) -> Optional[str]:
-    """The line that the hook named, or None for any other call."""
+def marked_line(call: Call) -> Optional[str]:
+    """The source line that the hook passed by a call of `access`; None for any other call."""
     if call.name not in MARKS:
         return None
-    path = arguments.path(call.word(0 if call.name == 'access' else 1))
+    path = arguments.path_of_text(call.argument(0 if call.name == 'access' else 1))
     is_mark = path is not None and path.startswith(PREFIX)
     return path[len(PREFIX) :] if is_mark and path is not None else None
 
@@ -88,7 +88,8 @@ class ShownFrame(NamedTuple):
 
 
 def program_frames(frames: List[str]) -> List[ShownFrame]:
-    """The frames that are not the system libraries', the innermost first."""
+    """The frames of a call, as strace prints them, that are in no system library; the innermost
+    first."""
     found = []
     for frame in frames:
         match = FRAME.match(frame)
@@ -98,28 +99,29 @@ def program_frames(frames: List[str]) -> List[ShownFrame]:
     return found
 
 
-def note_of(frames: List[ShownFrame], lines: Dict[Address, List[Frame]]) -> str:
-    """The innermost functions of the program's own, each with its source line if that is known."""
+def stack_text(frames: List[ShownFrame], lines: Dict[Address, List[Frame]]) -> str:
+    """The note of a call: the innermost functions of the program's own, SHOWN at most, each with
+    its source line if that is known."""
     texts: List[str] = []
     for frame in frames:
         if frame.address in lines:
             texts += [
                 f'{os.path.basename(one.place)} {one.function}'
                 for one in lines[frame.address]
-                if is_own(one.function) and not LIBRARY_SOURCE.search(one.place)
+                if is_program_function(one.function) and not LIBRARY_SOURCE.search(one.place)
             ]
-        elif is_own(frame.function):
+        elif is_program_function(frame.function):
             name = os.path.basename(frame.address[0])
             function = frame.function
             texts.append(f'{function} ({name})' if function else f'{name}+{frame.address[1]:#x}')
     return ' < '.join(texts[:SHOWN])
 
 
-def is_own(function: str) -> bool:
+def is_program_function(function: str) -> bool:
     """Whether a function is the program's own, and not of its language's library or runtime."""
     return function not in STARTS and not RUNTIME.match(function)
 
 
-def missing_addr2line() -> str:
+def addr2line_hint() -> str:
     """The likely reason why no source line is known: that there is no addr2line."""
     return ' (addr2line is not there)' if shutil.which('addr2line') is None else ''

@@ -21,7 +21,7 @@ class Stop(Enum):
     RESUMED = 'the thread runs again'
 
 
-def group_of(thread: int) -> Optional[int]:
+def process_of_thread(thread: int) -> Optional[int]:
     """The process of a thread, or None if it has ended."""
     try:
         with open(f'/proc/{thread}/status', encoding='ascii', errors='replace') as lines:
@@ -48,7 +48,8 @@ def is_stopped(thread: int) -> bool:
 
 
 def wait_until_stopped(thread: int, process: int) -> Stop:
-    """Waits until all threads of a process are stopped, up to a limit."""
+    """Waits until all threads of a process are stopped, for SECONDS at most, and returns how the
+    wait ended. `thread` is the one that was reported as stopped."""
     deadline = time.monotonic() + SECONDS
     while is_stopped(thread):
         if all(map(is_stopped, threads_of(process))):
@@ -59,10 +60,13 @@ def wait_until_stopped(thread: int, process: int) -> Stop:
     return Stop.RESUMED
 
 
-def inodes_mapped(process: int) -> Set[str]:
-    """The inodes of the files that a process has mapped, as /proc prints them."""
+def inodes_mapped(process: int) -> Optional[Set[str]]:
+    """The inodes of the files that a process has mapped, as /proc prints them; none if it has
+    ended. None if it may not be seen, as of one that made itself undumpable."""
     try:
         with open(f'/proc/{process}/maps', encoding='utf-8', errors='replace') as lines:
             return {line.split()[4] for line in lines}
+    except PermissionError:
+        return None
     except OSError:
         return set()

@@ -7,7 +7,7 @@ from dataclasses import dataclass, field
 from typing import Dict, Iterable, List, Optional, Set
 
 from . import arguments
-from .arguments import LogError
+from .arguments import Descriptor, LogError
 from .log_filter import LogFilter
 
 LINE = re.compile(r'^(\d+)\s+(\w+)\((.*)\)\s+= (0x[0-9a-f]+|-?\d+|\?)(.*)$', re.S)
@@ -32,27 +32,27 @@ SUPERSEDE = '+supersede'
 
 @dataclass
 class Call:
-    """A call that returned, or was cut by its thread's end. Lines count from 1; they order all
-    calls of all threads. made is the descriptor that a call gave."""
+    """A call that returned, or was cut by its thread's end (is_cut). It begins and ends at lines of
+    the log, from 1, which order all calls of all threads. made is its result as a descriptor."""
 
     process: int
     name: str
-    words: List[str]
+    arguments: List[str]
     result: int
-    made: arguments.Descriptor
+    made: Descriptor
     begin: int
     end: int
     is_cut: bool = False
     frames: List[str] = field(default_factory=list)
     note: str = ''
 
-    def word(self, place: int, default: str = '') -> str:
+    def argument(self, place: int, default: str = '') -> str:
         """An argument by its place, or the default if the call has fewer."""
-        return self.words[place] if place < len(self.words) else default
+        return self.arguments[place] if place < len(self.arguments) else default
 
-    def descriptor(self, place: int = 0) -> arguments.Descriptor:
-        """An argument that is a descriptor."""
-        return arguments.descriptor(self.word(place))
+    def descriptor(self, place: int = 0) -> Descriptor:
+        """The argument at a place as a descriptor, whose number is -1 if it can't be read."""
+        return arguments.descriptor(self.argument(place))
 
 
 @dataclass
@@ -72,12 +72,12 @@ class Log:
 
     @property
     def has_begun(self) -> bool:
-        """Whether the first process became the program that strace was to start."""
+        """Whether an exec succeeded: strace's first process became a program."""
         return any(call.name == 'execve' and call.result == 0 for call in self.calls)
 
 
 @dataclass
-class _Waiting:
+class InterruptedCall:
     """The beginning of a call that another line interrupted."""
 
     begin: int
@@ -89,10 +89,10 @@ class LogReader:
     """Reads a log line by line; a call that another thread's line cuts in two is put together.
     Lines that a filter finds needless are left out."""
 
-    def __init__(self, needed: Optional[LogFilter] = None) -> None:
+    def __init__(self, line_filter: Optional[LogFilter] = None) -> None:
         self.log = Log()
-        self.filter = needed
-        self.waiting: Dict[str, _Waiting] = {}
+        self.filter = line_filter
+        self.waiting: Dict[str, InterruptedCall] = {}
         self.processes: Set[int] = set()
         # The call whose frames are read; a signal has frames too.
         self.shown: Optional[Call] = None
@@ -107,14 +107,15 @@ class LogReader:
         return self.log
 
     def read_line(self, number: int, line: str) -> None:
-        """Reads the line with this number: a call, a part of one, a frame, or an event."""
+        """Reads the line with this number: a call, a part of one, a frame, or an event. LogError if
+        it isn't as strace writes it."""
         if self.filter is not None and self.filter.is_needless(line):
             self.shown = None
             return
         begun = BEGUN.match(line) if line.endswith(UNFINISHED) else None
         if begun:
             head = line[begun.end() : -len(UNFINISHED)]
-            self.waiting[begun[1]] = _Waiting(number, begun[2], head)
+            self.waiting[begun[1]] = InterruptedCall(number, begun[2], head)
             return
         begin = number
         resumed = RESUMED.match(line)
@@ -135,7 +136,7 @@ class LogReader:
             self.shown.frames.append(line[len(FRAME) :])
 
     def add_call(self, match: re.Match[str], begin: int, end: int) -> None:
-        """Adds a whole call, with the lines at which it began and ended."""
+        """Adds a whole call, by the match of LINE, with the lines at which it began and ended."""
         process, name, text, result, tail = match.groups()
         self.processes.add(int(process))
         if self.log.first is None:
@@ -148,9 +149,9 @@ class LogReader:
         self.shown = Call(
             process=int(process),
             name=name,
-            words=words_of(name, text),
+            arguments=arguments_of(name, text),
             result=number,
-            made=arguments.Descriptor(number, text_shown, bool(shown and shown[2])),
+            made=Descriptor(number, text_shown, bool(shown and shown[2])),
             begin=begin,
             end=end,
             is_cut=result == '?',
@@ -158,31 +159,34 @@ class LogReader:
         self.log.calls.append(self.shown)
 
     def add_event(self, number: int, line: str) -> None:
-        """Adds what a line that is no call says: that a process ended, or changed its number."""
+        """Adds what a line that is no call says: that a process ended, or changed its number. Of
+        other lines only the first that begins a call, and isn't whole, is noted."""
         self.shown = None
         ended, superseded = ENDED.match(line), SUPERSEDED.match(line)
         if ended:
             self.log.ended.append(int(ended[1]))
-            self.add_mark(number, int(ended[1]), EXIT, 0)
+            self.add_event_call(number, int(ended[1]), EXIT, 0)
         elif superseded:
-            self.add_mark(number, int(superseded[1]), SUPERSEDE, int(superseded[2]))
+            self.add_event_call(number, int(superseded[1]), SUPERSEDE, int(superseded[2]))
         elif self.log.cut is None and BEGUN.match(line):
             self.log.cut = number
 
-    def add_mark(self, number: int, process: int, name: str, result: int) -> None:
-        """Adds an event as a call without arguments."""
-        nothing = arguments.Descriptor(-1, None, False)
-        self.log.calls.append(Call(process, name, [], result, nothing, number, number))
+    def add_event_call(self, number: int, process: int, name: str, result: int) -> None:
+        """Adds an event as a call without arguments, EXIT or SUPERSEDE."""
+        nothing = Descriptor(-1, None, False)
+        event = Call(process, name, [], result, made=nothing, begin=number, end=number)
+        self.log.calls.append(event)
 
 
-def words_of(name: str, text: str) -> List[str]:
-    """A call's arguments; what it writes is packed."""
-    words = arguments.split(text)
+def arguments_of(name: str, text: str) -> List[str]:
+    """The arguments of a call, from the text between its brackets; what it writes is packed."""
+    words = arguments.split_arguments(text)
     if name in WRITES and len(words) > 1:
-        words[1] = arguments.packed(words[1])
+        words[1] = arguments.packed_word(words[1])
     return words
 
 
-def read_log(lines: Iterable[str], needed: Optional[LogFilter] = None) -> Log:
-    """Reads a whole log, without the lines that a filter finds needless."""
-    return LogReader(needed).read(lines)
+def read_log(lines: Iterable[str], line_filter: Optional[LogFilter] = None) -> Log:
+    """Reads a whole log, without the lines that a filter finds needless; LogError if a line isn't
+    as strace writes it."""
+    return LogReader(line_filter).read(lines)

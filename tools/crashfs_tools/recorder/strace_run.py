@@ -10,7 +10,8 @@ import signal
 import subprocess
 import sys
 import time
-from typing import List, Optional, Sequence
+from contextlib import nullcontext
+from typing import ContextManager, List, Optional, Sequence
 
 from crashfs_tools.common.command import Refused, standard_output
 from crashfs_tools.common.guard import Guard, stops_heard
@@ -33,7 +34,8 @@ IDLE_SECONDS = 0.5
 
 
 def find_strace() -> str:
-    """strace's path; Refused if it isn't there, or too old to print AT_FDCWD's path."""
+    """strace's path; Refused if it isn't there, or too old to print AT_FDCWD's path. A version that
+    can't be read is accepted: a log that isn't as it should be is refused later."""
     path = shutil.which('strace')
     if path is None:
         raise Refused('strace: command not found; it is in the package strace of most systems')
@@ -42,12 +44,13 @@ def find_strace() -> str:
     ).stdout
     version = re.search(r'version (\d+)\.(\d+)', version_text)
     if version and (int(version[1]), int(version[2])) < OLDEST:
-        raise Refused(f'strace is {version[1]}.{version[2]}; 5.18 or later is needed')
+        oldest = '.'.join(map(str, OLDEST))
+        raise Refused(f'strace is {version[1]}.{version[2]}; {oldest} or later is needed')
     return path
 
 
-def command_line(strace: str, log: str, options: RecordOptions) -> List[str]:
-    """The command line of strace, with COMMAND."""
+def strace_command(strace: str, log: str, options: RecordOptions) -> List[str]:
+    """The words that start strace, which writes to the file `log`, and COMMAND under it."""
     sockets = [] if set(options.acknowledged) <= {'1', '2'} else SOCKET_HANDLERS
     marks = stacks.MARKS if options.stacks else ()
     traced = dict.fromkeys([*FORKS, *HANDLERS, *sockets, *marks])
@@ -87,12 +90,13 @@ class StraceRun:
         self.line, self.options, self.stream, self.guard = line, options, stream, guard
         self.stops: List[int] = []
         self.first_stop = 0.0
-        self.wanted: Optional[int] = None
+        self.signal_to_send: Optional[int] = None
         self.output: Optional[str] = None
         self.strace = 0
 
     def run(self) -> int:
-        """Runs to the end, passes standard output on, and returns COMMAND's status.
+        """Runs COMMAND to its end, copies its standard output to that of the recorder, and returns
+        its status as Popen has it.
 
         Its standard output is a pipe: a program that writes by stdio has to flush its lines.
         """
@@ -112,13 +116,19 @@ class StraceRun:
             assert child.stdout is not None
             self.output = f'pipe:[{os.fstat(child.stdout.fileno()).st_ino}]'
             self.stream.start()
-            with CallProgress(NAME, lambda: len(self.stream.reader.log.calls)):
+            with self.progress():
                 self.pass_output(child, child.stdout.fileno())
                 return self.status_of(child)
         finally:
             signal.set_wakeup_fd(-1)
             for number, handler in before.items():
                 signal.signal(number, handler)
+
+    def progress(self) -> ContextManager[object]:
+        """A context for the time while COMMAND runs: on a terminal, lines on its progress."""
+        if not sys.stderr.isatty():
+            return nullcontext()
+        return CallProgress(NAME, lambda: len(self.stream.reader.log.calls))
 
     def pass_output(self, child: subprocess.Popen[bytes], source: int) -> None:
         """Copies a pipe to standard output until it ends, or until strace has: a process that
@@ -128,7 +138,7 @@ class StraceRun:
         waiting, wake = os.pipe2(os.O_NONBLOCK | os.O_CLOEXEC)
         signal.set_wakeup_fd(wake, warn_on_full_buffer=False)
         while True:
-            seconds = IDLE_SECONDS if self.wanted is None else 0.1
+            seconds = IDLE_SECONDS if self.signal_to_send is None else 0.1
             ready = select.select([source, waiting], [], [], seconds)[0]
             if waiting in ready:
                 os.read(waiting, 64)
@@ -143,7 +153,7 @@ class StraceRun:
         os.close(wake)
 
     def status_of(self, child: subprocess.Popen[bytes]) -> int:
-        """COMMAND's status, when it has ended; until then signals are passed on."""
+        """Waits for COMMAND's end, passes signals on until then, and returns its status."""
         while True:
             try:
                 return child.wait(0.2)
@@ -151,28 +161,33 @@ class StraceRun:
                 self.send_noted_signal()
 
     def note_stop(self, number: int, _: object) -> None:
-        """Notes a signal. The first one is passed to COMMAND, unless the terminal sent it there."""
+        """The handler of a signal: notes it. The first one is passed to COMMAND, unless the
+        terminal sent it there too."""
         if self.stops and time.monotonic() < self.first_stop + SAME_STOP:
             return
         self.stops.append(number)
         if len(self.stops) > 1:
-            self.wanted = signal.SIGKILL
+            self.signal_to_send = signal.SIGKILL
             return
         self.first_stop = time.monotonic()
         if number != signal.SIGINT or not is_on_terminal():
-            self.wanted = number
+            self.signal_to_send = number
 
     def send_noted_signal(self) -> None:
         """Sends COMMAND the signal that was noted, as soon as it has begun. A kill is repeated,
         since a process may have just forked."""
-        if self.wanted is not None and self.guard.send_signal(self.wanted, spared=self.strace):
-            self.wanted = self.wanted if self.wanted == signal.SIGKILL else None
+        if self.signal_to_send is not None and self.guard.send_signal(
+            self.signal_to_send, spared=self.strace
+        ):
+            self.signal_to_send = (
+                self.signal_to_send if self.signal_to_send == signal.SIGKILL else None
+            )
 
 
 def inherited_descriptors(acknowledged: Sequence[str]) -> List[int]:
     """The descriptors that acknowledge something and that COMMAND inherits. Those that the recorder
     has opened itself aren't inherited."""
-    numbers = [int(number) for number in acknowledged if number.isdigit() and int(number) > 2]
+    numbers = [int(number) for number in acknowledged if number.isdecimal() and int(number) > 2]
     return [number for number in numbers if is_inherited(number)]
 
 
@@ -185,7 +200,7 @@ def is_inherited(number: int) -> bool:
 
 
 def is_on_terminal() -> bool:
-    """Whether Ctrl-C goes to all processes of this group."""
+    """Whether Ctrl-C on the terminal reaches COMMAND by itself, since this group is in front."""
     try:
         return os.tcgetpgrp(0) == os.getpgrp()
     except OSError:

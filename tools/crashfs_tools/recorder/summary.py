@@ -3,25 +3,27 @@
 from __future__ import annotations
 
 import os
+import tempfile
+from contextlib import contextmanager
 from dataclasses import dataclass, field
-from typing import Dict, List, Optional, Tuple
+from typing import Dict, Iterator, List, Optional, Tuple
 
-from crashfs_tools.common.command import ending_text, relative_arguments
+from crashfs_tools.common.command import TEXT, ending_text, relative_arguments
 from crashfs_tools.common.limits import MICRO_OPERATIONS
-from crashfs_tools.common.program import Crashfs, ProgramFault, is_too_large
+from crashfs_tools.common.printable import count_text
+from crashfs_tools.common.program import Crashfs, ProgramFault, is_plan_too_large
 from crashfs_tools.common.trace import Say, Trace
-from crashfs_tools.reading import ReadingFault, count_states
 
 from .comparison import (
     ByProgram,
     LastState,
     Replayed,
-    differences,
-    left_out_at_the_end,
-    links_that_differ,
-    notes_on,
+    lines_on_differences,
+    lines_on_new_left_out,
+    lines_on_links,
+    lines_on_attributes,
 )
-from .directory import NEWEST, Scan, scan
+from .directory import NEWEST, Scan, scan_directory
 from .options import RecordOptions
 from .output_streams import ERRORS, OutputStream
 from .recording import Recording
@@ -48,20 +50,21 @@ class FinalReport:
 def final_report(
     recording: Recording, options: RecordOptions, ending: Optional[str]
 ) -> FinalReport:
-    """What the trace doesn't have, without the result of the comparison."""
+    """What the trace doesn't have, and how COMMAND failed: `ending`, or None. compare_directory()
+    adds differences later."""
     found = FinalReport()
-    troubles = recording.troubles.all_found()
+    troubles = list(recording.troubles)
     found.lines = [f'not in the trace: {trouble}' for trouble in troubles if not trouble.is_note]
-    found.notes = [f'not in the trace: {line}' for line in noted_lines(troubles)]
+    found.notes = [f'not in the trace: {line}' for line in lines_of_notes(troubles)]
     if ending is not None:
-        found.lines += ['COMMAND ' + ending, *relative_hints(options)]
+        found.lines += ['COMMAND ' + ending, *relative_path_hints(options)]
     if not options.no_say:
         found.lines += acknowledgement_faults(recording)
     return found
 
 
-def operations_without_note(trace: Trace) -> List[str]:
-    """How many operations --stacks found no function for, if there are some."""
+def lines_on_missing_notes(trace: Trace) -> List[str]:
+    """A line on the operations for which --stacks found no function; none if there are no such."""
     missing = len(trace.operations) - len(trace.notes)
     if not missing:
         return []
@@ -72,8 +75,9 @@ def operations_without_note(trace: Trace) -> List[str]:
     ]
 
 
-def relative_hints(options: RecordOptions) -> List[str]:
-    """The likely cause if COMMAND failed: an argument that names a file elsewhere."""
+def relative_path_hints(options: RecordOptions) -> List[str]:
+    """A line for each of COMMAND's arguments that names a file here by a relative path: the likely
+    cause of its failure, as COMMAND runs in the directory."""
     return [
         f'{word} is a relative path, but COMMAND runs in {options.directory}: use '
         f'{os.path.abspath(word)}'
@@ -82,8 +86,8 @@ def relative_hints(options: RecordOptions) -> List[str]:
     ]
 
 
-def noted_lines(troubles: List[Trouble]) -> List[str]:
-    """What is only noted, each thing once with its first path."""
+def lines_of_notes(troubles: List[Trouble]) -> List[str]:
+    """A line for each thing that is only noted, with its first path and how many more there are."""
     by_what: Dict[str, List[Trouble]] = {}
     for trouble in troubles:
         if trouble.is_note:
@@ -96,7 +100,8 @@ def noted_lines(troubles: List[Trouble]) -> List[str]:
 
 
 def acknowledgement_faults(recording: Recording) -> List[str]:
-    """Why no loss can be seen: nothing was acknowledged, or all at once."""
+    """A line on why no loss can be seen: nothing was acknowledged, or all at once, or a line was
+    held; none if nothing is wrong."""
     streams = list(recording.streams.all_streams())
     counted_ones = [stream for stream in streams if stream.is_acknowledged and stream.lines]
     lines = sum(stream.lines for stream in counted_ones)
@@ -120,9 +125,9 @@ def acknowledgement_faults(recording: Recording) -> List[str]:
 
 
 def held_line_faults(stream: OutputStream) -> List[str]:
-    """A sentence if a line was begun long before it was complete, as it may have acknowledged
-    something meanwhile. One change between two writes of a line is usual: a program prints what it
-    does, and then that it is done."""
+    """A line if one of the stream's was begun long before it was complete, as it may have
+    acknowledged something meanwhile; else none. One change between two writes of a line is usual:
+    a program prints what it does, and then that it is done."""
     if stream.is_held:
         what = 'its last text has no line feed, so it counts from the end'
     elif stream.most_gaps > 1:
@@ -138,25 +143,25 @@ def held_line_faults(stream: OutputStream) -> List[str]:
 def compare_directory(
     options: RecordOptions, recording: Recording, before: Scan, found: FinalReport
 ) -> str:
-    """Compares the directory with the trace's last state, adds to `found` what differs, and returns
-    the result in words."""
+    """Compares the directory with the trace's last state, adds a line to `found` for each
+    difference, and returns in words how it was compared."""
     try:
-        now = scan(options.directory, options.ignored, options.version or NEWEST)
+        now = scan_directory(options.directory, options.ignored, options.version or NEWEST)
     except OSError as error:
         found.lines.append(f'{error.filename}: {error.strerror}: {NOT_COMPARED}')
         return NOT_COMPARED
     reported = recording.troubles.reported_paths() | recording.differing
-    for last in last_states(options, recording):
+    for last in ways_to_last_state(options, recording):
         try:
             entries = last.entries(options.out)
         except ProgramFault:
             continue
         different = (
-            differences(now, entries, reported | {path for path, _ in now.left_out})
-            + left_out_at_the_end(before, now, reported)
-            + links_that_differ(now, recording.tree, reported)
+            lines_on_differences(now, entries, reported | {path for path, _ in now.left_out})
+            + lines_on_new_left_out(before, now, reported)
+            + lines_on_links(now, recording.tree, reported)
         )
-        found.notes += notes_on(before, now, recording.troubles.all_found())
+        found.notes += lines_on_attributes(before, now, list(recording.troubles))
         verdict = 'differs from' if different else 'equals'
         but = ', except for what is reported' if reported and not different else ''
         found.lines += different
@@ -164,7 +169,7 @@ def compare_directory(
     return NOT_COMPARED
 
 
-def last_states(options: RecordOptions, recording: Recording) -> List[LastState]:
+def ways_to_last_state(options: RecordOptions, recording: Recording) -> List[LastState]:
     """The ways to compute the last state: the program, if it can read the trace, then a replay."""
     if not os.path.isfile(options.out):
         return [Replayed(recording.trace.lines())]
@@ -177,13 +182,8 @@ def needs_windows(recording: Recording) -> bool:
     return recording.tree.micro_operations > MICRO_OPERATIONS
 
 
-def trace_text(recording: Recording) -> str:
-    """The whole trace, as it is written."""
-    return ''.join(line + '\n' for line in recording.trace.lines())
-
-
-def last_line(options: RecordOptions, recording: Recording, how: str) -> str:
-    """The last line: what the trace has."""
+def summary_line(options: RecordOptions, recording: Recording, how: str) -> str:
+    """The last line that is printed: what the trace has, and how it was compared."""
     trace = recording.trace
     counts = [
         count_text(len(trace.start), 'start line'),
@@ -210,25 +210,32 @@ def states_text(options: RecordOptions, recording: Recording) -> str:
     """How many states the check has, by the program or else by the second reading."""
     if needs_windows(recording):
         return IN_WINDOWS
-    program = Crashfs.find(options.crashfs)
-    if program is not None and os.path.isfile(options.out):
-        try:
-            return count_text(program.count_states(options.out), 'state')
-        except ProgramFault as fault:
-            if is_too_large(fault):
-                return IN_WINDOWS
-    try:
-        return count_text(count_states(trace_text(recording)), 'state')
-    except ReadingFault as fault:
-        return IN_WINDOWS if is_too_large(fault) else f'no states ({fault})'
+    found = f'no states ({options.out} is no file)'
+    with trace_file(options.out, recording.trace) as path:
+        for program in (Crashfs.find(options.crashfs), Crashfs.second_reading()):
+            try:
+                if program is not None:
+                    return count_text(program.count_states(path), 'state')
+            except ProgramFault as fault:
+                found = IN_WINDOWS if is_plan_too_large(fault) else f'no states ({fault})'
+    return found
 
 
-def count_text(count: int, what: str) -> str:
-    """A number with what it counts, as `1 state` or `2 states`."""
-    return f'{count:,} {what}' + ('' if count == 1 else 's')
+@contextmanager
+def trace_file(out: str, trace: Trace) -> Iterator[str]:
+    """The path of a file that has the trace: OUT itself, or a temporary one if OUT is no file, such
+    as standard output."""
+    if os.path.isfile(out):
+        yield out
+        return
+    with tempfile.NamedTemporaryFile('w', suffix='.trace', **TEXT) as file:
+        file.writelines(line + '\n' for line in trace.lines())
+        file.flush()
+        yield file.name
 
 
-def ending_of(status: int, stops: Tuple[int, ...]) -> Optional[str]:
-    """How COMMAND failed, or None; a signal that was passed to it is no failure."""
+def failure_of_command(status: int, stops: Tuple[int, ...]) -> Optional[str]:
+    """How COMMAND failed, from its status; None if it didn't. A signal of `stops`, which were
+    passed to it, is no failure, also as a shell has it: 128 more."""
     passed = [-number for number in stops] + [128 + number for number in stops]
     return None if status == 0 or status in passed else ending_text(status)

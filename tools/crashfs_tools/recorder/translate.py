@@ -68,35 +68,38 @@ class Translator:
         self.add_rest()
 
     def translate_calls(self) -> None:
-        """Translates all calls in the order of their operations."""
+        """Translates all calls in the order of their operations. LogError, with the line's number,
+        if an argument isn't as strace writes it."""
         if SOCKETS in self.recording.streams.acknowledged:
             self.recording.streams.with_lines = connections_with_lines(self.log.calls)
-        ordered = call_order.in_order(self.log.calls)
-        self.stores = mapped_stores.copies_by_call(
-            self.log.calls, [call for _, call in ordered], self.copies
-        )
+        ordered = call_order.calls_in_order(self.log.calls)
+        if self.copies.taken:
+            self.stores = mapped_stores.copies_by_call(
+                self.log.calls, [call for _, call in ordered], self.copies
+            )
         for line, call in ordered:
             self.files.add_ended_syncs(line)
             self.recording.call = call
             self.translate_call(call)
             # The trace has its bytes now.
-            call.words = [] if call.name in WRITES else call.words
+            call.arguments = [] if call.name in WRITES else call.arguments
         self.files.add_ended_syncs(None)
 
     def add_rest(self) -> None:
-        """Adds what comes after the last call: unfinished lines of output, the last copies."""
+        """Adds what comes after the last call: unfinished lines of output, what the last copies
+        show, and reports on names and mappings that the trace lacks."""
         self.recording.end_streams()
         for copy in self.copies.taken:
             if copy.process == 0:
                 self.add_stores(copy, None, False)
         for path in self.copies.missed:
-            self.files.report('mapped, and it could not be opened to be followed', path)
-        self.report_links()
+            self.files.recording.report('mapped, and it could not be opened to be followed', path)
+        self.report_untraced_names()
 
     def translate_call(self, call: Call) -> None:
-        """Translates a call: one that returned, that failed, that was cut, or an event."""
-        is_mark = call.name in (EXIT, SUPERSEDE)
-        if not is_mark and not call.is_cut and call.result >= 0:
+        """Translates a call: one that returned, one that failed or was cut, or an event."""
+        is_event = call.name in (EXIT, SUPERSEDE)
+        if not is_event and not call.is_cut and call.result >= 0:
             self.translate_returned(call)
             return
         # The program was stopped and copied from after a call that failed, too.
@@ -105,11 +108,11 @@ class Translator:
         if call.name == EXIT:
             self.files.processes.pop(call.process, None)
         elif call.name == SUPERSEDE:
-            self.take_number(call)
+            self.renumber_thread(call)
         elif call.is_cut:
-            self.report_cut(call)
+            self.report_cut_change(call)
 
-    def report_cut(self, call: Call) -> None:
+    def report_cut_change(self, call: Call) -> None:
         """Reports a change that its thread's end cut: the log doesn't show whether it was made."""
         if not call_order.is_change(call):
             return
@@ -119,7 +122,7 @@ class Translator:
         below = self.files.relative_path(path) if path else None
         where = stream.name if stream else below
         if where is not None:
-            self.files.report(
+            self.files.recording.report(
                 f'{call.name} was cut by the end of its thread: whether it was '
                 'done is not in the log',
                 where,
@@ -129,7 +132,7 @@ class Translator:
         """Translates a call that returned, with what was stored before it and at once after it."""
         process = self.process_of(call.process, call.end)
         handler = HANDLERS.get(call.name) or SOCKET_HANDLERS.get(call.name)
-        own = self.changed_file(process, call)
+        own = self.changed_file(process, call) if self.stores else None
         # What was stored before the call is before it; but a copy of the file that the
         # call itself changed has that change in it already.
         for copy in self.stores.get(id(call), []):
@@ -137,12 +140,13 @@ class Translator:
         if handler is not None:
             handler(self.files, process, call)
         if call.begin in self.copies.numbers:
-            self.add_mapped(process, call, self.copies.numbers[call.begin])
+            self.note_mapped_file(process, call, self.copies.numbers[call.begin])
         for copy in self.stores.get(id(call), []):
             self.add_stores(copy, own, True)
 
-    def add_mapped(self, process: Process, call: Call, number: int) -> None:
-        """A call mapped a file: what was stored to it at once is after the call."""
+    def note_mapped_file(self, process: Process, call: Call, number: int) -> None:
+        """Notes the file that a call mapped, by the number of its copies. What these showed of it
+        before is stored after the call."""
         file = process.descriptors.files.get(call.descriptor(4).number)
         if file is None or file.node is None:
             return
@@ -151,7 +155,7 @@ class Translator:
             mapped_stores.add_stores(self.files, file.node, self.early.pop(number), False)
 
     def changed_file(self, process: Process, call: Call) -> Optional[Node]:
-        """The file whose bytes a call changes."""
+        """The file whose bytes a call changes; None for any other call."""
         if call.name in ('truncate', 'truncate64'):
             return self.files.node_argument(process, call, 0)
         if call.name not in call_order.DATA_CHANGES:
@@ -161,27 +165,29 @@ class Translator:
         return file.node if file else None
 
     def add_stores(self, copy: FileCopy, own: Optional[Node], is_own: bool) -> None:
-        """Adds what a copy shows of the call's own file, or of all others."""
+        """Adds what a copy shows: if is_own, of the file `own`, which the call itself changes; else
+        of all other files."""
         for number, data in copy.files.items():
             node = self.mapped.get(number)
-            if self.is_outdated(copy, number):
+            if not self.take_as_newest(copy, number):
                 continue
             if node is None:
                 self.early[number] = data
             elif (node is own) == is_own:
                 mapped_stores.add_stores(self.files, node, data, copy.is_sure(number))
 
-    def is_outdated(self, copy: FileCopy, number: int) -> bool:
-        """Whether a newer copy of the file is in the trace already."""
+    def take_as_newest(self, copy: FileCopy, number: int) -> bool:
+        """Makes a copy the newest one of a file, unless a newer one may be in the trace already:
+        then it returns False."""
         newest = self.newest.setdefault(number, copy)
         if self.places[id(newest)] > self.places[id(copy)]:
-            return True
+            return False
         self.newest[number] = copy
-        return False
+        return True
 
     def process_of(self, number: int, moment: int) -> Process:
-        """The process with this number, which calls at this line. A child may call before its
-        parent's fork has returned."""
+        """The process with this number, which calls at the line `moment`. It is made if it is new:
+        a child may call before its parent's fork has returned."""
         known = self.files.processes
         if number not in known:
             if number == self.log.first:
@@ -194,19 +200,21 @@ class Translator:
         """A process that hasn't called yet, as the newest fork before this line made it."""
         forks = [fork for fork in self.parents.get(number, []) if fork.begin <= moment]
         if not forks:
-            self.files.report('a process whose parent is not in the log', '/')
+            self.files.recording.report('a process whose parent is not in the log', '/')
             conditions = self.files.conditions
             return Process(Descriptors(), PathContext(conditions.top, conditions.umask))
         return self.process_of(forks[-1].process, moment).forked_child(forks[-1])
 
-    def take_number(self, call: Call) -> None:
-        """Gives a thread that calls exec the number of its process, as the system does."""
+    def renumber_thread(self, call: Call) -> None:
+        """Gives the thread that called exec the number of its process, as the system does."""
         known = self.files.processes
         if call.result in known:
             known[call.process] = known.pop(call.result)
 
-    def report_links(self) -> None:
-        """Reports the other names of files that the trace lacks."""
+    def report_untraced_names(self) -> None:
+        """Reports the names that the trace lacks of files that it has by another name."""
         for node in set(self.files.tree.nodes.values()):
             for name in sorted(node.names - node.traced_paths) if node.traced_paths else []:
-                self.files.report(f'stays another name of {node.traced_path}, by a link', name)
+                self.files.recording.report(
+                    f'stays another name of {node.traced_path}, by a link', name
+                )

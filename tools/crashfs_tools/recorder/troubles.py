@@ -3,7 +3,7 @@
 from __future__ import annotations
 
 from dataclasses import dataclass, field
-from typing import Dict, List, Optional, Set, Tuple
+from typing import Dict, Iterator, List, Optional, Set, Tuple
 
 
 @dataclass
@@ -17,6 +17,7 @@ class Trouble:
     lines: List[int] = field(default_factory=list)
 
     def __str__(self) -> str:
+        """The trouble in words, as `/f: a symbolic link was made (after line 7, 2 times)`."""
         times = f', {len(self.lines)} times' if len(self.lines) > 1 else ''
         after = f' (after line {self.lines[0]}{times})' if self.lines else ''
         return f'{self.where}: {self.what}{after}'
@@ -26,23 +27,24 @@ class Trouble:
 class Troubles:
     """All troubles, each once, by what and where."""
 
-    found: Dict[Tuple[str, str], Trouble] = field(default_factory=dict)
+    known: Dict[Tuple[str, str], Trouble] = field(default_factory=dict)
 
     def add(self, what: str, where: str, line: Optional[int], is_note: bool) -> None:
-        """Adds a trouble, or a further line of one that is known."""
-        trouble = self.found.setdefault((what, where), Trouble(what, where, is_note))
+        """Adds a trouble after a line of the trace (None: after no line); of one that is known it
+        adds only the line."""
+        trouble = self.known.setdefault((what, where), Trouble(what, where, is_note))
         if line is not None:
             trouble.lines.append(line)
 
     def forget_lines(self) -> None:
-        """Forgets the lines: the trace begins again."""
-        for trouble in self.found.values():
+        """Forgets the lines of all troubles, since the trace begins again."""
+        for trouble in self:
             trouble.lines.clear()
 
     def reported_paths(self) -> Set[str]:
         """The paths of which something is reported that may make them differ at the end."""
-        return {trouble.where for trouble in self.found.values() if not trouble.is_note}
+        return {trouble.where for trouble in self if not trouble.is_note}
 
-    def all_found(self) -> List[Trouble]:
+    def __iter__(self) -> Iterator[Trouble]:
         """All troubles, in the order in which they came."""
-        return list(self.found.values())
+        return iter(self.known.values())

@@ -1,4 +1,4 @@
-"""Known failures: entries of a report that a project has accepted, until a day."""
+"""Accepted failures: entries of a report that a project knows and has accepted, until a day."""
 
 from __future__ import annotations
 
@@ -13,8 +13,8 @@ KEYS = ('cause', 'lost', 'kept', 'why', 'until')
 
 
 class AcceptedFailure(NamedTuple):
-    """An entry of a file of known failures: its cause, the lost and the kept operation or nothing,
-    why it is accepted, and the last day on which it is; None for always."""
+    """An entry of a file of accepted failures: its cause, the lost and the kept operation (an empty
+    text if there is none), why it is accepted, and the last day on which it is; None for always."""
 
     cause: str
     lost: str
@@ -29,19 +29,19 @@ class AcceptedFailure(NamedTuple):
 
     @property
     def fields(self) -> Dict[str, str]:
-        """What a file has of it."""
+        """What a file has of it, by its keys."""
         until = self.until.isoformat() if self.until else ''
         return {**self._asdict(), 'until': until}
 
     @property
     def name(self) -> str:
-        """The cause and the operations."""
+        """The cause and the two operations, as a report names an accepted failure."""
         operations = ', then '.join(filter(None, (self.lost, self.kept)))
         return f'{self.cause} ({operations})' if operations else self.cause
 
 
 class AcceptedFailures:
-    """The entries of a file."""
+    """The entries of a file of --accept; of entries with the same key the last one counts."""
 
     def __init__(self, path: str, entries: List[AcceptedFailure], today: datetime.date) -> None:
         self.path = path
@@ -50,7 +50,8 @@ class AcceptedFailures:
 
     @staticmethod
     def read(path: str) -> AcceptedFailures:
-        """Reads a file; Refused if it isn't one of known failures."""
+        """The entries of a file. Refused if it can't be read, or isn't a file of accepted
+        failures."""
         try:
             with open(path, encoding='utf-8') as file:
                 values = json.load(file)
@@ -63,22 +64,24 @@ class AcceptedFailures:
         entries = [entry_of(path, place, value) for place, value in enumerate(values, 1)]
         return AcceptedFailures(path, entries, datetime.date.today())
 
-    def of(self, failure: AcceptedFailure) -> Optional[AcceptedFailure]:
-        """The entry that a failure is, also if its day has passed."""
+    def entry_for(self, failure: AcceptedFailure) -> Optional[AcceptedFailure]:
+        """The entry with the same key as a failure, also if its last day has passed; None if there
+        is none."""
         return self.entries.get(failure.key)
 
     def is_over(self, entry: AcceptedFailure) -> bool:
         """Whether the last day of an entry has passed."""
         return entry.until is not None and self.today > entry.until
 
-    def not_among(self, failures: Iterable[AcceptedFailure]) -> List[AcceptedFailure]:
-        """The entries that none of the failures is."""
+    def entries_not_among(self, failures: Iterable[AcceptedFailure]) -> List[AcceptedFailure]:
+        """The entries whose key none of the failures has."""
         seen = {failure.key for failure in failures}
         return [entry for key, entry in self.entries.items() if key not in seen]
 
 
 def entry_of(path: str, place: int, value: Any) -> AcceptedFailure:
-    """An entry of a file, from its value; Refused if something is missing or unknown."""
+    """An entry of a file, by its place from 1, from its JSON; Refused if something is missing or
+    unknown."""
     where = f'--accept {path}: entry {place}'
     if not isinstance(value, dict) or not all(isinstance(text, str) for text in value.values()):
         raise Refused(f'{where} is no object of texts')
@@ -98,6 +101,8 @@ def entry_of(path: str, place: int, value: Any) -> AcceptedFailure:
 
 
 def date_of(where: str, text: str) -> Optional[datetime.date]:
+    """A date, or None for an empty text. Refused, with the place where it is, for any other
+    text."""
     try:
         return datetime.date.fromisoformat(text) if text else None
     except ValueError as error:
@@ -105,7 +110,7 @@ def date_of(where: str, text: str) -> Optional[datetime.date]:
 
 
 def operation_text(line: Optional[TraceLine]) -> str:
-    """A line without its details: `rename /new to /old`; nothing if there is none."""
+    """A line without its details: `rename /new to /old`; an empty text if there is no line."""
     if line is None:
         return ''
     target = f'to {line.target}' if line.target else ''

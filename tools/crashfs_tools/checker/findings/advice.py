@@ -7,7 +7,7 @@ from typing import Dict, List, Optional
 
 from crashfs_tools.common.trace_lines import TraceLine
 
-from .sync_points import Places, is_synced, sync_points
+from .sync_points import Places, end_of_path, is_synced, sync_points
 
 ATOMIC = 'write a new file, sync it, rename it, sync the directory'
 ONE_CHANGE = f'no sync helps: make these lines one change ({ATOMIC})'
@@ -20,8 +20,8 @@ NOT_REPRODUCIBLE = (
 @dataclass
 class Tried:
     """The result of trying an advice on a copy of the trace, in different states: how many of the
-    group's are left, of how many; how many others fail, and how many of these failed before. In
-    total, before and after are how many fail without the advice and with it."""
+    group's are left, of how many in total; how many others fail, and how many of these failed
+    before (still). before and after are how many fail without the advice and with it."""
 
     left: int
     total: int
@@ -31,6 +31,7 @@ class Tried:
     after: int = 0
 
     def __add__(self, other: Tried) -> Tried:
+        """The results for two groups of different windows that are one entry."""
         return Tried(
             self.left + other.left,
             self.total + other.total,
@@ -46,7 +47,7 @@ class Tried:
         return self.after < self.before
 
     def text(self, syncs: int) -> str:
-        """The result, for an advice of so many syncs."""
+        """The result as a sentence, for an advice of so many syncs that is right."""
         that = 'that sync' if syncs == 1 else f'those {syncs:,} syncs'
         these = 'this state' if self.total == 1 else f'these {self.total:,} states'
         line = f'tried: with {that} {self.left:,} of {these} are left'
@@ -62,8 +63,8 @@ class Tried:
             f'fail{"" if self.others > 1 else "s"}'
         )
 
-    def wrong_text(self, remedy: str) -> str:
-        """The result, for an advice that isn't right."""
+    def not_enough_text(self, remedy: str) -> str:
+        """The result as a sentence, for an advice after which no fewer states fail."""
         return (
             f'tried, and not enough alone: {remedy} ({self.after:,} '
             f'state{" fails" if self.after == 1 else "s fail"} then, {self.before:,} before)'
@@ -81,18 +82,20 @@ class Advice:
     tried: Optional[Tried] = None
 
     def lines(self) -> List[str]:
-        """The sentence, the remedy, and the result of trying it. What doesn't help is no remedy."""
+        """The sentence, the remedy, and the result of trying it, as a report has them. What doesn't
+        help is no remedy."""
         if self.tried is None:
             return self.text + ([self.remedy] if self.remedy else [])
         if not self.tried.is_right:
-            return [*self.text, self.tried.wrong_text(self.remedy)]
+            return [*self.text, self.tried.not_enough_text(self.remedy)]
         return [*self.text, self.remedy, self.tried.text(len(self.syncs))]
 
 
 def loss_advice(
     kept: TraceLine, lost: TraceLine, places: Places, lines: Dict[int, TraceLine]
 ) -> Advice:
-    """The advice for a line that was lost; places are all pairs of lines to keep in order."""
+    """The advice for a line that was lost; places are all pairs of lines to keep in order, and
+    lines those of the trace. There is none if no sync makes the line durable."""
     path = lost.synced_by
     sentence = f'line {lost.number} ({lost.text}) was not durable when {kept_text(kept)}'
     if path is None:
@@ -105,25 +108,20 @@ def loss_advice(
             target = f'the directory {path} is never synced: fsync it'
     more = len(syncs) - 1
     also = f' (and at {more:,} more place{"s" if more > 1 else ""})' if more > 0 else ''
-    where = 'between them' + before_rename(path, range(lost.number, kept.number), lines)
-    return Advice(before, f'{target} {where}{also}', syncs)
-
-
-def before_rename(path: str, between: range, lines: Dict[int, TraceLine]) -> str:
-    """Names the line that renames the file, if there is one: the sync belongs before it."""
-    found = (lines[number] for number in between if number in lines)
-    first = next((one for one in found if (one.word, one.path) == ('rename', path)), None)
-    return f', before line {first.number} ({first.text})' if first else ''
+    end = end_of_path(path, range(lost.number + 1, kept.number), lines)
+    where = f', before line {end.number} ({end.text})' if end else ''
+    return Advice(before, f'{target} between them{where}{also}', syncs)
 
 
 def kept_text(kept: TraceLine) -> str:
+    """The end of the sentence `line N was not durable when ..`."""
     if kept.word == 'say':
         return f'line {kept.number} acknowledged "{kept.details}"'
     return f'line {kept.number} ({kept.text}) was'
 
 
 def torn_advice(line: TraceLine, parts: str) -> Advice:
-    """The advice for a line of which a crash kept a part; parts says which."""
+    """The advice for a line of which a crash kept a part; parts says which, in words."""
     return Advice(
         [f'line {line.number} ({line.text}) was torn: a crash kept {parts}'],
         f'no sync helps: a record that recovery may drop needs a checksum; for all else, {ATOMIC}',
@@ -131,7 +129,8 @@ def torn_advice(line: TraceLine, parts: str) -> Advice:
 
 
 def span_advice(kept: Optional[TraceLine], lost: Optional[TraceLine]) -> Advice:
-    """The advice for states that lose nothing: they fail from one line on, until another."""
+    """The advice for states that lose nothing: they fail from the kept line on, or from the
+    beginning, until the one that is lost; to the end if there is none."""
     first = f'line {kept.number} ({kept.text})' if kept else 'the beginning'
     if lost is None:
         return Advice([f'from {first} on it fails, though nothing is lost'])

@@ -11,38 +11,44 @@ from crashfs_tools.checker.running.trials import Trials
 from crashfs_tools.checker.states.plan import Offsets, Plan, Planned, Trial
 from crashfs_tools.checker.states.planning import Planner
 from crashfs_tools.common.command import TEXT
-from crashfs_tools.common.trace_text import with_syncs
+from crashfs_tools.common.trace_lines import with_syncs
 
 from .advice import Tried
-from .equal_sets import equal_sets
+from .equal_sets import EqualSets
 from .groups import Findings, Group, Totals, Union
-from .swaps import add_swaps
 from .tree_diff import find_differences
 
 # So many entries have their advice tried, and so many may be removed by it: the largest.
 TRIED, COVERED = 5, 100
 
+# Syncs: each after the line of a number, with the path that is synced.
 Points = FrozenSet[Tuple[int, str]]
 
 
 class SyncedCopy(NamedTuple):
-    """A copy of the trace with some syncs: its plan, and the keys of its states if all crash states
-    are tried."""
+    """A copy of the trace with some syncs: its plan, and the keys of its states, which are empty if
+    not all crash states are tried."""
 
     planned: Planned
     keys: Set[object]
 
 
 def add_details(trials: Trials, planner: Planner, findings: Findings) -> None:
-    """Adds to the groups how files differ, and the results of their advice."""
+    """Adds to the findings how files differ, and tries the advice of the largest groups: their
+    syncs, and for groups that lose nothing another order."""
     find_differences(trials, findings)
-    add_swaps(trials, planner, findings)
+    spans = [group for group in findings.groups if group.is_swappable]
+    if spans:
+        from .swaps import add_swaps
+
+        add_swaps(trials, planner, findings, spans)
     AdviceTrials(trials, planner, findings).run()
 
 
 class AdviceTrials:
-    """Tries the advice of the largest groups, then all advised syncs at once. A set of
-    micro-operations that was tried before is not tried again."""
+    """Tries the advice of the largest groups, then all advised syncs at once. The planner makes the
+    plans of the copies. A copy has the same micro-operations as the trace, so that outcomes are
+    known by their sets; a set that was tried before is not tried again."""
 
     def __init__(self, trials: Trials, planner: Planner, findings: Findings) -> None:
         self.trials = trials
@@ -52,47 +58,53 @@ class AdviceTrials:
         self.known: Dict[int, Outcome] = {
             self.kept[state]: one for state, one in findings.by_state.items()
         }
-        self.before = count_failing(findings.plan, self.known)
-        # The copies have the same micro-operations.
-        self.equal = equal_sets(trials.planned, findings)
+        self.before = count_failing_sets(findings.plan, self.known)
         every = findings.plan.all_states
-        self.has_all = every is not None and every.are_listed
+        self.equal = EqualSets(trials.planned, findings) if every else None
+        # Only of all crash states it is known what each allowed set leaves.
+        has_all = every is not None and every.are_listed
+        self.equal_of_all = self.equal if has_all else None
 
     def run(self) -> None:
-        """Tries the groups' advice, largest group first; what that removes needs no advice."""
+        """Tries the groups' advice, the largest group first, and sets each group's result, and the
+        union of the findings. A group whose states other syncs remove is covered: its own are not
+        tried."""
         copies: List[SyncedCopy] = []
         tried = 0
         for group in self.findings.groups[:COVERED]:
             if group.advice.syncs:
                 group.is_covered = self.is_covered(group, copies)
                 if not group.is_covered:
-                    copy = self.copy(points_of([group]))
+                    copy = self.make_copy(points_of([group]))
                     copies.append(copy)
                     if tried < TRIED:
-                        group.advice.tried = self.tried(copy, group)
+                        group.advice.tried = self.result_of(copy, group)
                         tried += 1
-        self.findings.union = self.union()
+        self.findings.union = self.try_union()
 
     def is_covered(self, group: Group, copies: List[SyncedCopy]) -> bool:
-        """Whether the syncs of earlier groups leave no state of this one."""
-        left = {self.key(self.kept[state.number]): state for state in group.states}
+        """Whether for each state of a group some copy can't leave it."""
+        left = {self.state_key(self.kept[state.number]): state for state in group.states}
         return all(
-            any(not self.leaves(copy, self.kept[state.number]) for copy in copies)
+            any(not self.is_left_by(copy, self.kept[state.number]) for copy in copies)
             for state in left.values()
         )
 
-    def key(self, kept: int) -> object:
-        """Equal for sets that leave equal trees, if all crash states were tried."""
-        return self.equal.tree(kept) if self.equal is not None and self.has_all else kept
+    def state_key(self, kept: int) -> object:
+        """What a set leaves, in a form that is equal for equal states, if the tree of each allowed
+        set is known; else the set itself. is_left_by, make_copy and count_others compare by it."""
+        return kept if self.equal_of_all is None else self.equal_of_all.tree_and_says(kept)
 
-    def leaves(self, copy: SyncedCopy, kept: int) -> bool:
-        """Whether a crash of a copy leaves what a set leaves."""
-        if self.equal is not None and self.has_all:
-            return self.key(kept) in copy.keys
-        return copy.planned.plan.needs.allow(kept)
+    def is_left_by(self, copy: SyncedCopy, kept: int) -> bool:
+        """Whether a crash of a copy may leave what a set of the trace leaves: by the copy's keys,
+        or by its rules if it has no keys."""
+        if self.equal_of_all is not None:
+            return self.state_key(kept) in copy.keys
+        return copy.planned.plan.needs.is_allowed(kept)
 
-    def union(self) -> Union:
-        """Tries all advised syncs at once."""
+    def try_union(self) -> Union:
+        """Tries all advised syncs at once, and returns them with the result. Of a single group that
+        was tried already the result is known."""
         advised = [group for group in self.findings.groups if group.advice.syncs]
         points = points_of(advised)
         if not points:
@@ -100,96 +112,97 @@ class AdviceTrials:
         if len(advised) == 1 and advised[0].advice.tried is not None:
             tried = advised[0].advice.tried
             return Union(points, Totals(tried.before, tried.after))
-        planned = self.copy(points).planned
+        planned = self.make_copy(points).planned
         self.try_states(planned)
-        return Union(points, Totals(self.before, count_failing(planned.plan, self.known)))
+        return Union(points, Totals(self.before, count_failing_sets(planned.plan, self.known)))
 
-    def copy(self, points: Points) -> SyncedCopy:
-        """A copy of the trace that has these syncs."""
+    def make_copy(self, points: Points) -> SyncedCopy:
+        """Writes a copy of the trace that has these syncs, and plans it. All copies have the same
+        path: the file of the last copy is replaced, and only its plan stays. Refused if the program
+        refuses the copy."""
         planned = self.trials.planned
         with open(planned.trace, **TEXT) as file:
             text = file.read()
         own = [
             (line, path)
             for number, path in points
-            for line in planned.offsets.own_lines({number: path})
+            for line in planned.offsets.by_own_lines({number: path})
         ]
         path = os.path.join(self.trials.guard.directory, 'advice.trace')
         with open(path, 'w', **TEXT) as file:
             file.write(with_syncs(text, own))
         copy = self.planner.plan(path, Offsets(says=planned.offsets.says))
         plan = copy.plan
-        keys = {self.key(plan.kept[one.number]) for one in plan.states} if self.has_all else set()
+        keys = (
+            {self.state_key(plan.kept[one.number]) for one in plan.states}
+            if self.equal_of_all
+            else set()
+        )
         return SyncedCopy(copy, keys)
 
-    def tried(self, copy: SyncedCopy, group: Group) -> Tried:
-        """The result of a group's advice."""
+    def result_of(self, copy: SyncedCopy, group: Group) -> Tried:
+        """Tries the states of a copy, and returns what its syncs do for a group."""
         planned = copy.planned
         self.try_states(planned)
         left = {
-            Trial(state.same, state.says)
-            for state in group.states
-            if self.leaves(copy, self.kept[state.number])
+            state.trial for state in group.states if self.is_left_by(copy, self.kept[state.number])
         }
         others, still = self.count_others(planned.plan, group)
-        after = count_failing(planned.plan, self.known)
+        after = count_failing_sets(planned.plan, self.known)
         return Tried(len(left), group.count, others, still, self.before, after)
 
     def try_states(self, planned: Planned) -> None:
-        """Tries the states of a copy; known has the outcome of each set afterwards."""
-        copy = self.trials.with_plan(planned)
+        """Tries the states of a copy whose outcomes aren't known; afterwards `known` has the
+        outcome of each of its sets, but of those that a stop left untried."""
+        copy = Trials(self.trials.workplace, planned)
         plan = planned.plan
         found: Dict[Trial, Outcome] = {}
         for state in plan.states:
-            known = self.known_outcome(plan.kept[state.number])
+            known = self.outcome_of_set(plan.kept[state.number])
             if known is not None:
-                found[Trial(state.same, state.says)] = known
+                found[state.trial] = known
         trials = Results(plan).trials
         new = {number: trial for trial, number in trials.items() if trial not in found}
 
         def on_outcome(number: int, outcome: Outcome) -> None:
             found[new[number]] = outcome
 
-        copy.try_states(set(new), on_outcome)
+        copy.try_states([set(new)], on_outcome)
         for state in plan.states:
-            outcome = found.get(Trial(state.same, state.says))
+            outcome = found.get(state.trial)
             if outcome is not None:
                 self.known.setdefault(plan.kept[state.number], outcome)
 
-    def known_outcome(self, kept: int) -> Optional[Outcome]:
-        """The outcome of a set, if it or an equal one was tried."""
+    def outcome_of_set(self, kept: int) -> Optional[Outcome]:
+        """The outcome of a set; None if neither it nor an equal one was tried."""
         if kept not in self.known and self.equal is not None:
             return self.equal.outcome(kept)
         return self.known.get(kept)
 
     def count_others(self, plan: Plan, group: Group) -> Tuple[int, int]:
-        """How many different states of a copy fail that aren't the group's, and how many of them
-        failed before."""
-        mine = {self.key(self.kept[state.number]) for state in group.states}
-        before = {self.key(self.kept[state]) for state in self.findings.by_state}
+        """How many different states of a copy's plan fail that aren't the group's, and how many of
+        them failed before."""
+        mine = {self.state_key(self.kept[state.number]) for state in group.states}
+        before = {self.state_key(self.kept[state]) for state in self.findings.by_state}
         others: Dict[Trial, bool] = {}
         for state in plan.states:
-            kept, trial = plan.kept[state.number], Trial(state.same, state.says)
-            if fails(self.known, kept) and self.key(kept) not in mine:
-                others[trial] = others.get(trial, False) or self.key(kept) in before
+            kept, trial = plan.kept[state.number], state.trial
+            if is_failing(self.known, kept) and self.state_key(kept) not in mine:
+                others[trial] = others.get(trial, False) or self.state_key(kept) in before
         return len(others), sum(others.values())
 
 
 def points_of(groups: Iterable[Group]) -> Points:
+    """All syncs that some groups are advised."""
     return frozenset(point for group in groups for point in group.advice.syncs.items())
 
 
-def count_failing(plan: Plan, known: Dict[int, Outcome]) -> int:
-    """How many different states of a plan fail."""
-    return len(
-        {
-            Trial(state.same, state.says)
-            for state in plan.states
-            if fails(known, plan.kept[state.number])
-        }
-    )
+def count_failing_sets(plan: Plan, known: Dict[int, Outcome]) -> int:
+    """How many different states of a plan aren't good, by the outcomes of their sets."""
+    return len({state.trial for state in plan.states if is_failing(known, plan.kept[state.number])})
 
 
-def fails(known: Dict[int, Outcome], kept: int) -> bool:
+def is_failing(known: Dict[int, Outcome], kept: int) -> bool:
+    """Whether a set was tried and isn't good."""
     outcome = known.get(kept)
     return outcome is not None and outcome.result != GOOD

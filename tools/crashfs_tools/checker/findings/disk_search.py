@@ -49,28 +49,29 @@ class DiskTree:
 
 
 def sightings_of(trials: Trials, by_state: Dict[int, Outcome]) -> Sightings:
-    """Makes the session again on the file systems of --disks. Images are in memory if there is room
-    for them: a crash is then taken in a fraction of a second."""
+    """Makes the session again on the file systems of --disks, and returns what was seen; by_state
+    has the outcomes of the states by their numbers. Images are in memory if there is room for them:
+    a crash is then taken in a fraction of a second."""
     with open(trials.planned.trace, 'rb') as file:
         text = file.read()
     trace = read_trace(text.decode('utf-8', 'surrogateescape'))
     size = bytes_written(trace)
     filesystems = [with_room(one, size) for one in filesystems_of(trials.options.disks or [])]
-    room = IMAGES * processes(trials) * sum(one.size for one in filesystems)
-    with Guard('crashfs-disks-', MEMORY if has_room(MEMORY, room) else None) as guard:
-        search = Search(trials, by_state, text)
+    room = IMAGES * process_count(trials) * sum(one.size for one in filesystems)
+    with Guard('crashfs-disks', MEMORY if has_room(MEMORY, room) else None) as guard:
+        search = DiskSearch(trials, by_state, text)
         return search.run(
-            DiskPool(filesystems, trace, guard.directory), trials.workplace.progress.note
+            DiskPool(filesystems, trace, guard.directory), trials.workplace.progress.show_moments
         )
 
 
-def processes(trials: Trials) -> int:
-    """How many processes make disks: most of the time they wait for a mount."""
+def process_count(trials: Trials) -> int:
+    """How many processes make disks at once: most of the time they wait for a mount."""
     return DISKS_AT_ONCE * trials.options.jobs
 
 
 def has_room(folder: str, size: int) -> bool:
-    """Whether files of so many bytes can be made in a folder."""
+    """Whether the file system of a folder has room for so many bytes."""
     try:
         room = os.statvfs(folder)
     except OSError:
@@ -78,27 +79,30 @@ def has_room(folder: str, size: int) -> bool:
     return os.access(folder, os.W_OK) and room.f_bavail * room.f_frsize > size
 
 
-class Search:
-    """Makes the session again, and looks for each disk. by_state has the outcomes of states, trace
-    is the trace's text."""
+class DiskSearch:
+    """Makes the session again, and looks for the tree of each disk among the states. by_state has
+    the outcomes of states by their numbers, trace is the trace's text."""
 
     def __init__(self, trials: Trials, by_state: Dict[int, Outcome], trace: bytes) -> None:
         self.trials = trials
         self.by_state = by_state
         self.trace = trace
-        self.checker = trials.checker()
+        self.checker = trials.new_checker()
 
     def run(self, pool: DiskPool, on_step: Callable[[int, int], None]) -> Sightings:
-        disks = pool.disks(processes(self.trials), on_step)
+        """Makes the disks, and returns what was seen on them. on_step is called with the number of
+        moments that were tried, and that of all moments."""
+        disks = pool.disks(process_count(self.trials), on_step)
         found = Sightings(list(disks))
         for name, different in disks.items():
             found.crashes[name] = sum(len(one.crashes) for one in different)
             found.trees[name] = len(different)
-        self.judge(all_trees(disks), found)
+        self.add_outcomes(all_trees(disks), found)
         return found
 
-    def judge(self, trees: List[DiskTree], found: Sightings) -> None:
-        """Finds the outcome of each tree, and fills in what was seen of states and failures."""
+    def add_outcomes(self, trees: List[DiskTree], found: Sightings) -> None:
+        """Adds to `found`, for each tree, the states that have it, or runs COMMAND in one that no
+        tried state has, and adds the failures."""
         states = self.states_by_tree()
         failing: Dict[str, Set[str]] = {name: set() for name in found.names}
         unlisted: List[Tuple[DiskTree, Outcome]] = []
@@ -115,10 +119,10 @@ class Search:
                 for name in one.crashes:
                     failing[name].add(one.digest)
         found.failing = {name: len(digests) for name, digests in failing.items()}
-        found.further = explained(self.trace, unlisted)
+        found.further = failures_of(self.trace, unlisted)
 
     def states_by_tree(self) -> Dict[TreeAndCount, List[int]]:
-        """The listed states by what they leave."""
+        """The numbers of the listed states by what they leave."""
         planned = self.trials.planned
         digests: Dict[int, str] = {}
         firsts = {state.same for state in planned.plan.listed}
@@ -131,11 +135,13 @@ class Search:
         return found
 
     def known_outcome(self, numbers: Sequence[int]) -> Optional[Outcome]:
-        """The outcome of the first of some states that was tried; None if none was."""
+        """The outcome of the first of the states of some numbers that was tried; None if none
+        was."""
         return next((self.by_state[it] for it in numbers if it in self.by_state), None)
 
     def run_in(self, one: DiskTree) -> Outcome:
-        """Runs COMMAND in a tree that is no listed state: CRASHFS_STATE is a number past them."""
+        """Runs COMMAND in a tree that is no listed state, and returns its outcome; CRASHFS_STATE is
+        a number past those of the listed states."""
         directory = os.path.join(self.trials.guard.directory, 'disk')
         lay_out(directory, members_of(one.tree))
         try:
@@ -146,7 +152,8 @@ class Search:
 
 
 def all_trees(disks: Dict[str, List[Disk]]) -> List[DiskTree]:
-    """What the disks of all file systems leave, each tree and number of lines once."""
+    """What the disks of all file systems, by their names, leave: each tree and number of lines
+    once."""
     found: Dict[TreeAndCount, DiskTree] = {}
     for name, different in disks.items():
         for disk in different:
@@ -160,14 +167,15 @@ def all_trees(disks: Dict[str, List[Disk]]) -> List[DiskTree]:
 
 
 def members_of(tree: Entries) -> Iterator[Member]:
+    """A tree as an archive has it: its paths without the first slash."""
     for path, entry in tree.items():
         yield path[1:], entry
 
 
-def explained(trace: bytes, unlisted: List[Tuple[DiskTree, Outcome]]) -> List[DiskFailure]:
+def failures_of(trace: bytes, unlisted: List[Tuple[DiskTree, Outcome]]) -> List[DiskFailure]:
     """The failures that no tried state has, each tree and cause once, with why they are listed."""
     wanted = {(one.digest, one.says) for one, _ in unlisted}
-    result = search(trace, wanted) if wanted else SearchResult(set(), 0, True)
+    result = search_trees(trace, wanted) if wanted else SearchResult(set(), 0, True)
     failures: Dict[Tuple[str, str, str], DiskFailure] = {}
     for one, outcome in unlisted:
         why = result.explanation((one.digest, one.says))
@@ -187,13 +195,15 @@ class SearchResult(NamedTuple):
     is_whole: bool
 
     def explanation(self, tree: TreeAndCount) -> Explanation:
+        """Why no tried state has a tree."""
         if tree in self.found:
             return Explanation(UNTRIED)
         return Explanation(OUTSIDE) if self.is_whole else Explanation(UNKNOWN, self.searched)
 
 
-def search(trace: bytes, wanted: Set[TreeAndCount]) -> SearchResult:
-    """Looks for trees among the different crash states, by the second reading."""
+def search_trees(trace: bytes, wanted: Set[TreeAndCount]) -> SearchResult:
+    """Looks for trees among the different crash states, by the second reading, until all are found,
+    MOST_STATES were looked at, or MOST_SECONDS have passed."""
     reading = read(trace)
     states = States(reading)
     found: Set[TreeAndCount] = set()

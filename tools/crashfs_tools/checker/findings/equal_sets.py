@@ -5,7 +5,7 @@ from __future__ import annotations
 from typing import Dict, Optional, Tuple
 
 from crashfs_tools.checker.running.runner import Outcome
-from crashfs_tools.checker.states.plan import Planned, Trial
+from crashfs_tools.checker.states.plan import Planned
 from crashfs_tools.reading import read
 from crashfs_tools.reading.states import Digest, States
 
@@ -13,8 +13,8 @@ from .groups import Findings
 
 
 class EqualSets:
-    """Of a plan of all crash states each allowed set leaves a tree that was tried, if the check was
-    not stopped."""
+    """The outcomes of a plan's states by what they leave. Made for plans of all crash states only:
+    of these each allowed set leaves a tree that was tried, if the check was not stopped."""
 
     def __init__(self, planned: Planned, findings: Findings) -> None:
         self.plan = findings.plan
@@ -22,23 +22,18 @@ class EqualSets:
             self.trees = States(read(file.read()))
         self.found: Dict[int, Tuple[Digest, int]] = {}
         self.outcomes: Dict[Tuple[Digest, int], Outcome] = {}
-        firsts = {Trial(one.same, one.says): one.number for one in reversed(self.plan.states)}
+        firsts = {one.trial: one.number for one in reversed(self.plan.states)}
         for number in firsts.values():
             outcome = findings.by_state.get(number)
             if outcome is not None:
-                self.outcomes[self.tree(self.plan.kept[number])] = outcome
+                self.outcomes[self.tree_and_says(self.plan.kept[number])] = outcome
 
     def outcome(self, kept: int) -> Optional[Outcome]:
-        """The outcome of a set; None if no equal one was tried."""
-        return self.outcomes.get(self.tree(kept))
+        """The outcome of the state that an allowed set leaves; None if no equal one was tried."""
+        return self.outcomes.get(self.tree_and_says(kept))
 
-    def tree(self, kept: int) -> Tuple[Digest, int]:
-        """What a set leaves: its tree, and how many lines are acknowledged."""
+    def tree_and_says(self, kept: int) -> Tuple[Digest, int]:
+        """What a set leaves: its tree, as a digest, and how many lines are acknowledged."""
         if kept not in self.found:
             self.found[kept] = self.trees.digest(kept), self.trees.count_says(kept)
         return self.found[kept]
-
-
-def equal_sets(planned: Planned, findings: Findings) -> Optional[EqualSets]:
-    """None for a plan of families."""
-    return EqualSets(planned, findings) if findings.plan.all_states is not None else None

@@ -7,7 +7,8 @@ from typing import Dict, FrozenSet, Iterable, List, NamedTuple, Optional, Tuple
 
 from crashfs_tools.checker.running.results import Head, Results
 from crashfs_tools.checker.running.runner import GOOD, GOOD_OUTCOME, Outcome
-from crashfs_tools.checker.states.plan import Plan, State, Trial, count, places_of
+from crashfs_tools.checker.states.place_sets import places_of, size_of
+from crashfs_tools.checker.states.plan import Plan, State
 from crashfs_tools.common.entry import parent_of
 from crashfs_tools.common.trace_lines import SYNCS, TraceLine, without_numbers
 
@@ -27,7 +28,8 @@ from .torn import kept_part
 
 
 class Difference(NamedTuple):
-    """How the example of a group differs from a good state, in a line for each path."""
+    """How the example of a group differs from the good state of a number, in a line for each
+    path."""
 
     good: int
     lines: List[str]
@@ -41,6 +43,7 @@ class Totals(NamedTuple):
 
     @property
     def text(self) -> str:
+        """How many fail after the change, as a report says it."""
         if not self.after:
             return 'none fails'
         fail = 'state fails' if self.after == 1 else 'states fail'
@@ -48,7 +51,8 @@ class Totals(NamedTuple):
 
 
 class Union(NamedTuple):
-    """All advised syncs together, and the result of trying them at once."""
+    """All advised syncs together, each with its line and path, and the result of trying them at
+    once."""
 
     points: FrozenSet[Tuple[int, str]]
     totals: Totals
@@ -60,12 +64,14 @@ class Group:
     kind. tried are the different states among them, and places all pairs of lines, the lost one
     first. The example is the state that lacks the least. All else but the advice is of the example:
     rerun is the outcome of its second run, which took so many seconds, kept_part what a crash kept
-    of a torn line, swap the
-    result of another order of the two lines, and overwrites says whether the kept line overwrites
-    bytes in use. is_covered says whether the advice of larger groups removes all states. under has
-    for each profile those of tried that a crash may leave by its rules, and explained those that
-    lack the lost operation and have the kept one. accepted is the known failure that the group is;
-    expired is one whose last day has passed."""
+    of a torn line, swap the result of another order of the two lines, and overwrites says whether
+    the kept line overwrites bytes in use. lost_lines are the numbers of all lines of which the
+    example lacks something, needed_lines those that must be lost for it to fail, and other_syncs
+    the syncs between the two lines that don't make the lost one durable. is_covered says whether
+    the advice of larger groups removes all states. under has for each profile those of tried that a
+    crash may leave by its rules, and explained those that lack the lost operation and have the kept
+    one. accepted is the accepted failure that the group is; expired is one whose last day has
+    passed."""
 
     outcome: Outcome
     example: State
@@ -93,20 +99,17 @@ class Group:
 
     @property
     def cause(self) -> str:
+        """The cause of the example."""
         return self.outcome.cause
 
     @property
     def count(self) -> int:
-        """How many different states it has."""
+        """How many different states it has; 1 if the window before had them all."""
         return max(1, len(self.tried))
 
     @property
-    def result(self) -> str:
-        return self.outcome.result
-
-    @property
-    def as_known(self) -> AcceptedFailure:
-        """The group as a file of known failures names it."""
+    def as_accepted(self) -> AcceptedFailure:
+        """The group as a file of accepted failures names it, without a reason."""
         return AcceptedFailure(self.cause, operation_text(self.lost), operation_text(self.kept), '')
 
     @property
@@ -116,31 +119,41 @@ class Group:
 
     @property
     def is_torn(self) -> bool:
-        """Whether a crash kept a part of one line: no sync comes between."""
+        """Whether a crash kept a part of one line: no sync can come between its parts."""
         return self.kept is not None and self.kept == self.lost
 
     @property
     def is_span(self) -> bool:
-        """Whether nothing is lost: the states fail from one line on, until a later one."""
+        """Whether the states lose nothing: they fail from the kept line on, or from the beginning,
+        until the line in `lost` repairs them, or to the end."""
         if self.is_torn:
             return False
         return self.pair.lost is None or (self.pair.kept or 0) <= self.pair.lost
 
     @property
+    def is_swappable(self) -> bool:
+        """Whether the advice may be another order of the two lines."""
+        is_known = self.is_reproducible and self.kept is not None
+        return is_known and self.is_span and self.lost is not None and self.lost.word != 'say'
+
+    @property
     def key(self) -> Tuple[object, ...]:
+        """Equal for groups that are one entry of a report. Of an example that isn't reproducible
+        only the cause counts."""
         kinds = [line.statement if line else '' for line in (self.kept, self.lost)]
         if not self.is_reproducible:
-            return without_numbers(self.cause), self.result
+            return without_numbers(self.cause), self.outcome.result
         return (
             without_numbers(self.cause),
-            self.result,
+            self.outcome.result,
             self.is_torn,
             self.is_span,
             *kinds,
         )
 
     def add_group(self, other: Group) -> None:
-        """Adds the states and pairs of a group with the same key."""
+        """Adds the states, pairs and results of another group with the same key. The example
+        stays."""
         self.states.extend(other.states)
         self.tried |= other.tried
         self.explained |= other.explained
@@ -153,7 +166,8 @@ class Group:
         self.advice.tried = mine + others if mine and others else None
 
     def set_advice(self, lines: Dict[int, TraceLine], more_places: Places = ()) -> None:
-        """Sets the advice, also for other places that the same advice is for."""
+        """Sets the advice for the pairs of lines, and for more pairs that the same syncs serve. The
+        result of trying the advice stays."""
         tried = self.advice.tried
         if not self.is_reproducible:
             self.advice = Advice(list(NOT_REPRODUCIBLE))
@@ -167,7 +181,7 @@ class Group:
             self.advice.tried = tried
 
     def span_advice(self) -> Advice:
-        """The advice for states that lose nothing."""
+        """The advice for states that lose nothing, by what was tried."""
         advice = span_advice(self.kept, self.lost)
         if self.kept is not None and self.lost is not None:
             if self.swap is not None and self.swap.after < self.swap.before:
@@ -178,38 +192,42 @@ class Group:
 
 
 class Findings:
-    """The findings of one window. by_state also has the states that the window before it has too;
-    only those of this window are counted and grouped. States that fail as known_failure does are
-    left out."""
+    """The findings of one window. by_state has the outcomes by the numbers of states, also of those
+    that the window before has too, of which `before` are the outcomes; only those of this window
+    are counted and grouped. States that fail as `ignored` does, if it is given, are left out.
+    losses are the smallest ones that were found, by the numbers of states."""
 
     def __init__(
         self,
         head: Head,
         results: Results,
         before: Dict[int, Outcome],
-        known_failure: Optional[Outcome] = None,
+        ignored: Optional[Outcome] = None,
     ) -> None:
         self.head = head
-        self.known_failure = known_failure
+        self.ignored = ignored
         self.results = results
         self.plan: Plan = results.plan
-        self.by_state = results.of_states(before)
+        self.by_state = results.outcomes_by_state(before)
         self.pairs = Pairs(self.plan, self.by_state)
         self.losses: Dict[int, Loss] = {}
         self.union: Optional[Union] = None
-        self.groups = self.all_groups()
-        self.take_reruns()
+        self.groups = self.groups_of_failures()
+        self.set_reruns()
 
     def own_outcomes(self) -> List[Outcome]:
+        """The outcomes of the states that the window before doesn't have."""
         return [
             self.by_state[state.number]
             for state in self.results.own
             if state.number in self.by_state
         ]
 
-    def all_groups(self) -> List[Group]:
+    def groups_of_failures(self) -> List[Group]:
+        """The groups of the states that aren't good, the largest first, without advice:
+        set_reruns() adds it."""
         failing = [state for state in self.results.own if self.is_failure(state)]
-        groups = merged_groups(map(self.group_of, sorted(failing, key=self.lacking_count)))
+        groups = merged_groups(map(self.group_of_state, sorted(failing, key=self.lost_count)))
         for group in groups:
             group.lost_lines = self.lost_lines(group.example)
             group.needed_lines = self.needed_lines(group)
@@ -219,53 +237,57 @@ class Findings:
             group.other_syncs = self.other_syncs(group)
         return groups
 
-    def take_losses(self, found: Dict[int, Loss]) -> None:
-        """Takes the smallest losses of some states, also for the other states that they explain:
-        those that lack the same and keep the same."""
+    def add_losses(self, found: Dict[int, Loss]) -> None:
+        """Adds the smallest losses of some states, also for the other states that they explain:
+        those that lack the same and keep the same. The groups are made again."""
         self.losses.update(found)
         kept = self.plan.kept
         guessed = [state for group in self.groups if group.pair.is_guess for state in group.states]
         for state in guessed:
-            lacking = self.plan.lacking(state)
+            lacking = self.plan.set_lost_by(state)
             for loss in found.values():
                 keeps = loss.pair.kept is not None and kept[state.number] >> loss.pair.kept & 1
                 if keeps and loss.lacking & ~lacking == 0:
                     self.losses.setdefault(state.number, loss)
-        self.groups = self.all_groups()
-        self.take_reruns()
+        self.groups = self.groups_of_failures()
+        self.set_reruns()
 
-    def take_reruns(self) -> None:
-        """Takes the second runs of the examples: no advice is given for what passed."""
+    def set_reruns(self) -> None:
+        """Sets what second runs of the examples found, and all advice: there is none for what
+        passed."""
         for group in self.groups:
-            number = self.results.first_of[Trial(group.example.same, group.example.says)]
+            number = self.results.tried_for[group.example.trial]
             group.rerun = self.results.reruns.get(number)
         set_all_advice(self.groups, self.head.lines)
 
     def is_failure(self, state: State) -> bool:
-        """Whether a state fails, and with another cause than the known failure."""
+        """Whether a state isn't good, and has another cause than the one that is ignored."""
         outcome = self.by_state.get(state.number, GOOD_OUTCOME)
-        return outcome.result != GOOD and (
-            self.known_failure is None or outcome.kind != self.known_failure.kind
-        )
+        if outcome.result == GOOD or self.ignored is None:
+            return outcome.result != GOOD
+        return outcome.cause_without_numbers != self.ignored.cause_without_numbers
 
-    def lacking_count(self, state: State) -> Tuple[int, int]:
-        """How many micro-operations a state lacks, and its number."""
-        return count(self.plan.lacking(state)), state.number
+    def lost_count(self, state: State) -> Tuple[int, int]:
+        """How many micro-operations a state lacks, then its number: states that lack less come
+        first."""
+        return size_of(self.plan.set_lost_by(state)), state.number
 
-    def group_of(self, state: State) -> Group:
+    def group_of_state(self, state: State) -> Group:
+        """A group of this failing state alone. What groups_of_failures() finds of merged groups,
+        such as their lost lines, and the advice aren't set yet."""
         loss = self.losses.get(state.number)
         pair = loss.pair if loss else self.pairs.pair_of(state)
         kept, lost = self.line_at(pair.kept), self.line_at(pair.lost)
-        tried, allowed = self.tried_for(state), self.plan.profiles_of(state)
+        tried, allowed = self.tried_numbers(state), self.plan.profile_names_of(state)
         return Group(
-            self.by_state[state.number],
-            state,
-            pair,
-            kept,
-            lost,
-            [state],
-            tried,
-            [(lost.number, kept.number)] if kept and lost else [],
+            outcome=self.by_state[state.number],
+            example=state,
+            pair=pair,
+            kept=kept,
+            lost=lost,
+            states=[state],
+            tried=tried,
+            places=[(lost.number, kept.number)] if kept and lost else [],
             under={
                 name: tried if name in allowed else frozenset() for name in self.plan.profiles.names
             },
@@ -278,12 +300,15 @@ class Findings:
         lacks = pair.lost is not None and not kept >> pair.lost & 1
         return lacks and pair.kept is not None and bool(kept >> pair.kept & 1)
 
-    def tried_for(self, state: State) -> FrozenSet[Tuple[int, ...]]:
-        """The state of this window that was tried for a state; none if the window before had it."""
-        number = self.results.first_of[Trial(state.same, state.says)]
+    def tried_numbers(self, state: State) -> FrozenSet[Tuple[int, ...]]:
+        """The number of the state that was tried for a state, as a set of rows of one number; empty
+        if the window before tried it. In the groups of second crashes the rows have the number of
+        the first crash's state before it."""
+        number = self.results.tried_for[state.trial]
         return frozenset() if number in self.results.known else frozenset([(number,)])
 
     def line_at(self, place: Optional[int]) -> Optional[TraceLine]:
+        """The line of the micro-operation at a place; None if there is no place."""
         if place is None:
             return None
         operation = self.plan.operations[place]
@@ -293,24 +318,28 @@ class Findings:
         )
 
     def lost_lines(self, state: State) -> List[int]:
-        """The lines of which a state lacks something that would be there without the crash."""
-        lacking = self.plan.lacking(state)
+        """The numbers of the lines of which a state lacks something that would be there without the
+        crash, ascending."""
+        lacking = self.plan.set_lost_by(state)
         return sorted({self.plan.operations[place].line for place in places_of(lacking)})
 
     def needed_lines(self, group: Group) -> List[int]:
-        """The lines that must be lost too for the example to fail, and don't need the lost one."""
+        """The numbers of the lines that must be lost too for the example to fail, and don't need
+        the lost one, ascending."""
         loss, lost = self.losses.get(group.example.number), group.pair.lost
         if loss is None or lost is None:
             return []
         others = [
-            place for place in places_of(loss.lacking) if not self.plan.needs.needs(place, lost)
+            place
+            for place in places_of(loss.lacking)
+            if not self.plan.needs.is_needed(lost, by=place)
         ]
         lines = {self.plan.operations[place].line for place in others}
         return sorted(lines - {self.plan.operations[lost].line})
 
     def other_syncs(self, group: Group) -> List[TraceLine]:
-        """Syncs between the two lines that one may take to make the lost one durable: of the same
-        file, or of its directory."""
+        """The syncs between a group's two lines that are of the same file or of its directory, and
+        nevertheless don't make the lost line durable. None for a group that loses nothing."""
         if group.kept is None or group.lost is None or group.is_span:
             return []
         names = [path for path in (group.lost.path, group.lost.target) if path]
@@ -326,7 +355,7 @@ class Findings:
 
 def set_all_advice(groups: List[Group], lines: Dict[int, TraceLine]) -> None:
     """Sets the advice of all groups. If a directory is never synced, the first group whose advice
-    is to sync it has the places of the others too."""
+    is to sync it gets the places of the other ones too."""
     of_directory: Dict[str, List[Group]] = {}
     for group in groups:
         group.set_advice(lines)
@@ -339,7 +368,8 @@ def set_all_advice(groups: List[Group], lines: Dict[int, TraceLine]) -> None:
 
 
 def merged_groups(groups: Iterable[Group]) -> List[Group]:
-    """One group for each key, with the first one's example; the largest first."""
+    """The groups, in which those with one key are one: the first of them, to which the others are
+    added. The largest comes first."""
     found: Dict[Tuple[object, ...], Group] = {}
     for group in groups:
         first = found.setdefault(group.key, group)

@@ -8,14 +8,17 @@ is neither: the state fails with it and without it.
 
 from __future__ import annotations
 
-from typing import Dict, Generator, Iterator, List, NamedTuple, Optional
+from functools import reduce
+from operator import or_
+from typing import Dict, Generator, Iterator, List, Optional
 
 from crashfs_tools.checker.running.runner import Outcome
 from crashfs_tools.checker.running.trials import Trials
-from crashfs_tools.checker.states.plan import Plan, State, places_of, set_of
+from crashfs_tools.checker.states.place_sets import lacking_of, places_of
+from crashfs_tools.checker.states.plan import Plan, State
 from crashfs_tools.checker.states.planning import Planner
 
-from .equal_sets import EqualSets, equal_sets
+from .equal_sets import EqualSets
 from .groups import Findings
 from .pairs import Loss, Pair
 
@@ -28,24 +31,22 @@ SEARCHED_OF_ALL = 1_000
 Search = Generator[int, bool, Loss]
 
 
-class Lines(NamedTuple):
-    """The micro-operations of the lines that a state lacks: a set for each line, by its number."""
-
-    sets: List[int]
-
-    @staticmethod
-    def of(plan: Plan, lacking: int) -> Lines:
-        sets: Dict[int, int] = {}
-        for place in places_of(lacking):
-            line = plan.operations[place].line
-            sets[line] = sets.get(line, 0) | 1 << place
-        return Lines([sets[line] for line in sorted(sets)])
+def sets_by_line(plan: Plan, lacking: int) -> List[int]:
+    """The micro-operations of a set by the lines of the trace that they are of: a set for each
+    line, in the order of the lines."""
+    sets: Dict[int, int] = {}
+    for place in places_of(lacking):
+        line = plan.operations[place].line
+        sets[line] = sets.get(line, 0) | 1 << place
+    return [sets[line] for line in sorted(sets)]
 
 
 def find_losses(trials: Trials, planner: Planner, findings: Findings) -> None:
-    """Finds the smallest loss of each entry's example whose pair is a guess. Other states that lack
-    the same and keep the same get the same pair."""
-    searched, equal = 0, equal_sets(trials.planned, findings)
+    """Finds the smallest losses of groups' examples whose pair is a guess, and adds them to the
+    findings, which make their groups again: of SEARCHED examples at most, or of more if all states
+    were tried. The planner makes plans of the sets to try."""
+    searched = 0
+    equal = EqualSets(trials.planned, findings) if findings.plan.all_states else None
     every = findings.plan.all_states
     most = SEARCHED_OF_ALL if every is not None and every.are_listed else SEARCHED
     while searched < most:
@@ -59,11 +60,15 @@ def find_losses(trials: Trials, planner: Planner, findings: Findings) -> None:
         examples = examples[: most - searched]
         searched += len(examples)
         found = Searches(trials, planner, findings, equal).run(examples)
-        findings.take_losses(found)
+        findings.add_losses(found)
 
 
 class Searches:
-    """Searches for several states at once: in each turn one set of each is tried."""
+    """Searches for several states at once: in each turn one set of each is tried. known has the
+    outcomes of the sets that were tried, and equal, if it is given, those of what they leave.
+
+    searches, wanted and found are by the numbers of the states: the searches that run, the set that
+    each wants tried, and the losses that they found."""
 
     def __init__(
         self,
@@ -78,61 +83,55 @@ class Searches:
         self.equal = equal
         plan, by_state = findings.plan, findings.by_state
         self.known: Dict[int, Outcome] = {plan.kept[one]: by_state[one] for one in by_state}
+        self.searches: Dict[int, Search] = {}
+        self.wanted: Dict[int, int] = {}
+        self.found: Dict[int, Loss] = {}
 
     def run(self, states: List[State]) -> Dict[int, Loss]:
-        """The smallest losses, by the states' numbers."""
-        searches = {state.number: search(self.findings.plan, state) for state in states}
-        found: Dict[int, Loss] = {}
-        wanted: Dict[int, int] = {}
-        for number, one in searches.items():
-            self.advance(one, None, number, wanted, found)
+        """The smallest losses of failing states, by their numbers. A search that takes more than
+        RUNS turns ends with the smallest loss so far."""
+        for state in states:
+            self.searches[state.number] = loss_search(self.findings.plan, state)
+            self.send_answer(state.number, None)
         for _ in range(RUNS + 1):
-            self.answer_known(searches, wanted, found)
-            if not wanted:
+            self.answer_known()
+            if not self.wanted:
                 break
-            self.try_sets(list(wanted.values()))
-        for number, one in searches.items():
-            if number not in found:
-                found[number] = smallest_so_far(one)
-        return found
+            self.try_sets(list(self.wanted.values()))
+        for number, one in self.searches.items():
+            if number not in self.found:
+                self.found[number] = smallest_so_far(one)
+        return self.found
 
-    def answer_known(
-        self, searches: Dict[int, Search], wanted: Dict[int, int], found: Dict[int, Loss]
-    ) -> None:
-        """Goes on with each search until it asks for a set that has not been tried."""
-        for number in list(wanted):
-            while number in wanted:
-                outcome = self.outcome(wanted[number])
+    def answer_known(self) -> None:
+        """Goes on with each search until it wants a set that has not been tried."""
+        for number in list(self.wanted):
+            while number in self.wanted:
+                outcome = self.outcome_of_set(self.wanted[number])
                 if outcome is None:
                     break
-                del wanted[number]
-                is_alike = self.is_alike(number, outcome)
-                self.advance(searches[number], is_alike, number, wanted, found)
+                failing = self.findings.by_state[number]
+                self.send_answer(number, self.findings.pairs.is_same_failure(failing, outcome))
 
-    def outcome(self, kept: int) -> Optional[Outcome]:
+    def outcome_of_set(self, kept: int) -> Optional[Outcome]:
         """The outcome of a set; None if neither it nor an equal one was tried."""
         if kept not in self.known and self.equal is not None:
             return self.equal.outcome(kept)
         return self.known.get(kept)
 
-    @staticmethod
-    def advance(
-        one: Search,
-        answer: Optional[bool],
-        number: int,
-        wanted: Dict[int, int],
-        found: Dict[int, Loss],
-    ) -> None:
-        """Sends a search its answer, and takes the set that it asks for, or its result."""
+    def send_answer(self, number: int, answer: Optional[bool]) -> None:
+        """Answers the search for a state: whether the set that it wanted fails alike, or None to
+        begin it. Notes what it wants next in `wanted`, or the loss in `found`."""
+        self.wanted.pop(number, None)
+        one = self.searches[number]
         try:
-            wanted[number] = next(one) if answer is None else one.send(answer)
+            self.wanted[number] = next(one) if answer is None else one.send(answer)
         except StopIteration as end:
-            found[number] = end.value
-
-    def is_alike(self, number: int, outcome: Outcome) -> bool:
-        return self.findings.pairs.are_alike(self.findings.by_state[number], outcome)
+            self.found[number] = end.value
 
     def try_sets(self, sets: List[int]) -> None:
+        """Tries sets that the order allows; `known` has the outcome of each afterwards, unless the
+        check is stopped. Of a set that is a prefix too, the prefix is tried."""
         planned = self.planner.plan_of_sets(self.trials.planned, sets)
         numbers = {
             planned.plan.kept[state.number]: state.number for state in reversed(planned.plan.states)
@@ -142,14 +141,15 @@ class Searches:
         def on_outcome(number: int, outcome: Outcome) -> None:
             self.known[of_number[number]] = outcome
 
-        self.trials.with_plan(planned).try_states(set(of_number), on_outcome)
+        Trials(self.trials.workplace, planned).try_states([set(of_number)], on_outcome)
 
 
 class EndSearch(Exception):
-    """Ends a search: it returns the smallest loss so far."""
+    """Thrown into a search to end it: it returns its smallest loss so far."""
 
 
 def smallest_so_far(one: Search) -> Loss:
+    """Ends a search that waits for an answer, by EndSearch; returns its smallest loss so far."""
     try:
         one.throw(EndSearch())
     except StopIteration as end:
@@ -158,16 +158,18 @@ def smallest_so_far(one: Search) -> Loss:
     raise AssertionError('a search goes on after its end')
 
 
-def search(plan: Plan, state: State) -> Search:
-    """Searches for the smallest loss of a failing state."""
+def loss_search(plan: Plan, state: State) -> Search:
+    """A search for the smallest loss of a failing state. It yields sets, and must be sent whether
+    each fails alike; it returns the loss. First it puts back lines of what the state lacks, then it
+    makes the state shorter."""
     kept = plan.kept[state.number]
     try:
         parts = 2
         while True:
-            lines = Lines.of(plan, lacking_of(kept)).sets
+            lines = sets_by_line(plan, lacking_of(kept))
             smaller = None
-            for piece in pieces(lines, parts):
-                put_back = kept | needed_by(plan, piece)
+            for part in united_in_parts(lines, parts):
+                put_back = kept | with_needed(plan, part)
                 if put_back.bit_length() == kept.bit_length() and lacking_of(put_back):
                     if (yield put_back):
                         smaller = put_back
@@ -178,15 +180,15 @@ def search(plan: Plan, state: State) -> Search:
                 break
             else:
                 parts = min(2 * parts, len(lines))
-        kept = yield from shortest(kept)
+        kept = yield from shortest_beginning(kept)
     except EndSearch:
         pass
     return loss_of(kept)
 
 
-def shortest(kept: int) -> Generator[int, bool, int]:
-    """The shortest beginning of a set, with the same loss, that still fails alike, by binary
-    search."""
+def shortest_beginning(kept: int) -> Generator[int, bool, int]:
+    """A search, as loss_search is one, for the shortest beginning of a set that lacks the same and
+    still fails alike: a binary search. The set must lack something."""
     members = [place for place in places_of(kept) if place > first_lacking(kept)]
     low, high = 0, len(members) - 1
     try:
@@ -201,31 +203,31 @@ def shortest(kept: int) -> Generator[int, bool, int]:
     return kept & (1 << members[high] + 1) - 1
 
 
-def pieces(lines: List[int], parts: int) -> Iterator[int]:
-    """The lines in so many parts, each as one set."""
-    parts = min(parts, len(lines))
+def united_in_parts(sets: List[int], parts: int) -> Iterator[int]:
+    """Sets in so many parts of neighbours, at most as many as there are sets; the sets of each part
+    as one."""
+    parts = min(parts, len(sets))
     for part in range(parts):
-        first, last = part * len(lines) // parts, (part + 1) * len(lines) // parts
-        yield set_of(place for one in lines[first:last] for place in places_of(one))
+        first, last = part * len(sets) // parts, (part + 1) * len(sets) // parts
+        yield reduce(or_, sets[first:last])
 
 
-def needed_by(plan: Plan, places: int) -> int:
+def with_needed(plan: Plan, members: int) -> int:
     """A set with all that its members need."""
     needed = 0
-    for place in places_of(places):
+    for place in places_of(members):
         needed |= plan.needs.masks[place]
     return needed
 
 
-def lacking_of(kept: int) -> int:
-    return (1 << kept.bit_length()) - 1 & ~kept
-
-
 def first_lacking(kept: int) -> int:
+    """The first place that a set lacks before its last one; -1 if it lacks none."""
     return next(places_of(lacking_of(kept)), -1)
 
 
 def loss_of(kept: int) -> Loss:
+    """The loss of a set that isn't empty: its last member was kept, and the first one that it lacks
+    was lost."""
     lacking = lacking_of(kept)
     lost: Optional[int] = next(places_of(lacking), None)
     return Loss(Pair(kept.bit_length() - 1, lost), lacking)

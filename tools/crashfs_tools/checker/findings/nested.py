@@ -16,8 +16,7 @@ from crashfs_tools.checker.states.planning import Planner, TooLarge
 from crashfs_tools.common.command import TEXT, Refused
 from crashfs_tools.common.program import LIBRARY
 from crashfs_tools.common.removal import remove_tree
-from crashfs_tools.common.trace_lines import without_numbers
-from crashfs_tools.common.trace_text import read_text, version_of, without_says
+from crashfs_tools.common.trace_lines import read_text, trace_version, without_numbers, without_says
 
 from .groups import Findings, Group
 from .reruns import rerun_examples
@@ -27,25 +26,27 @@ RECORD = (
     f'import sys; sys.path.insert(0, {LIBRARY!r}); '
     'from crashfs_tools.recorder.main import main; sys.exit(main(sys.argv[1:]))'
 )
-# The recorder's statuses for a trace that is written.
+# The recorder's exit statuses for a trace that is written, whole or not.
 WRITTEN = (0, 3, 4)
 # A recorded command is slower than one that runs alone.
 SLOWER = 10
 
 
-class Recorder:
-    """Records COMMAND in a state, in a trace without its own lines: they acknowledge nothing."""
+class RecoveryRecorder:
+    """Records COMMAND in a state by crashfs-record, in a trace without the lines that COMMAND
+    prints: they acknowledge nothing."""
 
     def __init__(self, trials: Trials) -> None:
         self.trials = trials
         self.guard = trials.guard
 
     def recovery(self, state: State) -> Trials:
-        """Where states of the recovery are tried; Refused if it can't be recorded, or is too long.
-        It may need a trace of another version than the session."""
+        """Records the recovery of a state; returns where the states of that recovery are tried.
+        Refused if it can't be recorded, or is too long. It may need a trace of another version than
+        the session."""
         folder = os.path.join(self.guard.directory, f'recovery-{state.number}')
         os.mkdir(folder)
-        ((_, directory),) = self.trials.archive(folder).states({state.number})
+        ((_, directory),) = self.trials.archive_layout(folder).states({state.number})
         trace = os.path.join(folder, f'recovery-{state.number}.trace')
         self.record(state, directory, trace)
         remove_tree(directory)
@@ -53,12 +54,15 @@ class Recorder:
             text = without_says(file.read())
         with open(trace, 'w', **TEXT) as file:
             file.write(text)
-        program = self.trials.program.for_version(version_of(text))
+        program = self.trials.program.for_version(trace_version(text))
         planner = Planner(self.trials.options, program, self.guard)
-        return self.trials.with_plan(planner.plan(trace, Offsets(says=state.says)), program)
+        planned = planner.plan(trace, Offsets(says=state.says))
+        return self.trials.for_recovery(planned, program)
 
     def record(self, state: State, directory: str, trace: str) -> None:
-        checker = self.trials.checker()
+        """Records COMMAND in a directory that has a state's tree, into the file of a trace; Refused
+        if none is written."""
+        checker = self.trials.new_checker()
         line = [
             sys.executable,
             '-S',
@@ -102,19 +106,22 @@ class Nested:
         self.seen: Set[Tuple[str, str]] = set()
 
     def run(self, trials: Trials, findings: Findings) -> Iterator[Recovery]:
-        for state in self.choose(findings):
+        """Chooses states of a window, records the recovery of each, and yields what second crashes
+        of it leave. `left` counts down."""
+        for state in self.chosen_states(findings):
             self.left -= 1
             try:
-                recovery = Recorder(trials).recovery(state)
+                recovery = RecoveryRecorder(trials).recovery(state)
             except (Refused, TooLarge) as fault:
                 yield Recovery(state.number, fault=str(fault))
                 continue
             yield self.recovery_of(recovery, state, findings.by_state[state.number])
 
     def recovery_of(self, trials: Trials, state: State, first: Outcome) -> Recovery:
-        """The recovery of a state. If the state already fails, only other causes count."""
+        """Tries the recovery of a state, whose own outcome is `first`. If that isn't good, only
+        other causes count."""
         results = Results(trials.plan)
-        trials.run(results)
+        trials.try_all(results)
         with open(trials.planned.trace, **TEXT) as file:
             head = Head('', '', [], lines=read_text(file.read()).operations)
         found = Findings(head, results, {}, first if first.result != GOOD else None)
@@ -129,9 +136,10 @@ class Nested:
             unproved=trials.program.unproved,
         )
 
-    def choose(self, findings: Findings) -> Iterator[State]:
-        """States that were tried: first those with the most features that no chosen state has,
-        and with more acknowledged lines, since they have more to lose; then others, evenly."""
+    def chosen_states(self, findings: Findings) -> Iterator[State]:
+        """As many of the states that were tried as are left to try: first those with the most
+        features that no chosen state has, and with more acknowledged lines, since they have more to
+        lose; then others, evenly."""
         left = [findings.plan.state(number) for number in sorted(findings.results.outcomes)]
         wanted = self.left
         chosen: List[State] = []
@@ -139,14 +147,14 @@ class Nested:
             best = max(
                 left,
                 key=lambda one: (
-                    len(self.features(findings, one) - self.seen),
+                    len(self.features_of(findings, one) - self.seen),
                     one.says,
                     -one.number,
                 ),
             )
-            if not self.features(findings, best) - self.seen:
+            if not self.features_of(findings, best) - self.seen:
                 break
-            self.seen |= self.features(findings, best)
+            self.seen |= self.features_of(findings, best)
             left.remove(best)
             chosen.append(best)
         more = wanted - len(chosen)
@@ -155,16 +163,16 @@ class Nested:
         return iter(chosen)
 
     @staticmethod
-    def features(findings: Findings, state: State) -> Set[Tuple[str, str]]:
-        """Its cause, and the kind of the last operation that it has."""
+    def features_of(findings: Findings, state: State) -> Set[Tuple[str, str]]:
+        """What a chosen state covers: its cause, and the kind of the last operation that it has."""
         kept = findings.plan.kept[state.number]
         last = findings.plan.operations[kept.bit_length() - 1] if kept else None
         kind = f'{last.kind} {without_numbers(last.path)}' if last else ''
-        return {('cause', findings.by_state[state.number].kind), ('last', kind)}
+        return {('cause', findings.by_state[state.number].cause_without_numbers), ('last', kind)}
 
 
 def crash_place(found: Findings, group: Group) -> str:
-    """Where the second crash was: after the last operation that the example has."""
+    """Where the second crash of a group's example was: after the last operation that it has."""
     kept = found.plan.kept[group.example.number]
     line: Optional[int] = found.plan.operations[kept.bit_length() - 1].line if kept else None
     if line is None:

@@ -22,15 +22,18 @@ The pairs are found from the outcomes of all states. They keep to these rules:
 
 from __future__ import annotations
 
+from collections import Counter
 from enum import Enum
 from typing import Callable, Dict, NamedTuple, Optional
 
 from crashfs_tools.checker.running.runner import GOOD, Outcome
-from crashfs_tools.checker.states.plan import Plan, State, places_of
+from crashfs_tools.checker.states.place_sets import places_of
+from crashfs_tools.checker.states.plan import Plan, State
 
 
 class Pair(NamedTuple):
-    """Places of micro-operations; None if there is none: nothing was kept, or all was."""
+    """The places of two micro-operations: kept is None if nothing was kept, and lost if all was.
+    is_guess says that a smaller loss may make the state fail."""
 
     kept: Optional[int]
     lost: Optional[int]
@@ -38,7 +41,7 @@ class Pair(NamedTuple):
 
 
 class Loss(NamedTuple):
-    """A smallest loss that makes a state fail: its pair, and all that it lacks, as a set."""
+    """A smallest loss that makes a state fail: its pair, and the set of all that it lacks."""
 
     pair: Pair
     lacking: int
@@ -47,67 +50,74 @@ class Loss(NamedTuple):
 class Comparison(Enum):
     """How a state's outcome compares with that of the state whose pair is looked for."""
 
-    ALIKE = 'fails alike'
+    FAILS_ALIKE = 'fails alike'
     OTHER = 'is good, or fails with another cause'
-    UNKNOWN = 'was not tried'
+    NOT_TRIED = 'was not tried'
 
 
+# Compares the state of a number with the one whose pair is looked for.
 Compare = Callable[[int], Comparison]
 
 
 class Pairs:
-    """Finds the pair of each failing state from the outcomes of all states."""
+    """Finds the pair of each failing state from the outcomes of all states, by their numbers.
+
+    prefixes are the numbers of all prefixes by their lengths, and holes those of the holes by the
+    place that they lack and their length; those that aren't tried, since no crash leaves them or
+    only under another profile, are among them. equal_prefixes are the lengths of prefixes by what
+    they are tried by: of equal ones the shortest. causes counts the states that aren't good by
+    their whole causes, except for numbers."""
 
     def __init__(self, plan: Plan, outcomes: Dict[int, Outcome]) -> None:
         self.plan = plan
         self.outcomes = outcomes
-        self.prefixes = {s.numbers[0]: s.number for s in plan.states if s.family == 'prefix'}
-        self.equal_prefixes = {
-            (s.same, s.says): s.numbers[0] for s in reversed(plan.states) if s.family == 'prefix'
-        }
-        self.holes = {
-            (s.numbers[0], s.numbers[1]): s.number for s in plan.states if s.family == 'hole'
-        }
-        self.kinds = Kinds(outcomes)
+        prefixes = [one for one in plan.listed if one.family == 'prefix']
+        self.prefixes = {one.numbers[0]: one.number for one in prefixes}
+        self.equal_prefixes = {one.trial: one.numbers[0] for one in reversed(prefixes)}
+        self.holes = {one.numbers: one.number for one in plan.listed if one.family == 'hole'}
+        failing = (one for one in outcomes.values() if one.result != GOOD)
+        self.causes = Counter(one.cause_without_numbers for one in failing)
 
     def pair_of(self, state: State) -> Pair:
-        """The pair of a state that was tried and isn't good."""
+        """The pair of a state that was tried and isn't good, by rules 1, 2, 3 and 6. KeyError for a
+        state without an outcome."""
         compare = self.comparison_with(self.outcomes[state.number])
         if state.family == 'prefix':
             return self.prefix_pair(state.numbers[0], compare)
-        equal = self.equal_prefixes.get((state.same, state.says))
-        if equal is not None and self.is_alike(self.prefixes.get(equal), compare):
+        equal = self.equal_prefixes.get(state.trial)
+        if equal is not None and is_failing_alike(self.prefixes.get(equal), compare):
             return self.prefix_pair(equal, compare)
         if state.family == 'hole':
             return self.hole_pair(state, compare)
         return self.pick_pair(state, compare)
 
     def comparison_with(self, outcome: Outcome) -> Compare:
-        """Compares states with one of this outcome."""
+        """A function that says of the state of a number how it compares with a failing state of
+        this outcome."""
 
         def compare(number: int) -> Comparison:
             other = self.outcomes.get(number)
             if other is None:
-                return Comparison.UNKNOWN
-            return Comparison.ALIKE if self.are_alike(outcome, other) else Comparison.OTHER
+                return Comparison.NOT_TRIED
+            is_same = self.is_same_failure(outcome, other)
+            return Comparison.FAILS_ALIKE if is_same else Comparison.OTHER
 
         return compare
 
-    def are_alike(self, outcome: Outcome, other: Outcome) -> bool:
-        """Rule 7, for the outcome of a failing state and another one."""
+    def is_same_failure(self, outcome: Outcome, other: Outcome) -> bool:
+        """Rule 7: whether states of two outcomes fail alike. By the word before the colon only if
+        no other state has the whole cause of the first one."""
         if not other.result == outcome.result != GOOD:
             return False
-        by_cause = self.kinds.is_shared(outcome)
-        return other.kind == outcome.kind if by_cause else other.word == outcome.word
+        cause = outcome.cause_without_numbers
+        if self.causes[cause] > 1:
+            return other.cause_without_numbers == cause
+        return other.word == outcome.word
 
-    @staticmethod
-    def is_alike(number: Optional[int], compare: Compare) -> bool:
-        """Whether there is such a state, and it fails alike."""
-        return number is not None and compare(number) is Comparison.ALIKE
-
-    def prefix_pair(self, count: int, compare: Compare) -> Pair:
-        """Rule 1; a prefix that wasn't tried is taken to fail like its neighbours."""
-        first = last = count
+    def prefix_pair(self, length: int, compare: Compare) -> Pair:
+        """The pair of a prefix by rule 1; one that wasn't tried is taken to fail like its
+        neighbours."""
+        first = last = length
         while first > 0 and compare(self.prefixes[first - 1]) is not Comparison.OTHER:
             first -= 1
         total = len(self.plan.operations)
@@ -116,48 +126,41 @@ class Pairs:
         return Pair(first - 1 if first > 0 else None, last if last < total else None)
 
     def hole_pair(self, state: State, compare: Compare) -> Pair:
-        """Rules 3 to 5."""
+        """The pair of a hole by rules 3 to 5."""
         lost, length = state.numbers
-        if self.is_alike(self.prefixes[length], compare):
+        if is_failing_alike(self.prefixes[length], compare):
             return self.prefix_pair(length, compare)
         lost = self.last_lost(lost, length, compare)
         shortest = length
         for shorter in range(length - 1, lost + 1, -1):
             hole = self.holes.get((lost, shorter))
-            compared = Comparison.UNKNOWN if hole is None else compare(hole)
+            compared = Comparison.NOT_TRIED if hole is None else compare(hole)
             if compared is Comparison.OTHER:
                 break
-            if compared is Comparison.ALIKE:
+            if compared is Comparison.FAILS_ALIKE:
                 shortest = shorter
         return Pair(shortest - 1, lost)
 
     def last_lost(self, lost: int, length: int, compare: Compare) -> int:
-        """Rule 4: the last place that needs this one and whose own hole fails alike."""
+        """Rule 4: the last place that needs a lost one and whose own hole of this length fails
+        alike; the lost one itself if there is none."""
         for later in range(length - 2, lost, -1):
             hole = self.holes.get((later, length))
-            if self.plan.needs.needs(later, lost) and self.is_alike(hole, compare):
+            if self.plan.needs.is_needed(lost, by=later) and is_failing_alike(hole, compare):
                 return later
         return lost
 
     def pick_pair(self, state: State, compare: Compare) -> Pair:
-        """Rule 6."""
-        kept, lacking = self.plan.kept[state.number], self.plan.lacking(state)
+        """The pair of a pick by rule 6; it is a guess unless a hole gives it."""
+        kept, lacking = self.plan.kept[state.number], self.plan.set_lost_by(state)
         for place in places_of(lacking):
             hole = self.holes.get((place, kept.bit_length()))
-            if hole is not None and self.is_alike(hole, compare):
+            if hole is not None and is_failing_alike(hole, compare):
                 return self.hole_pair(self.plan.state(hole), compare)
         first = next(places_of(lacking), None)
         return Pair(kept.bit_length() - 1 if kept else None, first, kept > 0 and lacking > 0)
 
 
-class Kinds:
-    """How many states have each whole cause."""
-
-    def __init__(self, outcomes: Dict[int, Outcome]) -> None:
-        self.counts: Dict[str, int] = {}
-        for outcome in outcomes.values():
-            if outcome.result != GOOD:
-                self.counts[outcome.kind] = self.counts.get(outcome.kind, 0) + 1
-
-    def is_shared(self, outcome: Outcome) -> bool:
-        return self.counts.get(outcome.kind, 0) > 1
+def is_failing_alike(number: Optional[int], compare: Compare) -> bool:
+    """Whether there is such a state (number isn't None), and it fails alike."""
+    return number is not None and compare(number) is Comparison.FAILS_ALIKE

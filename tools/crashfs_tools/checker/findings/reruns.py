@@ -5,9 +5,9 @@ from __future__ import annotations
 
 import time
 
-from crashfs_tools.checker.running.trials import Trials
+from crashfs_tools.checker.running.trials import ATTEMPTS, Trials
 from crashfs_tools.checker.running.runner import GOOD, Outcome
-from crashfs_tools.checker.states.plan import State, Trial
+from crashfs_tools.checker.states.plan import State
 
 from .groups import Findings
 
@@ -15,23 +15,29 @@ from .groups import Findings
 ENTRIES = 20
 
 
-def rerun(trials: Trials, example: State) -> Outcome:
-    """The outcome of a further run; of another one if that fails too: COMMAND may fail only each so
-    many runs."""
-    outcome = trials.try_one(example, 1)
-    return outcome if outcome.result == GOOD else trials.try_one(example, 2)
+def rerun_example(trials: Trials, example: State) -> Outcome:
+    """The outcome of a second run of a state, or of a third run if the second one fails too:
+    COMMAND may fail in some runs only. One that is good shows that the failure isn't
+    reproducible."""
+    for attempt in range(1, ATTEMPTS):
+        outcome = trials.try_one(example, attempt)
+        if outcome.result == GOOD:
+            break
+    return outcome
 
 
 def rerun_examples(trials: Trials, findings: Findings, seconds: float = float('inf')) -> None:
-    """Runs the examples of the largest groups again; begins none after so many seconds."""
+    """Runs the examples of the first ENTRIES groups again, one at a time, unless they were; begins
+    none after so many seconds. Writes the outcomes into the results and the groups, and drops the
+    states of what passed from the cache."""
     deadline = time.monotonic() + seconds
     results = findings.results
     for group in findings.groups[:ENTRIES]:
-        number = results.first_of[Trial(group.example.same, group.example.says)]
+        number = results.tried_for[group.example.trial]
         if number not in results.reruns and time.monotonic() < deadline:
             began = time.monotonic()
-            results.reruns[number] = rerun(trials, group.example)
+            results.reruns[number] = rerun_example(trials, group.example)
             group.seconds = time.monotonic() - began
             if results.reruns[number].result == GOOD:
-                trials.forget(state.number for state in group.states)
-    findings.take_reruns()
+                trials.drop_from_cache(state.number for state in group.states)
+    findings.set_reruns()

@@ -10,9 +10,10 @@ from .groups import Group
 
 @dataclass
 class Recovery:
-    """The recovery of one state: how many different states a second crash may leave, how many fail,
-    and their groups; places says for each example where the second crash was. fault says why the
-    recovery wasn't tried, or is empty; unproved whether the second reading computed its states."""
+    """The recovery of the state of a number: how many different states a second crash may leave,
+    how many fail, and their groups; places says where the second crash was, by the number of a
+    group's example. fault says why the recovery wasn't tried, or is empty; unproved whether the
+    second reading computed its states."""
 
     state: int
     states: int = 0
@@ -24,14 +25,16 @@ class Recovery:
 
 
 class SecondCrash(NamedTuple):
-    """The first crash's state, and where the second crash was."""
+    """The number of the first crash's state, and where the second crash was, as text."""
 
     state: int
     place: str
 
 
 def second_crash_entries(recoveries: Iterable[Recovery]) -> List[Tuple[Group, SecondCrash]]:
-    """The groups of all recoveries; groups with the same key are one, with the first's example."""
+    """Copies of the groups of all recoveries, each with the crashes of its example; groups with the
+    same key are one, with the first one's example. Of the others only the states are taken: nothing
+    else of them is reported."""
     found: Dict[Tuple[object, ...], Tuple[Group, SecondCrash]] = {}
     for recovery in recoveries:
         for group in recovery.groups:

@@ -9,6 +9,8 @@ from crashfs_tools.checker.running.runner import Outcome
 from crashfs_tools.common.entry import Entries, Entry
 from crashfs_tools.disks.disk import Crash
 
+from .wording import fails, joined_by
+
 # So many paths of a tree are shown.
 SHOWN_PATHS = 12
 OUTSIDE, UNTRIED, UNKNOWN = 'outside the model', 'not tried', 'not found'
@@ -22,6 +24,7 @@ class Explanation(NamedTuple):
 
     @property
     def text(self) -> str:
+        """The explanation as a report has it."""
         if self.where == OUTSIDE:
             return 'no crash state has this tree'
         if self.where == UNTRIED:
@@ -44,7 +47,7 @@ class DiskFailure:
         """Where it was seen, why it is listed, and its first paths."""
         more = len(self.tree) - SHOWN_PATHS
         paths = [path_text(path, self.tree[path]) for path in sorted(self.tree)[:SHOWN_PATHS]]
-        says = listed(list(map(str, self.says)), 'or')
+        says = joined_by('or', list(map(str, self.says)))
         return [
             f'{sentence(list(self.crashes), self.crashes)}, says {says}',
             self.explanation.text,
@@ -52,6 +55,7 @@ class DiskFailure:
         ]
 
     def fields(self) -> Dict[str, Any]:
+        """The failure as the JSON has it."""
         return {
             'cause': self.outcome.cause,
             'where': self.explanation.where,
@@ -64,8 +68,9 @@ class DiskFailure:
 @dataclass
 class Sightings:
     """What was seen on the file systems. crashes and trees have how many there were of each;
-    failing the trees among them in which COMMAND failed. states has for each state seen the first
-    crash of each file system that left it, and further the failures that no tried state has."""
+    failing the trees among them in which COMMAND failed, all by the name of the file system. states
+    has for the number of each state seen the first crash of each file system that left it, and
+    further the failures that no tried state has."""
 
     names: List[str]
     crashes: Dict[str, int] = field(default_factory=dict)
@@ -75,7 +80,7 @@ class Sightings:
     further: List[DiskFailure] = field(default_factory=list)
 
     def of_states(self, numbers: Sequence[int]) -> Dict[str, Crash]:
-        """The first crash of each file system that left one of the states."""
+        """The first crash of each file system that left one of the states of these numbers."""
         found: Dict[str, Crash] = {}
         for number in numbers:
             keep_first(found, self.states.get(number, {}))
@@ -109,39 +114,41 @@ class Sightings:
 
 
 def keep_first(found: Dict[str, Crash], more: Dict[str, Crash]) -> None:
-    """Keeps of each file system the crash that says most: the one for which the kernel wrote the
-    least by itself, and of these the earliest."""
+    """Adds crashes by the names of file systems, and keeps of each the one that says most: for
+    which the kernel wrote the least by itself, and of these the earliest."""
     for name, crash in more.items():
         if name not in found or crash.rank < found[name].rank:
             found[name] = crash
 
 
 def fail_text(count: int) -> str:
-    return f'{count:,} fail{"s" if count == 1 else ""}' if count else 'none fails'
+    """How many fail: `3 fail`, `none fails`."""
+    return f'{count:,} {fails(count)}' if count else 'none fails'
 
 
 def sentence(names: Sequence[str], found: Dict[str, Crash]) -> str:
+    """On which of some file systems something was seen, after which crash, and on which not."""
     seen = [f'{name} ({crash_text(found[name])})' for name in names if name in found]
     unseen = [name for name in names if name not in found]
     if not seen:
-        return f'not seen on {listed(unseen, "or")}'
-    return f'seen on {listed(seen)}' + (f'; not on {listed(unseen, "or")}' if unseen else '')
+        return f'not seen on {joined_by("or", unseen)}'
+    others = f'; not on {joined_by("or", unseen)}' if unseen else ''
+    return f'seen on {joined_by("and", seen)}{others}'
 
 
 def crash_fields(found: Dict[str, Crash]) -> Dict[str, Any]:
+    """What the JSON has of the crashes of file systems."""
     return {name: [crash.moment.line, crash.lever.value] for name, crash in found.items()}
 
 
 def crash_text(crash: Crash) -> str:
+    """When a crash was: after which line, and what was written meanwhile."""
     place = f'after line {crash.moment.line}' if crash.moment.line else 'before the first operation'
     return f'{place}, {crash.lever.value}'
 
 
 def path_text(path: str, entry: Entry) -> str:
+    """A path with what is there."""
     if entry.link is not None:
         return f'{path} (a symbolic link to {entry.link})'
     return path if entry.data is None else f'{path} ({len(entry.data):,} bytes)'
-
-
-def listed(items: Sequence[str], word: str = 'and') -> str:
-    return f' {word} '.join(filter(None, (', '.join(items[:-1]), items[-1])))

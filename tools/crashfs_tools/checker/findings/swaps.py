@@ -9,7 +9,8 @@ from typing import Dict, Iterable, List, Optional, Tuple
 from crashfs_tools.checker.running.results import Results
 from crashfs_tools.checker.running.runner import Outcome
 from crashfs_tools.checker.running.trials import Trials
-from crashfs_tools.checker.states.plan import Offsets, Plan, Planned, Trial, places_of
+from crashfs_tools.checker.states.place_sets import places_of
+from crashfs_tools.checker.states.plan import Offsets, Plan, Planned
 from crashfs_tools.checker.states.planning import Planner
 from crashfs_tools.common.command import TEXT, Refused
 from crashfs_tools.common.sparse import PAGE_BYTES, SparseBytes
@@ -21,29 +22,18 @@ from .groups import Findings, Group, Totals
 ENTRIES, MOST_STATES = 3, 2_000
 
 
-def add_swaps(trials: Trials, planner: Planner, findings: Findings) -> None:
-    """Tries the other order for the largest groups that lose nothing, and finds out whether their
-    first line overwrites what is in use."""
-    spans = [group for group in findings.groups if is_swappable(group)]
+def add_swaps(trials: Trials, planner: Planner, findings: Findings, spans: List[Group]) -> None:
+    """Tries the other order for the first ENTRIES of some swappable groups, finds out whether their
+    first line overwrites what is in use, and sets their advice."""
     for group in spans[:ENTRIES]:
         group.swap = Swap(trials, planner, findings, group).run()
-        group.overwrites = overwrites(trials, findings, group)
+        group.overwrites = is_overwriting(trials, findings, group)
         group.set_advice(findings.head.lines)
 
 
-def is_swappable(group: Group) -> bool:
-    """Whether a group's advice may be another order."""
-    return (
-        group.is_reproducible
-        and group.is_span
-        and group.kept is not None
-        and group.lost is not None
-        and group.lost.word != 'say'
-    )
-
-
 class Swap:
-    """A copy of the trace in which the later line, with what it needs, comes before the earlier."""
+    """A copy of the trace in which the later line of a swappable group, with what it needs, comes
+    before the earlier one."""
 
     def __init__(self, trials: Trials, planner: Planner, findings: Findings, group: Group) -> None:
         self.trials = trials
@@ -53,22 +43,19 @@ class Swap:
         self.kept, self.lost = group.kept, group.lost
 
     def run(self) -> Optional[Totals]:
-        """How many states fail in the other order; None if there is no such order."""
+        """How many states fail before and after the change of the order; None if the lines can't
+        change places, or the copy has too many states."""
         moved = moved_lines(self.kept, self.lost, self.findings.head.lines)
-        planned = self.copy(moved) if moved else None
+        planned = self.planned_copy(moved) if moved else None
         if planned is None or len(planned.plan.states) > MOST_STATES:
             return None
-        before = failing(self.findings.plan, self.findings.by_state)
-        outcomes = self.outcomes(planned)
-        after = {
-            Trial(state.same, state.says)
-            for state in planned.plan.states
-            if outcomes[state.number].result != 'good'
-        }
-        return Totals(before, len(after))
+        outcomes = self.outcomes_of(planned)
+        before = count_failing_states(self.findings.plan, self.findings.by_state)
+        return Totals(before, count_failing_states(planned.plan, outcomes))
 
-    def copy(self, moved: List[int]) -> Optional[Planned]:
-        """The plan of the copy; None if no program can do the lines in that order."""
+    def planned_copy(self, moved: List[int]) -> Optional[Planned]:
+        """Writes the copy, in which the lines of these numbers are moved, and plans it. None if the
+        trace lacks one of the lines, or the program refuses them in this order."""
         before = self.trials.planned.offsets
         with open(self.trials.planned.trace, **TEXT) as file:
             text = file.read().rstrip('\n').split('\n')
@@ -93,48 +80,52 @@ class Swap:
         except Refused:
             return None
 
-    def outcomes(self, planned: Planned) -> Dict[int, Outcome]:
-        """The outcomes of the copy's states. A state with the same micro-operations as one of the
-        session is equal to it."""
+    def outcomes_of(self, planned: Planned) -> Dict[int, Outcome]:
+        """Tries the copy's states, and returns their outcomes by their numbers. A state with the
+        same micro-operations as one of the session is equal to it, and not tried."""
         plan, findings = planned.plan, self.findings
         known = {findings.plan.kept[one]: found for one, found in findings.by_state.items()}
         places = same_operations(plan, findings.plan)
         results = Results(plan)
         for state in plan.states:
-            found = known.get(mapped(plan.kept[state.number], places))
+            found = known.get(set_in_places(plan.kept[state.number], places))
             if found is not None:
-                results.outcomes[results.first_of[Trial(state.same, state.says)]] = found
+                results.outcomes[results.tried_for[state.trial]] = found
 
         def on_outcome(number: int, outcome: Outcome) -> None:
             results.outcomes[number] = outcome
 
         new = set(results.trials.values()) - set(results.outcomes)
-        self.trials.with_plan(planned).try_states(new, on_outcome)
-        return results.of_states({})
+        Trials(self.trials.workplace, planned).try_states([new], on_outcome)
+        return results.outcomes_by_state({})
 
 
 def moved_lines(kept: TraceLine, lost: TraceLine, lines: Dict[int, TraceLine]) -> List[int]:
-    """The later line and those that it needs; none if the earlier line isn't apart from them."""
+    """The numbers of the lost line, which is later, and of those between the two that it needs,
+    ascending; none if the kept line has paths in common with them."""
     moved = [lost]
     for number in range(lost.number - 1, kept.number, -1):
         line = lines.get(number)
-        if line is not None and belongs_to(line, moved):
+        if line is not None and moves_with(line, moved):
             moved.insert(0, line)
     are_apart = all(kept.is_apart_from(line) for line in moved if line.word not in SYNCS)
     return [line.number for line in moved] if are_apart else []
 
 
-def belongs_to(line: TraceLine, moved: Iterable[TraceLine]) -> bool:
-    """Whether a line names what one of the moved lines names; a sync only if it is of that file."""
+def moves_with(line: TraceLine, moved: Iterable[TraceLine]) -> bool:
+    """Whether a line must be moved together with the moved ones: it has a path in common with one
+    of them. A sync is moved only with a line of its own file."""
     if line.word in SYNCS:
         return any(line.path in (one.path, one.target) for one in moved)
     return not all(line.is_apart_from(one) for one in moved if one.word not in SYNCS)
 
 
 def same_operations(plan: Plan, other: Plan) -> Dict[int, int]:
-    """The places of the same micro-operations in another plan: by their line, and their turn."""
+    """The place in a plan of each micro-operation that another plan has too, with its place there.
+    Micro-operations of one line and kind are matched in their order."""
 
     def turns(of: Plan) -> Dict[Tuple[int, str, int], int]:
+        """The places by line, kind, and how many such ones come before."""
         found: Dict[Tuple[int, str, int], int] = {}
         for place, one in enumerate(of.operations):
             turn = 0
@@ -147,8 +138,8 @@ def same_operations(plan: Plan, other: Plan) -> Dict[int, int]:
     return {place: others[key] for key, place in turns(plan).items() if key in others}
 
 
-def mapped(kept: int, places: Dict[int, int]) -> int:
-    """A set in the places of the other plan; -1 if it has a member that the other plan lacks."""
+def set_in_places(kept: int, places: Dict[int, int]) -> int:
+    """A set with other places for its members; -1, which is no set, if one has no other place."""
     found = 0
     for place in places_of(kept):
         if place not in places:
@@ -157,19 +148,21 @@ def mapped(kept: int, places: Dict[int, int]) -> int:
     return found
 
 
-def failing(plan: Plan, by_state: Dict[int, Outcome]) -> int:
-    """How many different states of a plan fail."""
+def count_failing_states(plan: Plan, by_state: Dict[int, Outcome]) -> int:
+    """How many different states of a plan aren't good, by the outcomes of the states' numbers;
+    those without an outcome don't count."""
     return len(
         {
-            Trial(state.same, state.says)
+            state.trial
             for state in plan.states
             if state.number in by_state and by_state[state.number].result != 'good'
         }
     )
 
 
-def overwrites(trials: Trials, findings: Findings, group: Group) -> bool:
-    """Whether the kept line overwrites bytes that aren't zeros with others."""
+def is_overwriting(trials: Trials, findings: Findings, group: Group) -> bool:
+    """Whether the kept micro-operation of a group is a write that replaces bytes that aren't zeros
+    by others."""
     plan, place = findings.plan, group.pair.kept
     if place is None or plan.operations[place].kind != 'write_block':
         return False
@@ -179,11 +172,11 @@ def overwrites(trials: Trials, findings: Findings, group: Group) -> bool:
     before, after = (tree.get(path) for tree in trees)
     if before is None or after is None or before.data is None or after.data is None:
         return False
-    return replaces_bytes(SparseBytes.of(before.data), SparseBytes.of(after.data))
+    return has_replaced_bytes(SparseBytes.copy_of(before.data), SparseBytes.copy_of(after.data))
 
 
-def replaces_bytes(before: SparseBytes, after: SparseBytes) -> bool:
-    """Whether some bytes that aren't zeros have others in their place."""
+def has_replaced_bytes(before: SparseBytes, after: SparseBytes) -> bool:
+    """Whether some bytes of a file that aren't zeros have others in their place."""
     for number, page in before.data_pages():
         new = after.read(number * PAGE_BYTES, PAGE_BYTES)
         if page != new and any(old not in (0, now) for old, now in zip(page, new)):

@@ -11,7 +11,8 @@ SHOWN = 3
 
 
 class Piece(NamedTuple):
-    """Bytes of a write, counted from its first one, and whether they were kept."""
+    """Bytes of a write from `first` to before `end`, counted from its first one, and whether they
+    were kept."""
 
     first: int
     end: int
@@ -19,7 +20,8 @@ class Piece(NamedTuple):
 
 
 def kept_part(plan: Plan, kept: int, line: int) -> str:
-    """What a state kept of a line: its length, or which of its bytes."""
+    """What a set kept of a line of the trace, of which it lacks a part: its length, or which of its
+    bytes."""
     places = [place for place, one in enumerate(plan.operations) if one.line == line]
     pieces = pieces_of([(plan.operations[place], bool(kept >> place & 1)) for place in places])
     sizes = [kept >> one & 1 for one in places if plan.operations[one].kind == 'change_file_size']
@@ -31,11 +33,13 @@ def kept_part(plan: Plan, kept: int, line: int) -> str:
         return 'its length, not its bytes (zeros)' if sizes else 'nothing of it'
     zeros = ' (zeros)' if sizes else ''
     whole = [piece for piece in pieces if piece.is_kept]
-    return f'bytes {text_of(whole)} of its {total:,}, not bytes {text_of(lost)}{zeros}'
+    shown, missing = bytes_text(whole), bytes_text(lost)
+    return f'bytes {shown} of its {total:,}, not bytes {missing}{zeros}'
 
 
 def pieces_of(operations: List[Tuple[MicroOperation, bool]]) -> List[Piece]:
-    """The pieces of a write; neighbours with the same fate are one."""
+    """The pieces of a write from its micro-operations, in their order, each with whether it was
+    kept; neighbours with the same fate are one."""
     pieces: List[Piece] = []
     for operation, is_kept in operations:
         if operation.kind == 'write_block':
@@ -47,7 +51,8 @@ def pieces_of(operations: List[Tuple[MicroOperation, bool]]) -> List[Piece]:
     return pieces
 
 
-def text_of(pieces: List[Piece]) -> str:
+def bytes_text(pieces: List[Piece]) -> str:
+    """Which bytes pieces are: `0 to 9, 20 to 29`; the first SHOWN of them, and how many more."""
     shown = [f'{piece.first:,} to {piece.end - 1:,}' for piece in pieces[:SHOWN]]
     more = len(pieces) - SHOWN
     return ', '.join(shown) + (f' and {more:,} more parts' if more > 0 else '')

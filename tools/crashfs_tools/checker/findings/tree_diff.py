@@ -6,7 +6,8 @@ from typing import Iterator, Optional, Tuple
 
 from crashfs_tools.checker.running.runner import GOOD
 from crashfs_tools.checker.running.trials import Trials
-from crashfs_tools.checker.states.plan import State, count
+from crashfs_tools.checker.states.place_sets import size_of
+from crashfs_tools.checker.states.plan import State
 from crashfs_tools.common import sparse
 from crashfs_tools.common.entry import Entries, Entry
 
@@ -18,7 +19,8 @@ SHOWN_BYTES = 8
 
 
 def find_differences(trials: Trials, findings: Findings) -> None:
-    """Compares the examples of the largest groups with their nearest good states."""
+    """Compares the examples of the largest groups with their nearest good states, and sets the
+    groups' differences."""
     for group in findings.groups[:ENTRIES]:
         good = nearest_good(findings, group)
         if good is not None:
@@ -28,7 +30,8 @@ def find_differences(trials: Trials, findings: Findings) -> None:
 
 
 def nearest_good(findings: Findings, group: Group) -> Optional[State]:
-    """The good state that differs in the fewest micro-operations."""
+    """The good state that differs from a group's example in the fewest micro-operations; None if no
+    state is good."""
     kept = findings.plan.kept
     good = [
         state
@@ -37,12 +40,14 @@ def nearest_good(findings: Findings, group: Group) -> Optional[State]:
     ]
 
     def distance(state: State) -> Tuple[int, int]:
-        return count(kept[state.number] ^ kept[group.example.number]), state.number
+        """In how many micro-operations a state differs, and its number."""
+        return size_of(kept[state.number] ^ kept[group.example.number]), state.number
 
     return min(good, key=distance) if good else None
 
 
 def different_lines(failing: Entries, good: Entries) -> Iterator[str]:
+    """How a failing tree differs from a good one: a line for each path that differs."""
     for path in sorted(failing.keys() | good.keys()):
         one, other = failing.get(path), good.get(path)
         if one is None or other is None:
@@ -59,34 +64,40 @@ def different_lines(failing: Entries, good: Entries) -> Iterator[str]:
 
 
 def kind_text(entry: Entry) -> str:
+    """What is at a path."""
     if entry.link is not None:
         return f'a symbolic link to {entry.link}'
     return 'a directory' if entry.is_directory else 'a file'
 
 
 def size_text(entry: Entry) -> str:
+    """How large a file is; of anything else what it is."""
     return kind_text(entry) if entry.data is None else f'{len(entry.data):,} bytes'
 
 
 def size_difference(one: Entry, other: Entry) -> str:
+    """What sizes a file of the failing state and of the good one have."""
     if one.data is not None and other.data is not None and len(one.data) == len(other.data):
         return f'has {size_text(one)} in both'
     return f'has {size_text(one)}, in the good state {size_text(other)}'
 
 
 def bytes_text(data: bytes) -> str:
-    """Bytes as text if they are; otherwise as hexadecimal digits."""
+    """Bytes as text if they are ASCII; otherwise as hexadecimal digits. No bytes are a file's
+    end."""
     if data and all(0x20 <= byte < 0x7F for byte in data):
         return f'"{data.decode("ascii")}"'
     return data.hex() or 'its end'
 
 
 def rights_text(entry: Entry) -> str:
+    """The mode, the owner and the group of a file or directory."""
     return f'{entry.mode:03o} {entry.owner} {entry.group}'
 
 
 def first_difference(one: Entry, other: Entry) -> str:
-    """Where the bytes begin to differ, and the bytes there."""
+    """The offset at which two files' bytes begin to differ, and the bytes there; an empty text if
+    they don't, or one isn't a file."""
     if one.data is None or other.data is None:
         return ''
     place = sparse.first_difference(one.data, other.data)

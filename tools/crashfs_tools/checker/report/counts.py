@@ -10,7 +10,7 @@ from typing import FrozenSet, List, NamedTuple, Optional, Tuple
 
 from crashfs_tools.checker.findings.groups import Findings, Group
 from crashfs_tools.checker.running.results import Head
-from crashfs_tools.checker.running.runner import BAD, GOOD, Outcome
+from crashfs_tools.checker.running.runner import BAD, GOOD
 from crashfs_tools.checker.states.plan import AllStates
 
 # There are more sets than so many if they can't be counted.
@@ -18,7 +18,8 @@ LEAST_OF_MANY = 1_000_000
 
 
 class AcceptedStates(NamedTuple):
-    """How many different failing states are of known failures, and by the words of their causes."""
+    """How many different failing states are of accepted failures, in total and by the words of
+    their causes."""
 
     total: int
     words: Counts[str]
@@ -50,7 +51,7 @@ class StateCounts:
     words: Counts[str] = field(default_factory=Counter)
 
     def add(self, findings: Findings) -> None:
-        """Adds a window's states."""
+        """Adds the states of a window."""
         results, shard = findings.results, findings.head.shard
         outcomes = [
             results.outcomes[number]
@@ -60,10 +61,10 @@ class StateCounts:
         self.windows += 1
         self.every.append(findings.plan.all_states)
         self.profile = findings.plan.profiles.wanted
-        self.operations = findings.plan.begin + len(findings.plan.operations)
+        self.operations = findings.plan.first_place + len(findings.plan.operations)
         self.states += len(results.own)
         self.different += len(results.trials)
-        self.wanted += sum(map(shard.has, range(len(results.wanted))))
+        self.wanted += sum(map(shard.has_place, range(len(results.wanted))))
         self.is_part = self.is_part or results.is_part
         self.seconds = results.seconds or self.seconds
         drawn = results.plan.all_states.drawn if results.plan.all_states else ()
@@ -71,23 +72,22 @@ class StateCounts:
         self.drawn += [one is not None and one.result == BAD for one in tried]
         self.tried += len(outcomes)
         self.all_failing += sum(one.result == BAD for one in findings.own_outcomes())
-        self.add_outcomes(outcomes)
-
-    def add_outcomes(self, outcomes: List[Outcome]) -> None:
         self.results.update(one.result for one in outcomes)
         self.words.update(one.word for one in outcomes if one.result == BAD)
 
     @property
     def good(self) -> int:
+        """How many different states are good."""
         return self.results[GOOD]
 
     @property
     def failing(self) -> int:
+        """How many different states are bad."""
         return self.results[BAD]
 
     @property
     def left(self) -> int:
-        """How many different states should have been tried, and weren't."""
+        """How many different states of this shard should have been tried, and weren't."""
         return self.wanted - self.tried
 
     @property
@@ -97,37 +97,39 @@ class StateCounts:
 
     @property
     def are_read(self) -> bool:
-        """Whether the second reading found what all crash states are."""
+        """Whether the second reading, not the program, found which crash states there are."""
         return any(one is not None and one.are_read for one in self.every)
 
     @property
     def sets(self) -> Optional[int]:
-        """How many sets the rules allow; None if that isn't known."""
+        """How many sets the rules allow; None if that isn't known, or of a session in windows."""
         only = self.every[0] if len(self.every) == 1 else None
         return only.sets if only is not None else None
 
     @property
     def tried_text(self) -> str:
-        """How much of what there is was tried."""
+        """How many of the crash states were tried, as a sentence."""
         if self.is_part or self.has_every:
             return f'{self.tried:,} of {self.total} crash states were tried.'
         return f'{self.tried:,} different states of some families were tried, not all crash states.'
 
     @property
     def total(self) -> str:
-        """How many crash states there are, or sets if the states are too many to be listed."""
+        """How many crash states there are, as text; if they are too many to be listed, how many
+        sets, or that they are more than so many."""
         if self.has_every:
             return f'{self.different:,}'
         if len(self.every) > 1:
             return f'more than {max(one.most for one in self.every if one is not None):,}'
         return f'{self.sets:,}' if self.sets is not None else f'more than {LEAST_OF_MANY:,}'
 
-    def is_whole(self, head: Head) -> bool:
-        """Whether all was tried."""
+    def has_tried_all(self, head: Head) -> bool:
+        """Whether all states of the whole check that were to be tried were. Not so for a shard,
+        even if none of its own states is left, nor if the session goes on after the last window."""
         return head.shard.parts == 1 and not self.left and not head.has_rest
 
 
-def accepted_states(groups: List[Group]) -> AcceptedStates:
+def states_of_accepted(groups: List[Group]) -> AcceptedStates:
     """The states of accepted groups that no other group has."""
     none: FrozenSet[Tuple[int, ...]] = frozenset()
     others = none.union(*(group.tried for group in groups if group.accepted is None))

@@ -6,8 +6,8 @@ from typing import Any, Dict, List
 
 from crashfs_tools.checker.findings.groups import Findings
 from crashfs_tools.checker.running.runner import BAD, GOOD, NO_ANSWER
-from crashfs_tools.checker.states.plan import State, Trial
-from crashfs_tools.checker.states.plan import count as count_of
+from crashfs_tools.checker.states.plan import State
+from crashfs_tools.checker.states.place_sets import size_of
 
 # The results of states as the page's triangle has them; '-' is a state that wasn't tried.
 SIGNS = {GOOD: 'g', BAD: 'b', NO_ANSWER: 'n'}
@@ -16,10 +16,10 @@ Drawing = Dict[str, Any]
 
 
 def drawing_of(findings: Findings) -> Drawing:
-    """A row of signs for the prefixes, and one for the holes of each length: the k-th is that of
-    the hole at k. numbers are those of the holes that are there, in their order. picks are the
-    states that no prefix and no hole is equal to, once each: a number, a sign, and how many
-    micro-operations it lacks, in the order of that."""
+    """What the page's script draws of a window. prefixes is a row of signs, and holes has one for
+    each length: the k-th sign is that of the hole at k. numbers are those of the holes that are
+    there, in their order. picks are the states that no prefix and no hole is equal to, once each: a
+    number, a sign, and how many micro-operations it lacks, in the order of that."""
     plan = findings.plan
     count = len(plan.operations)
     holes: List[List[str]] = [[' '] * max(0, end - 1) for end in range(count + 1)]
@@ -43,18 +43,20 @@ def drawing_of(findings: Findings) -> Drawing:
 
 
 def picks_of(findings: Findings) -> List[List[Any]]:
+    """The rows of drawing_of for picks: states that no prefix and no hole is equal to."""
     plan = findings.plan
-    drawn = {Trial(one.same, one.says) for one in plan.states if one.family != 'pick'}
+    drawn = {one.trial for one in plan.states if one.family != 'pick'}
     picks = []
     for state in plan.states:
-        trial = Trial(state.same, state.says)
+        trial = state.trial
         if trial not in drawn:
             drawn.add(trial)
-            lacks = count_of(plan.lacking(state))
+            lacks = size_of(plan.set_lost_by(state))
             picks.append([state.number, sign_of(findings, state), lacks])
     return sorted(picks, key=lambda pick: (pick[2], pick[0]))
 
 
 def sign_of(findings: Findings, state: State) -> str:
+    """The sign of a state's outcome, one for states that weren't tried among them."""
     outcome = findings.by_state.get(state.number)
     return SIGNS[outcome.result] if outcome else '-'

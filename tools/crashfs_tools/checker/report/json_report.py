@@ -1,4 +1,4 @@
-"""A report as JSON, which other tools read; docs/FORMATS.md has its fields."""
+"""A report as JSON, which other tools read; docs/reference/crashfs-check.md has its keys."""
 
 from __future__ import annotations
 
@@ -19,7 +19,7 @@ KILLED = 'a kill'
 
 
 def json_pieces(report: CheckReport) -> Iterator[str]:
-    """The results, and the entries with their texts."""
+    """The text of the file of --json, in pieces: the results, and the entries with their texts."""
     yield as_json(report.head.fields(), **COMPACT)[:-1] + ',\n"windows":[\n'
     for place, window in enumerate(report.packed_windows):
         yield (',\n' if place else '') + unpacked(window)
@@ -29,14 +29,16 @@ def json_pieces(report: CheckReport) -> Iterator[str]:
     yield ',\n"recoveries":' + as_json(recoveries, indent=1)
     if report.sightings is not None:
         yield ',\n"disks":' + json.dumps(report.sightings.fields(), indent=1, ensure_ascii=False)
-    missing = [entry.fields for entry in report.missing_failures()]
+    if report.not_done:
+        yield ',\n"not_done":' + as_json(report.not_done)
+    missing = [entry.fields for entry in report.accepted_not_found()]
     yield ',\n"accepted_missing":' + as_json(missing, indent=1)
     yield '}\n'
 
 
 def partial_pieces(report: CheckReport, results: Results) -> Iterator[str]:
-    """The results before the check's end, with those of the window that is tried; without
-    entries. It reads as the report of a check that was killed."""
+    """The text of the file of --json before the check's end, in pieces: with the results of the
+    window that is tried, without entries. It reads as the report of a check that was killed."""
     yield as_json(replace(report.head, stopped=KILLED).fields())[:-1] + ',\n"windows":[\n'
     for window in report.packed_windows:
         yield unpacked(window) + ',\n'
@@ -44,6 +46,7 @@ def partial_pieces(report: CheckReport, results: Results) -> Iterator[str]:
 
 
 def recovery_fields(recovery: Recovery) -> Dict[str, Any]:
+    """What the JSON has of a recovery in which a second crash was tried."""
     groups = [
         {
             'cause': group.cause,
@@ -63,6 +66,7 @@ def recovery_fields(recovery: Recovery) -> Dict[str, Any]:
 
 
 def group_fields(report: CheckReport, group: Group) -> Dict[str, Any]:
+    """What the JSON has of an entry."""
     fields = {
         'cause': group.cause,
         'states': [state.number for state in group.states],
@@ -76,7 +80,7 @@ def group_fields(report: CheckReport, group: Group) -> Dict[str, Any]:
         'text': ReportText(report).details(group),
         'syncs': group.advice.syncs,
         'accepted': group.accepted and group.accepted.fields,
-        'accept': group.as_known.fields,
+        'accept': group.as_accepted.fields,
     }
     if group.difference is not None:
         fields.update(good=group.difference.good, differences=group.difference.lines)

@@ -10,7 +10,7 @@ from typing import Iterator, List
 from crashfs_tools.checker.findings.groups import Group
 from crashfs_tools.common.printable import printable
 from crashfs_tools.common.trace_lines import SYNCS, TraceLine
-from crashfs_tools.common.version import version_of
+from crashfs_tools.common.command import version_text
 
 from .page_parts import SCRIPT, STYLE
 from .json_text import COMPACT, as_json
@@ -24,6 +24,7 @@ DRAWN = 8
 
 
 def page(report: CheckReport) -> Iterator[str]:
+    """The text of the file of --html, in pieces."""
     title = shown_text(report.head.trace)
     yield (
         f'<!DOCTYPE html>\n<html lang="en"><head><meta charset="utf-8">'
@@ -36,9 +37,11 @@ def page(report: CheckReport) -> Iterator[str]:
     groups = sorted(report.groups(), key=lambda group: group.accepted is not None)
     for group in groups:
         yield from entry_lines(report, group)
-    for line in ReportText(report).missing_lines():
+    for line in ReportText(report).not_found_lines():
         yield f'<p>{shown_text(line.strip())}</p>\n'
     yield from disk_section(report)
+    for line in report.not_done:
+        yield f'<p>{shown_text(line)}</p>\n'
     yield f'<h2>The states</h2>\n<p>{shown_text(report.counts.tried_text)}</p>\n'
     yield '<div id="states"></div><p id="shown"></p>\n'
     if report.counts.windows > len(report.drawings[:DRAWN]):
@@ -58,13 +61,11 @@ def shown_text(text: str) -> str:
 
 
 def about_line(report: CheckReport) -> str:
-    """The command, the versions and the date."""
-    states = (
-        'states by the second reading, in Python' if report.head.unproved else 'states by crashfs'
-    )
+    """The command, the versions and the date, as HTML."""
+    states = 'states by the Python implementation' if report.head.unproved else 'states by crashfs'
     parts = [
         f'COMMAND: {shlex.join(report.head.command)}',
-        version_of('crashfs-check'),
+        version_text('crashfs-check'),
         states,
         time.strftime('%Y-%m-%d %H:%M:%S UTC', time.gmtime()),
     ]
@@ -72,7 +73,8 @@ def about_line(report: CheckReport) -> str:
 
 
 def entry_lines(report: CheckReport, group: Group) -> Iterator[str]:
-    """A cause, what it says, the lines that the example lost, and what the command printed."""
+    """An entry as HTML: its cause, what the report says of it, its two lines of the trace, how
+    files differ, and what COMMAND printed."""
     states = ReportText.states_text(group)
     kind = '' if group.accepted is None else ' class="accepted"'
     yield f'<section{kind}><h2>{shown_text(group.cause)}</h2><p>{shown_text(states)}</p>\n<ul>\n'
@@ -106,7 +108,8 @@ def disk_section(report: CheckReport) -> Iterator[str]:
 
 
 def difference_lines(group: Group) -> Iterator[str]:
-    """How the example's files differ from those of the nearest good state."""
+    """How the files of an entry's example differ from those of the nearest good state, as HTML;
+    nothing if they weren't compared."""
     difference = group.difference
     if difference is None:
         return
@@ -126,7 +129,8 @@ def difference_lines(group: Group) -> Iterator[str]:
 
 
 def session_lines(report: CheckReport, groups: List[Group]) -> Iterator[str]:
-    """The session; of one in many windows the lines that are named, and those near them."""
+    """The rows of the session's table; of a session in many windows the lines that are named, and
+    those near them."""
     named = {line.number for group in groups for line in (group.lost, group.kept) if line}
     near = {number for one in named for number in range(one - NEAR, one + NEAR + 1)}
     for number, line in report.head.lines.items():
@@ -135,6 +139,7 @@ def session_lines(report: CheckReport, groups: List[Group]) -> Iterator[str]:
 
 
 def line_row(line: TraceLine, mark: str) -> str:
+    """A row of a table for a line of the trace; mark is a class of its style, or empty."""
     kind = 'sync' if line.word in SYNCS else line.word
     return (
         f'<tr class="{shown_text(kind)} {mark}"><td>{line.number}</td>'
@@ -143,6 +148,6 @@ def line_row(line: TraceLine, mark: str) -> str:
 
 
 def script_data(report: CheckReport) -> str:
-    """What the page's script draws, with no `<` that could end the script."""
+    """The drawings as a value of the page's script, without a `<` that could end the script."""
     shown = as_json(report.drawings[:DRAWN], **COMPACT)
     return shown.replace('<', '\\u003c')

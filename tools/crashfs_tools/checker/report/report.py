@@ -19,7 +19,7 @@ from crashfs_tools.checker.running.results import Head
 from crashfs_tools.checker.running.runner import BAD, NO_ANSWER, Outcome
 from crashfs_tools.checker.states.plan import State
 
-from .counts import AcceptedStates, StateCounts, accepted_states
+from .counts import StateCounts, states_of_accepted
 from .json_text import COMPACT, as_json, packed
 
 if TYPE_CHECKING:
@@ -30,23 +30,24 @@ if TYPE_CHECKING:
 
 NONE_FAILS, SOME_FAIL, NOT_ALL_TRIED = 0, 1, 3
 
-# A state, its outcome, and the profiles that allow it.
+# A state, its outcome, and the names of the profiles that allow it.
 StateRow = Tuple[State, Outcome, List[str]]
 
 
 class CheckReport:
-    """The findings of a check, window by window. With has_json it keeps all that the JSON has, and
-    with has_page the drawings of the page; otherwise little of each window."""
+    """The findings of a check, window by window. With has_json it keeps all that the JSON has, with
+    has_page the drawings of the page, and with has_states the outcome of each state; otherwise
+    little of each window. accept_list has the failures of --accept, if they are given."""
 
     def __init__(
         self,
         head: Head,
         has_json: bool = False,
         has_page: bool = False,
-        known: Optional[AcceptedFailures] = None,
+        accept_list: Optional[AcceptedFailures] = None,
     ) -> None:
         self.head = head
-        self.known = known
+        self.accept_list = accept_list
         self.has_states = False
         # How many runs of COMMAND were those of earlier checks.
         self.cached = 0
@@ -62,9 +63,11 @@ class CheckReport:
         self.drawings: List[Drawing] = []
         self.recoveries: List[Recovery] = []
         self.sightings: Optional[Sightings] = None
+        # Options that were given and not done, each with the reason.
+        self.not_done: List[str] = []
 
     def add(self, findings: Findings) -> None:
-        """Adds the findings of a window."""
+        """Adds the findings of a window; its drawing if it is the first or has failures."""
         self.counts.add(findings)
         self.profiles = findings.plan.profiles.names
         if self.has_states:
@@ -73,20 +76,17 @@ class CheckReport:
         self.unions.append(findings.union)
         if self.has_json:
             self.packed_windows.append(packed(as_json(findings.results.fields(), **COMPACT)))
-        self.add_drawing(findings)
-
-    def replace_last(self, findings: Findings) -> None:
-        """Takes what was added to the last window's findings."""
-        self.groups_of_windows[-1] = findings.groups
-        self.unions[-1] = findings.union
-        if self.has_json:
-            self.packed_windows[-1] = packed(as_json(findings.results.fields(), **COMPACT))
-
-    def add_drawing(self, findings: Findings) -> None:
         if self.has_page and (findings.groups or not self.drawings):
             from .drawing import drawing_of
 
             self.drawings.append(drawing_of(findings))
+
+    def replace_last(self, findings: Findings) -> None:
+        """Replaces what is kept of the last window's groups, to which something was added."""
+        self.groups_of_windows[-1] = findings.groups
+        self.unions[-1] = findings.union
+        if self.has_json:
+            self.packed_windows[-1] = packed(as_json(findings.results.fields(), **COMPACT))
 
     @property
     def seconds(self) -> float:
@@ -94,7 +94,8 @@ class CheckReport:
         return time.monotonic() - self.began
 
     def groups(self) -> List[Group]:
-        """The groups of all windows; those that agree are one. Known failures are marked."""
+        """Copies of the groups of all windows, the largest first; those that agree are one.
+        Accepted failures are marked."""
         found = merged_groups(
             replace(group, states=list(group.states), advice=replace(group.advice))
             for part in self.groups_of_windows
@@ -106,15 +107,19 @@ class CheckReport:
         return found
 
     def mark(self, group: Group) -> None:
-        """Marks a group that is a known failure. One without an answer never is."""
-        entry = self.known.of(group.as_known) if self.known and group.result == BAD else None
-        if self.known and entry is not None:
-            is_over = self.known.is_over(entry)
+        """Sets whether a group is an accepted failure, or one whose last day has passed. A group
+        without an answer never is."""
+        if self.accept_list is None or group.outcome.result != BAD:
+            return
+        entry = self.accept_list.entry_for(group.as_accepted)
+        if entry is not None:
+            is_over = self.accept_list.is_over(entry)
             group.accepted = None if is_over else entry
             group.expired = entry if is_over else None
 
     def recovery_groups(self) -> List[Tuple[Group, SecondCrash]]:
-        """The groups of second crashes, of all recoveries. Known failures are marked."""
+        """The groups of second crashes, of all recoveries, with the crashes of their examples.
+        Accepted failures are marked."""
         if not self.recoveries:
             return []
         from crashfs_tools.checker.findings.second_crashes import second_crash_entries
@@ -124,19 +129,16 @@ class CheckReport:
             self.mark(group)
         return found
 
-    def accepted(self) -> AcceptedStates:
-        """The failing states that all are of known failures."""
-        return accepted_states(self.groups())
-
-    def missing_failures(self) -> List[AcceptedFailure]:
-        """The known failures that no group is."""
-        if self.known is None:
+    def accepted_not_found(self) -> List[AcceptedFailure]:
+        """The accepted failures that no group is, those of second crashes included."""
+        if self.accept_list is None:
             return []
         groups = [*self.groups(), *(group for group, _ in self.recovery_groups())]
-        return self.known.not_among(group.as_known for group in groups)
+        return self.accept_list.entries_not_among(group.as_accepted for group in groups)
 
     def union(self) -> Optional[Union]:
-        """All advised syncs of all windows; None if a window didn't try its own."""
+        """All advised syncs of all windows with failures, and their results added up; None if there
+        are none, or a window's were not tried."""
         failing = zip(self.groups_of_windows, self.unions)
         unions = [union for groups, union in failing if groups]
         whole = [union for union in unions if union is not None]
@@ -153,23 +155,28 @@ class CheckReport:
 
     @property
     def status(self) -> int:
-        """The exit status; known failures don't count."""
+        """The exit status: 3 if a state has no answer, else 1 if something fails that isn't
+        accepted, else 3 if something is left, else 0."""
         if self.counts.results[NO_ANSWER]:
             return NOT_ALL_TRIED
         further = self.disk_failures()
-        failing = self.counts.failing - self.accepted().total
+        failing = self.counts.failing - states_of_accepted(self.groups()).total
         second = any(group.accepted is None for group, _ in self.recovery_groups())
         if failing or further or second:
             return SOME_FAIL
+        return NONE_FAILS if self.is_whole else NOT_ALL_TRIED
+
+    @property
+    def is_whole(self) -> bool:
+        """Whether all was tried that should have been."""
         is_whole = not self.counts.left and not self.head.stopped
-        is_whole = is_whole and not any(one.fault for one in self.recoveries)
-        return NONE_FAILS if is_whole else NOT_ALL_TRIED
+        return is_whole and not any(one.fault for one in self.recoveries)
 
 
 def rows_of(findings: Findings) -> List[StateRow]:
     """The states of a window that have an outcome, without those that the window before has."""
     return [
-        (state, findings.by_state[state.number], findings.plan.profiles_of(state))
+        (state, findings.by_state[state.number], findings.plan.profile_names_of(state))
         for state in findings.results.own
         if state.number in findings.by_state
     ]

@@ -1,9 +1,13 @@
-"""The first line of a report: what was checked, and the verdict."""
+"""What a report says of its counts: what was checked and the verdict, in its first line; and in its
+last lines the rest, if not all crash states could be tried."""
 
 from __future__ import annotations
 
-from typing import List
+import math
+from typing import Iterator, List
 
+from crashfs_tools.checker.findings.wording import fails
+from crashfs_tools.checker.running.progress import duration_text
 from crashfs_tools.checker.running.results import Head
 from crashfs_tools.checker.running.runner import NO_ANSWER
 from crashfs_tools.common.printable import printable
@@ -12,20 +16,23 @@ from .counts import AcceptedStates, StateCounts
 
 # So many words of causes are counted.
 SHOWN_WORDS = 5
+CONFIDENCE = 0.95
 
 
 class Summary:
-    """The line for what was counted of a check; accepted are the states of known failures."""
+    """The first line of a report, for what was counted of a check; accepted are the states of
+    accepted failures."""
 
     def __init__(self, head: Head, counts: StateCounts, accepted: AcceptedStates) -> None:
         self.head = head
         self.counts = counts
         self.accepted = accepted
         self.failing = counts.failing - accepted.total
-        self.is_whole = counts.is_whole(head)
+        self.is_whole = counts.has_tried_all(head)
 
     @property
     def line(self) -> str:
+        """What was checked, how many states there are, and the verdict."""
         counts, trace = self.counts, printable(self.head.trace)
         if not counts.windows:
             return f'{trace}: nothing was tried{self.stop_text}'
@@ -37,6 +44,7 @@ class Summary:
 
     @property
     def stop_text(self) -> str:
+        """What stopped the check, in brackets; an empty text if nothing did."""
         return f' (stopped by {self.head.stopped})' if self.head.stopped else ''
 
     @property
@@ -57,7 +65,8 @@ class Summary:
 
     @property
     def verdict(self) -> str:
-        """How many fail; `none fails` is only said of a whole check."""
+        """How many states fail, gave no answer or were not tried; `none fails` is only said of a
+        whole check."""
         counts = self.counts
         if not counts.tried:
             return f'nothing was tried{self.stop_text}'
@@ -70,7 +79,7 @@ class Summary:
 
     @property
     def accepted_text(self) -> List[str]:
-        """How many states are of known failures; nothing if none is."""
+        """How many states are of accepted failures, in a part of the verdict; none if none is."""
         count = self.accepted.total
         if not count:
             return []
@@ -81,7 +90,8 @@ class Summary:
 
     @property
     def failing_text(self) -> List[str]:
-        """How many fail, apart from known failures; nothing if there are only these."""
+        """How many fail, apart from accepted failures, in a part of the verdict; none if there are
+        only these."""
         counts = self.counts
         if not self.failing:
             return [] if self.accepted.total else [self.none_text]
@@ -96,24 +106,62 @@ class Summary:
 
     @property
     def none_text(self) -> str:
+        """That no state fails; if not all were tried, that none of the tried ones does."""
         if self.counts.is_part:
             return 'none of these fails'
         return 'none fails' if self.is_whole else f'none{self.of_tried} fails'
 
     @property
     def of_tried(self) -> str:
+        """The words ` of the N tried`, with the shard if there are several."""
         shard = self.head.shard
         by_shard = f' by shard {shard.part}/{shard.parts}' if shard.parts > 1 else ''
         return f' of the {self.counts.tried:,} tried{by_shard}'
 
     @property
     def left_text(self) -> str:
-        """What was not tried."""
+        """How many states were not tried, and which further ones."""
         counts, rest = self.counts, ''
         if self.head.has_rest:
             rest = f'all states after micro-operation {counts.operations - 1:,}'
         return ' and '.join(filter(None, [f'{counts.left:,}' if counts.left else '', rest]))
 
 
-def fails(count: int) -> str:
-    return 'fails' if count == 1 else 'fail'
+def rest_lines(counts: StateCounts) -> Iterator[str]:
+    """The last lines of a report: what was drawn at random, and how long all would take, by which
+    option; none if all crash states were tried, or weren't asked for."""
+    if not counts.is_part:
+        return
+    if counts.drawn and len(counts.every) == 1 and not counts.profile:
+        yield drawn_text(counts)
+    most = max((one.most for one in counts.every if one is not None), default=0)
+    if counts.has_every:
+        yield f'all {counts.different:,}{time_text(counts, counts.different)}: --every'
+        return
+    yield f'all are more than {most:,}{time_text(counts, most, "more than ")}: --every N'
+
+
+def time_text(counts: StateCounts, states: int, at_least: str = '') -> str:
+    """How long so many states take, after a comma; an empty text if that isn't known."""
+    seconds = counts.seconds * states
+    return f', and would take {at_least}about {duration_text(seconds)}' if seconds else ''
+
+
+def drawn_text(counts: StateCounts) -> str:
+    """How many of the sets that were drawn at random fail; if none does, how few of all sets
+    can."""
+    drawn, fail = len(counts.drawn), sum(counts.drawn)
+    if fail:
+        return f'{fail:,} of {drawn:,} drawn at random {fails(fail)}'
+    sets = f'{counts.sets:,} sets' if counts.sets is not None else 'sets'
+    share = shown_share(1 - (1 - CONFIDENCE) ** (1 / drawn))
+    return (
+        f'{drawn:,} drawn at random, none fails: with {CONFIDENCE:.0%} confidence fewer than '
+        f'{share} of the {sets} do'
+    ).replace('%', ' %')
+
+
+def shown_share(share: float) -> str:
+    """A share, from 0 to 1, as a percentage with two digits that count, rounded up."""
+    digits = 1 - math.floor(math.log10(share * 100))
+    return f'{math.ceil(share * 100 * 10**digits) / 10**digits:.{max(0, digits)}f}%'

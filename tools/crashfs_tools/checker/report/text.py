@@ -6,14 +6,14 @@ from typing import TYPE_CHECKING, Iterable, List, Optional
 
 from crashfs_tools.checker.findings.groups import Group
 from crashfs_tools.checker.findings.accepted_failures import AcceptedFailure
+from crashfs_tools.checker.findings.wording import fails, joined_by, number_of
 from crashfs_tools.common.printable import printable
 from crashfs_tools.common.program import can_be_built
 from crashfs_tools.common.trace_lines import TraceLine
 
-from .profiles import profiles_text
+from .counts import states_of_accepted
 from .report import CheckReport
-from .rest import rest_lines
-from .summary import Summary
+from .summary import Summary, rest_lines
 
 if TYPE_CHECKING:
     from crashfs_tools.checker.findings.second_crashes import SecondCrash
@@ -23,16 +23,19 @@ SHOWN_GROUPS = 20
 SHOWN_LINES = 3
 WIDTH = 100
 CAUSE_WIDTH = 52
-UNPROVED = 'unproved: a Python program computed these states, not crashfs'
+UNPROVED = 'unproved: the Python implementation computed these states, not crashfs'
 VERSION_UNPROVED = (
-    'unproved: a Python program computed these states, as crashfs takes no traces of version {} yet'
+    'unproved: the Python implementation computed these states, as crashfs takes no traces of '
+    'version {} yet'
 )
-SETS_UNPROVED = 'unproved: a Python program found which states there are, not crashfs'
+SETS_UNPROVED = 'unproved: the Python implementation found which states there are, not crashfs'
 HOW_TO_BUILD = ' (tools/build builds crashfs)'
+# File systems that keep to a profile, as far as was seen (docs/DISKS.md).
+SEEN = {'journal': 'ext4, XFS'}
 
 
 class ReportText:
-    """The lines of a report."""
+    """The lines of a report, and those of its parts for the page, for JUnit and for TAP."""
 
     def __init__(self, report: CheckReport) -> None:
         self.report = report
@@ -40,7 +43,8 @@ class ReportText:
         self.counts = report.counts
 
     def lines(self) -> List[str]:
-        """None but the first is longer than WIDTH: the JSON has all of it."""
+        """The whole report. No line but those of first_lines() is longer than WIDTH: the JSON has
+        all of it."""
         groups = self.report.groups()
         accepted = [group for group in groups if group.accepted is not None]
         # What the syncs of accepted entries remove has no others above it.
@@ -52,17 +56,18 @@ class ReportText:
                 *self.entry_lines(shown),
                 *self.union_lines(shown, covered),
                 *self.accepted_lines(accepted),
-                *self.missing_lines(),
+                *self.not_found_lines(),
                 *self.cut_off_lines(),
                 *self.recovery_lines(),
                 *self.disk_lines(),
+                *folded(self.report.not_done, '  '),
                 *folded(rest_lines(self.counts), '  '),
                 *self.cache_lines(),
             ]
         ]
 
     def entry_lines(self, shown: List[Group]) -> List[str]:
-        """The largest entries, and how many more there are."""
+        """The lines of the first SHOWN_GROUPS entries, and how many more there are."""
         lines = [line for group in shown[:SHOWN_GROUPS] for line in self.group_lines(group)]
         others = shown[SHOWN_GROUPS:]
         if others:
@@ -72,7 +77,7 @@ class ReportText:
         return lines
 
     def accepted_lines(self, accepted: List[Group]) -> List[str]:
-        """The known failures that were found, with their reasons."""
+        """The accepted failures that were found, with their reasons."""
         lines: List[str] = []
         for group in accepted[:SHOWN_GROUPS]:
             assert group.accepted is not None
@@ -82,17 +87,18 @@ class ReportText:
         more = len(accepted) - SHOWN_GROUPS
         return lines + ([f'  and {more:,} more that are accepted'] if more > 0 else [])
 
-    def missing_lines(self) -> List[str]:
-        """The known failures that were not found. They are gone if all crash states were tried."""
+    def not_found_lines(self) -> List[str]:
+        """The accepted failures that were not found: they are gone if all crash states were tried,
+        else not seen."""
         counts = self.counts
-        is_all = counts.has_every and not counts.is_part and counts.is_whole(self.head)
+        is_all = counts.has_every and not counts.is_part and counts.has_tried_all(self.head)
         how = 'gone' if is_all else 'not seen'
-        missing = self.report.missing_failures()
-        return folded((f'accepted, and {how}: {entry.name}' for entry in missing), '  ')
+        not_found = self.report.accepted_not_found()
+        return folded((f'accepted, and {how}: {entry.name}' for entry in not_found), '  ')
 
     def summary(self) -> str:
         """The first line: what was checked, and the verdict."""
-        return Summary(self.head, self.counts, self.report.accepted()).line
+        return Summary(self.head, self.counts, states_of_accepted(self.report.groups())).line
 
     def union_lines(self, shown: List[Group], covered: List[Group]) -> List[str]:
         """The result of all advised syncs at once, and the entries that need no other syncs."""
@@ -117,6 +123,7 @@ class ReportText:
         return lines
 
     def first_lines(self) -> List[str]:
+        """The summary, after a line that says what isn't proved, if something isn't."""
         how = HOW_TO_BUILD if can_be_built() else ''
         if self.head.refused_version:
             return [VERSION_UNPROVED.format(self.head.refused_version), self.summary()]
@@ -125,12 +132,13 @@ class ReportText:
         return [SETS_UNPROVED, self.summary()] if self.counts.are_read else [self.summary()]
 
     def cache_lines(self) -> List[str]:
-        """How much of the report is from earlier checks."""
+        """A line that counts the outcomes from earlier checks; none if there is none."""
         count = self.report.cached
         return [f'  {number_of(count, "outcome")} from earlier checks (--cache)'] if count else []
 
     def cut_off_lines(self) -> List[str]:
-        """Lines that were still pending where their last window ended."""
+        """A line for the lines that were still pending where their last window ended; none if none
+        was."""
         if not self.head.cut_off:
             return []
         number, tried = self.head.cut_off[0]
@@ -147,24 +155,26 @@ class ReportText:
             return []
         tried = [one for one in self.report.recoveries if not one.fault]
         failing = sum(one.failing for one in tried)
-        fails = f'{failing:,} fail{"s" if failing == 1 else ""}' if failing else 'none fails'
+        how_many = f'{failing:,} {fails(failing)}' if failing else 'none fails'
         states = number_of(sum(one.states for one in tried), 'different state')
-        lines = [
-            f'  {number_of(len(tried), "recovery")}: {states} of a second crash, {fails}'.replace(
-                'recoverys', 'recoveries'
-            )
-        ]
+        recoveries = number_of(len(tried), 'recovery', 'recoveries')
+        lines = [f'  {recoveries}: {states} of a second crash, {how_many}']
         unproved = sum(one.unproved for one in tried)
         if unproved and not self.head.unproved:
-            lines.append(f'  unproved: a Python program computed the states of {unproved} of these')
+            lines.append(
+                f'  unproved: the Python implementation computed the states of {unproved} of these'
+            )
         for group, where in self.report.recovery_groups():
             lines += self.group_lines(group, where)
-        lines += [
+        return lines + self.not_tried_lines()
+
+    def not_tried_lines(self) -> List[str]:
+        """The recoveries in which no second crash was tried, each with the reason."""
+        return [
             f'  the recovery of state {one.state} was not tried: {one.fault}'
             for one in self.report.recoveries
             if one.fault
         ]
-        return lines
 
     def disk_lines(self) -> List[str]:
         """What was seen on real disks, and the failures there that no tried state has."""
@@ -179,33 +189,41 @@ class ReportText:
         return lines
 
     def group_lines(self, group: Group, second: Optional[SecondCrash] = None) -> List[str]:
-        """The lines of an entry. second says where the second crash was, if there was one."""
+        """The lines of an entry. second has the crashes of its example, if there were two."""
         states = self.states_text(group, f'{second.state}/' if second else '')
         cause = cut(printable(group.cause), max(CAUSE_WIDTH, WIDTH - len(states) - 3))
         lines = [f'  {cause:<{CAUSE_WIDTH}} {states}']
-        details = self.details(group)
-        if second is not None:
-            details = [f'state {second.state}, then a crash {second.place}', *group.advice.lines()]
-        return lines + folded(details, '    ')
+        if second is None:
+            return lines + folded(self.details(group), '    ')
+        return lines + folded(self.second_crash_details(group, second), '    ')
+
+    @staticmethod
+    def second_crash_details(group: Group, second: SecondCrash) -> List[str]:
+        """The lines below the cause of an entry of second crashes."""
+        crashes = f'state {second.state}, then a crash {second.place}'
+        return [crashes, *group.advice.lines()]
 
     def sentences(self, group: Group) -> List[str]:
         """Which lines of the trace an entry is about, without what to do."""
-        return [line.rstrip(':') for line in [*group.advice.text, *self.needed(group)]]
+        return [line.rstrip(':') for line in [*group.advice.text, *self.needed_lines(group)]]
 
-    def needed(self, group: Group) -> List[str]:
-        """What must be lost too."""
+    def needed_lines(self, group: Group) -> List[str]:
+        """What must be lost too for the example to fail; none if nothing must."""
         lines = ', '.join(map(self.shown_line, group.needed_lines))
         return [f'it fails only if this is lost too: {lines}'] if lines else []
 
     @staticmethod
     def states_text(group: Group, first: str = '') -> str:
+        """How many states an entry has, and its example. first comes before the example's number:
+        for a second crash the first one's state and a slash."""
         example = f'--state {first}{group.example.number}'
         if group.count == 1:
             return f'1 state: {example}'
         return f'{group.count:,} states, e.g. {example}'
 
     def details(self, group: Group) -> List[str]:
-        """The sentence, what was tried, and what else the example lacks."""
+        """The lines below an entry's cause: the sentence, what was tried, and what else the example
+        lacks."""
         notes = {line.number: line.note for line in (group.lost, group.kept) if line and line.note}
         lines = [f'line {number}: {note}' for number, note in sorted(notes.items())]
         if group.expired is not None:
@@ -215,7 +233,7 @@ class ReportText:
         lines += group.advice.lines()
         for sync in group.other_syncs[:SHOWN_LINES] if group.advice.syncs else []:
             lines.append(f'line {sync.number} is {sync.text}, which is not enough')
-        lines += self.needed(group)
+        lines += self.needed_lines(group)
         if 0 < len(group.explained) < group.count:
             lines.append(
                 f'{len(group.explained):,} of these states lack the first of the two lines and '
@@ -235,12 +253,36 @@ class ReportText:
         return lines
 
     def shown_line(self, number: int) -> str:
+        """A line of the trace, by its number, in words."""
         line = self.head.lines.get(number, TraceLine(number, ''))
         return f'line {number} ({line.text})'
 
 
+def profiles_text(group: Group, are_all: bool) -> str:
+    """The profiles that allow states of an entry, with how many if not all, and those that allow
+    none. are_all says whether all sets that leave the states were looked at."""
+    counts = {name: len(states) for name, states in group.under.items()}
+    is_same = all(count in (0, group.count) for count in counts.values())
+    allow = [
+        shown_profile(name) if is_same else f'{shown_profile(name)}: {count:,}'
+        for name, count in counts.items()
+        if count
+    ]
+    others = [shown_profile(name) for name, count in counts.items() if not count]
+    if not others:
+        return f'under {joined_by("and", allow)}'
+    how = '' if are_all else 'by the sets that were tried '
+    return f'under {joined_by("and", allow)}; {how}not under {joined_by("or", others)}'
+
+
+def shown_profile(name: str) -> str:
+    """A profile's name, with the file systems that were seen to keep to it."""
+    return f'{name} ({SEEN[name]})' if name in SEEN else name
+
+
 def folded(lines: Iterable[str], indent: str) -> List[str]:
-    """Lines, folded where they are too long."""
+    """Lines with an indent, printable, and wrapped at WIDTH; further lines of one have a larger
+    indent."""
     from textwrap import wrap
 
     return [
@@ -258,13 +300,10 @@ def folded(lines: Iterable[str], indent: str) -> List[str]:
 
 
 def accepted_text(entry: AcceptedFailure) -> str:
-    """Until when a known failure is accepted, and why."""
+    """Until when a failure is accepted, and why."""
     return f'until {entry.until}: {entry.why}' if entry.until else entry.why
 
 
-def number_of(count: int, noun: str) -> str:
-    return f'{count:,} {noun}' if count == 1 else f'{count:,} {noun}s'
-
-
 def cut(text: str, width: int = WIDTH) -> str:
+    """A text of at most `width` letters: the end of a longer one becomes two points."""
     return text if len(text) <= width else text[: width - 2] + '..'

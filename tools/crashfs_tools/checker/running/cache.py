@@ -30,7 +30,8 @@ Digests = Dict[str, str]
 
 
 class OutcomeCache:
-    """The outcomes of one COMMAND in a directory. name is that of the file that has them."""
+    """The outcomes of one COMMAND in a directory, by keys of states; name is a part of the name of
+    the file that has them. hits counts those of earlier checks that were used, each once."""
 
     def __init__(self, folder: str, name: str) -> None:
         self.path = os.path.join(folder, f'outcomes-{name}.json')
@@ -39,12 +40,13 @@ class OutcomeCache:
         self.hits = 0
 
     def outcome(self, key: str) -> Optional[Outcome]:
-        """What COMMAND made of a state before; None if that isn't known."""
+        """What COMMAND made of the state with a key, now or in an earlier check; None if that isn't
+        known. Keeps the outcome for later checks, and counts a hit if it is of an earlier one."""
         found = self.used.get(key) or self.earlier.get(key)
         if found is None or len(found) != 3 or found[0] not in (GOOD, BAD):
             return None
+        self.hits += key not in self.used
         self.used[key] = found
-        self.hits += 1
         return Outcome(*found)
 
     def add(self, key: str, outcome: Outcome) -> None:
@@ -52,13 +54,14 @@ class OutcomeCache:
         if outcome.result in (GOOD, BAD):
             self.used[key] = list(outcome)
 
-    def forget(self, key: str) -> None:
-        """Drops an outcome that another run didn't confirm."""
+    def drop(self, key: str) -> None:
+        """Drops an outcome that another run didn't confirm, if there is one."""
         self.used.pop(key, None)
         self.earlier.pop(key, None)
 
     def save(self) -> None:
-        """Writes all outcomes, those of this check last."""
+        """Writes the outcomes, those of this check last; of more than MOST_OUTCOMES the oldest ones
+        are dropped. An OSError if they can't be written."""
         kept = {key: one for key, one in self.earlier.items() if key not in self.used}
         room = max(0, MOST_OUTCOMES - len(self.used))
         oldest = dict(list(kept.items())[len(kept) - min(room, len(kept)) :])
@@ -66,9 +69,11 @@ class OutcomeCache:
 
 
 class StateKeys:
-    """Equal for states that have equal files and equal lines, of whatever trace."""
+    """Keys for the states of a plan: equal for states that have equal files and equal lines, of
+    whatever trace."""
 
     def __init__(self, trace: str, plan: Plan, lines: List[str]) -> None:
+        """trace is the path of the plan's trace, and lines are the session's acknowledged ones."""
         with open(trace, 'rb') as file:
             self.reading = read(file.read())
         self.states = States(self.reading)
@@ -76,7 +81,7 @@ class StateKeys:
         self.lines = lines
 
     def key(self, number: int, attempt: int) -> str:
-        """That of a state, for COMMAND's first run in it or a further one."""
+        """The key of a state, for COMMAND's first run in it (attempt 0) or a further one."""
         state = self.plan.state(number)
         tree = self.states.digest(self.plan.kept[number])
         lines = self.lines[: state.says]
@@ -85,7 +90,8 @@ class StateKeys:
 
 
 def open_folder(path: str) -> str:
-    """The directory of a cache, which is made if it isn't there; Refused if others may write it."""
+    """The path of a cache's directory, which is made if it isn't there; Refused if others may write
+    it."""
     try:
         os.makedirs(path, mode=0o700, exist_ok=True)
         status = os.stat(path)
@@ -99,7 +105,7 @@ def open_folder(path: str) -> str:
 
 
 def read_checked(path: str) -> Dict[str, Any]:
-    """What write_checked wrote; nothing if that isn't whole, or may not be ours."""
+    """The values that write_checked wrote; none if the file isn't whole, or may not be ours."""
     try:
         with open(os.open(path, os.O_RDONLY | os.O_NOFOLLOW | os.O_CLOEXEC), 'rb') as file:
             status = os.fstat(file.fileno())
@@ -116,7 +122,7 @@ def read_checked(path: str) -> Dict[str, Any]:
 
 
 def write_checked(path: str, values: Dict[str, Any]) -> None:
-    """Replaces a file, which is durable afterwards: first the digest of the rest."""
+    """Replaces a file by values, durably. Its first line is the digest of the rest."""
     content = json.dumps({'format': FORMAT, 'values': values})
     digest = hashlib.sha256(content.encode()).hexdigest()
     write_whole(path, [digest, '\n', content], OWN_MODE)

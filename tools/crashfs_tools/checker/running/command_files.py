@@ -8,30 +8,33 @@ import os
 import re
 import shutil
 import tempfile
-from typing import Callable, Dict, Iterable, Iterator, List, Set
+from typing import Callable, Dict, Iterable, Iterator, List, Set, Tuple
 
-from crashfs_tools.common.command import Refused
-from crashfs_tools.common.version import version_of
+from crashfs_tools.common.command import Refused, version_text
 
 from .cache import read_checked, write_checked
+from .runner import NO_ANSWER, Outcome
 
 # A call that opens a file or starts a program, with the path.
 OPENED = re.compile(r'(?:open|openat|openat2|execve|execveat)\((?:[^"]*, )?"([^"]+)"')
 CALLS = 'trace=open,openat,openat2,execve,execveat'
+# What strace prints when a process, with this number, has ended by itself.
+EXITED = re.compile(r'(\d+) +\+\+\+ exited with \d+ \+\+\+')
 # What the kernel shows in these directories differs from run to run.
 LEFT_OUT = ('/proc/', '/sys/')
 
 # The compiled form of a module of Python, by whose source it is known.
 COMPILED = re.compile(r'(.*)/__pycache__/([^/.]+)\.[^/]*pyc$')
 
-# Runs words in the place of COMMAND in a state, by its number; returns its directory.
-RunInState = Callable[[List[str], int], str]
+# Runs words in the place of COMMAND in a state, by its number; returns the outcome, and the path of
+# the state's directory.
+RunInState = Callable[[List[str], int], Tuple[Outcome, str]]
 
 
 def command_name(folder: str, words: List[str], states: List[int], run: RunInState) -> str:
-    """Equal for commands that have equal words and open equal files. The files are those that
-    strace showed in some states when COMMAND was first run with this cache; they are looked for
-    again if one of them has changed."""
+    """A name for a command: equal for commands with equal words that open equal files. The list of
+    files is kept in a cache's folder: it is made by runs under strace in some states, by their
+    numbers, and made again if one of the files has changed. Refused as opened_files is."""
     path = os.path.join(folder, f'command-{digest_of_text(json.dumps(words))}.json')
     known: Dict[str, str] = read_checked(path)
     if not known or any(digest_of_file(name) != digest for name, digest in known.items()):
@@ -39,17 +42,23 @@ def command_name(folder: str, words: List[str], states: List[int], run: RunInSta
         opened = none.union(*(opened_files(words, state, run) for state in states))
         known = {name: digest_of_file(name) for name in sorted(opened)}
         write_checked(path, known)
-    return digest_of_text(json.dumps([version_of(''), words, sorted(known.items())]))
+    return digest_of_text(json.dumps([version_text(''), words, sorted(known.items())]))
 
 
 def opened_files(words: List[str], state: int, run: RunInState) -> Set[str]:
-    """The files that COMMAND opens in a state, or finds missing, but for those of the state."""
+    """The paths of the files that a command opens in a state, or finds missing, but for those of
+    the state. Refused if there is no strace, or it shows none, or the command was ended: what it
+    would have opened later isn't known."""
     strace = shutil.which('strace')
     if strace is None:
         raise Refused('--cache needs strace, which shows the files that COMMAND opens')
     with tempfile.NamedTemporaryFile('r', encoding='utf-8', errors='surrogateescape') as log:
-        directory = run([strace, '-f', '-qq', '-e', CALLS, '-o', log.name, '--', *words], state)
-        found = set(opened_paths(log))
+        line = [strace, '-f', '-q', '-e', CALLS, '-o', log.name, '--', *words]
+        outcome, directory = run(line, state)
+        lines = list(log)
+    if outcome.result == NO_ANSWER and not has_exited(lines):
+        raise Refused(f'--cache: COMMAND gave no answer under strace: {outcome.cause}')
+    found = set(opened_paths(lines))
     if not found:
         raise Refused('--cache: strace shows no file that COMMAND opens; may it trace here?')
     left_out = (f'{os.path.realpath(directory)}/', *LEFT_OUT)
@@ -57,9 +66,16 @@ def opened_files(words: List[str], state: int, run: RunInState) -> Set[str]:
     return {path for path in files if not path.startswith(left_out)}
 
 
+def has_exited(lines: List[str]) -> bool:
+    """Whether the first process of a log of strace ended by itself. strace itself runs on while
+    others do, which the first has left."""
+    ended = {match[1] for match in map(EXITED.match, lines) if match}
+    return bool(lines) and lines[0].split(' ', 1)[0] in ended
+
+
 def opened_paths(lines: Iterable[str]) -> Iterator[str]:
-    """The real paths of a log. Relative ones are of a state, what is only written is no input, and
-    Python looks at a module's source to see whether its compiled form is older."""
+    """The real paths that a log of strace has. Relative ones are of a state, what is only written
+    is no input, and Python looks at a module's source to see whether its compiled form is older."""
     for line in lines:
         match = OPENED.search(line)
         if match is not None and os.path.isabs(match[1]) and 'O_WRONLY' not in line:
@@ -70,7 +86,7 @@ def opened_paths(lines: Iterable[str]) -> Iterator[str]:
 
 
 def digest_of_file(path: str) -> str:
-    """The digest of a file's bytes; nothing if it can't be read."""
+    """The digest of a file's bytes; an empty text if it can't be read."""
     try:
         with open(path, 'rb') as file:
             return hashlib.sha256(file.read()).hexdigest()
@@ -79,4 +95,5 @@ def digest_of_file(path: str) -> str:
 
 
 def digest_of_text(text: str) -> str:
+    """The first 160 bits of a text's digest: short enough for a file's name."""
     return hashlib.sha256(text.encode('utf-8', 'surrogateescape')).hexdigest()[:40]

@@ -6,7 +6,7 @@ from __future__ import annotations
 import os
 from typing import Dict, List, Optional
 
-from crashfs_tools.checker.states.plan import Planned, State, Trial
+from crashfs_tools.checker.states.plan import Planned, State
 from crashfs_tools.common.command import Refused, relative_arguments
 
 from .results import Results
@@ -15,26 +15,27 @@ from .trials import Trials
 
 
 class FirstTrials:
-    """Tries the two trees; end is a plan of the tree at the end, if the first window hasn't it."""
+    """Tries the tree at the session's end and the start tree, and adds to the results the outcomes
+    of those that are tried anyway. end is a plan of the tree at the session's end, if the plan of
+    the trials doesn't have it."""
 
     def __init__(self, trials: Trials, results: Results, end: Optional[Planned] = None) -> None:
         self.trials = trials
         self.results = results
         self.end = end
-
-    @property
-    def is_command(self) -> bool:
-        return self.trials.options.function is None
+        # Whether a command is tried, not a function.
+        self.is_command = trials.options.function is None
 
     def run(self) -> None:
-        """Refused if COMMAND fails in one. An outcome is kept if its state will be tried."""
+        """Tries the two trees. Refused if COMMAND fails in one of them. An outcome is added to the
+        results if its state is one of those that are tried anyway."""
         prefixes = [state for state in self.trials.plan.states if state.family == 'prefix']
         if self.end is None:
             self.try_state(prefixes[-1], "the tree at the session's end")
         else:
             state = self.end.plan.listed[0]
-            outcome = self.trials.with_plan(self.end).try_one(state)
-            self.judge(
+            outcome = Trials(self.trials.workplace, self.end).try_one(state)
+            self.refuse_bad(
                 outcome,
                 f"the tree at the session's end, where nothing is lost (says {state.says})",
                 [],
@@ -42,22 +43,26 @@ class FirstTrials:
         self.try_state(prefixes[0], 'the start tree')
 
     def try_state(self, state: State, tree: str) -> None:
-        number = self.results.first_of[Trial(state.same, state.says)]
+        """Tries a state, unless the results have its outcome; `tree` says in words what it has.
+        Refused if COMMAND fails in it."""
+        number = self.results.tried_for[state.trial]
         outcomes: Dict[int, Outcome] = self.results.outcomes
         first = self.trials.plan.state(number)
         outcome = outcomes.get(number) or self.trials.try_one(first)
-        if number in self.trials.wanted(self.results):
+        if number in self.trials.wanted_states(self.results):
             outcomes[number] = outcome
         look = [f'inspect it with --state {number}'] if self.is_command else []
         if outcome.result == BAD and state.numbers[0] == 0 and self.trials.tree(number):
             look.insert(
                 0, 'did the directory have files of an earlier session when it was recorded?'
             )
-        self.judge(
+        self.refuse_bad(
             outcome, f'{tree}, where nothing is lost (state {number}, says {state.says})', look
         )
 
-    def judge(self, outcome: Outcome, tree: str, more: List[str]) -> None:
+    def refuse_bad(self, outcome: Outcome, tree: str, more: List[str]) -> None:
+        """Refused if an outcome is BAD: tree says in which tree, more what else to look at. No
+        answer is no verdict, and passes."""
         if outcome.result == BAD:
             name = 'COMMAND' if self.is_command else 'the recovery'
             raise Refused(
@@ -67,7 +72,7 @@ class FirstTrials:
             )
 
     def hints(self, cause: str) -> List[str]:
-        """What to look at."""
+        """What to look at if COMMAND fails with a cause."""
         if not self.is_command:
             return ['does it expect more than the session did, or files of another place?']
         relative = relative_arguments(self.trials.options.command)

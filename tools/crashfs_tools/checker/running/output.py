@@ -10,7 +10,8 @@ MOST_BYTES = 16 << 20
 
 
 class Output:
-    """Pass `writing` to the command, and close it here."""
+    """A pipe for what one run prints. Pass `writing` to the command, and close it here; `reading`
+    can be polled. end has the last bytes, and count is how many there were."""
 
     def __init__(self) -> None:
         self.reading, self.writing = os.pipe2(os.O_CLOEXEC)
@@ -19,14 +20,15 @@ class Output:
         self.count = 0
 
     def read(self) -> bool:
-        """Takes some of what is printed; returns False if nothing more will come."""
+        """Reads a piece of what is printed into `end`; returns False at the end of the pipe.
+        BlockingIOError if nothing is there yet."""
         piece = os.read(self.reading, TAIL_BYTES)
         self.count += len(piece)
         self.end = (self.end + piece)[-TAIL_BYTES:]
         return bool(piece)
 
-    def tail(self) -> bytes:
-        """The last bytes of all that is printed by now."""
+    def read_tail(self) -> bytes:
+        """Reads all that is printed by now, up to a flood; returns the last TAIL_BYTES bytes."""
         try:
             while self.count <= MOST_BYTES and self.read():
                 pass
@@ -36,13 +38,16 @@ class Output:
 
     @property
     def is_flood(self) -> bool:
+        """Whether more is printed than any recovery has to say."""
         return self.count > MOST_BYTES
 
     def close_writing(self) -> None:
+        """Closes this process's end for writing, if it is open: then reading ends."""
         if self.writing >= 0:
             os.close(self.writing)
             self.writing = -1
 
     def close(self) -> None:
+        """Closes both ends."""
         self.close_writing()
         os.close(self.reading)

@@ -1,4 +1,5 @@
-"""How far a check is: a line on a terminal, else one every half a minute."""
+"""How far a check is: a line on a terminal, else one every half a minute. And how long its states
+take: whether all of them can be tried."""
 
 from __future__ import annotations
 
@@ -13,11 +14,13 @@ from .runner import BAD, Outcome
 EVERY_SECONDS = 30.0
 TERMINAL_SECONDS = 0.1
 UNITS = ((3600, 'hour'), (60, 'minute'), (1, 'second'))
+# So many states tell how long all will take.
+MEASURED = 100
 
 
 class Progress:
-    """Counts the states of one part of a check after the other; the time of the last line goes on
-    through all of them."""
+    """Shows how many states of one part of a check after the other were tried. The pause between
+    two lines goes on from part to part. Without a stream nothing is shown."""
 
     def __init__(
         self, stream: Optional[TextIO] = sys.stderr, clock: Callable[[], float] = time.monotonic
@@ -25,49 +28,86 @@ class Progress:
         self.stream = stream
         self.clock = clock
         self.reported = clock()
-        self.terminal = stream is not None and stream.isatty()
-        self.begin(0)
+        self.is_terminal = stream is not None and stream.isatty()
+        self.begin_part(0)
 
-    def begin(self, total: int, part: str = '') -> None:
+    def begin_part(self, total: int, name: str = '') -> None:
+        """Begins a part of so many states; its name comes first in its lines."""
         self.total = total
-        self.part = part
+        self.name = name
         self.tried = self.failed = 0
         self.begun = self.clock()
 
-    def step(self, outcome: Outcome) -> None:
+    def add_outcome(self, outcome: Outcome) -> None:
+        """Counts one more state of the part, and prints a line if it is time."""
         self.tried += 1
         self.failed += outcome.result == BAD
         if self.stream is None:
             return
-        if self.terminal and self.clock() - self.reported >= TERMINAL_SECONDS:
+        if self.is_terminal and self.clock() - self.reported >= TERMINAL_SECONDS:
             self.reported = self.clock()
-            print(f'\r{self.line()}\033[K', end='', file=self.stream, flush=True)
-        elif not self.terminal and self.clock() - self.reported >= EVERY_SECONDS:
+            print(f'\r{self.progress_text()}\033[K', end='', file=self.stream, flush=True)
+        elif not self.is_terminal and self.clock() - self.reported >= EVERY_SECONDS:
             self.reported = self.clock()
-            print(f'{NAME}: {self.line()}', file=self.stream, flush=True)
+            print(f'{NAME}: {self.progress_text()}', file=self.stream, flush=True)
 
-    def line(self) -> str:
-        """The estimate takes the states that are left for as slow as those that were tried."""
+    def progress_text(self) -> str:
+        """How far the part is, as a line shows it. The states that are left are taken to be as slow
+        as those that were tried; at least one must have been."""
         seconds = (self.clock() - self.begun) / self.tried * (self.total - self.tried)
         return (
-            f'{self.part}{self.tried:,} of {self.total:,} tried, {self.failed:,} fail, '
-            f'about {duration(seconds)} left'
+            f'{self.name}{self.tried:,} of {self.total:,} tried, {self.failed:,} fail, '
+            f'about {duration_text(seconds)} left'
         )
 
-    def note(self, done: int, total: int) -> None:
-        """How many of the moments of a session were tried on real disks."""
-        if self.terminal and self.clock() - self.reported >= TERMINAL_SECONDS:
+    def show_moments(self, done: int, total: int) -> None:
+        """Shows how many of the moments of a session were tried on real disks, on a terminal."""
+        if self.is_terminal and self.clock() - self.reported >= TERMINAL_SECONDS:
             self.reported = self.clock()
             text = f'disks: {done:,} of {total:,} moments'
             line = f'\r{text}\033[K' if done < total else '\r\033[K'
             print(line, end='', file=self.stream, flush=True)
 
-    def end(self) -> None:
-        if self.terminal and self.tried:
+    def end_part(self) -> None:
+        """Removes the line of the part from a terminal."""
+        if self.is_terminal and self.tried:
             print('\r\033[K', end='', file=self.stream, flush=True)
 
 
-def duration(seconds: float) -> str:
+class TooSlow(Exception):
+    """All states would take longer than they may."""
+
+
+class Pace:
+    """Measures how long states take as they are tried; all together may take so many seconds."""
+
+    def __init__(self, most: float, clock: Callable[[], float] = time.monotonic) -> None:
+        self.most = most
+        self.clock = clock
+        self.begin(0)
+
+    def begin(self, total: int) -> None:
+        """Begins to measure: so many states will be tried."""
+        self.total = total
+        self.tried = 0
+        self.begun = self.clock()
+
+    def note_tried(self) -> None:
+        """Counts one more state as tried. After MEASURED states it raises TooSlow if all would take
+        longer than they may, and never again."""
+        self.tried += 1
+        if self.tried == MEASURED and self.seconds * self.total > self.most:
+            self.most = float('inf')
+            raise TooSlow
+
+    @property
+    def seconds(self) -> float:
+        """How long each state has taken, with all jobs at work; 0 if none was tried."""
+        return (self.clock() - self.begun) / self.tried if self.tried else 0.0
+
+
+def duration_text(seconds: float) -> str:
+    """A duration in its largest unit: `2 hours`."""
     size, unit = next((one for one in UNITS if seconds >= one[0]), UNITS[-1])
     count = round(seconds / size)
     return f'{count:,} {unit}{"s" if count != 1 else ""}'

@@ -22,15 +22,16 @@ from .results import FORMAT, AllResults, Head, Results
 from .runner import BAD, GOOD, NO_ANSWER, Outcome
 
 MOST = 1 << 40
-# What a family's state has as numbers: so many, or any number of them.
+# How many numbers a state of a family has; a pick has any number of them.
 NUMBERS = {'prefix': 1, 'hole': 2}
 
+# Returns a value that JSON may have; ValueError for one that it may not have there.
 Read = Callable[[Any], Any]
 Value = TypeVar('Value')
 
 
 def read_json(path: str) -> AllResults:
-    """Refused for a file that isn't the JSON of a check."""
+    """The results that a file of --json has. Refused if it can't be read, or isn't such a file."""
     try:
         with open(path, encoding='utf-8', errors='surrogateescape') as file:
             fields = json.load(file)
@@ -46,6 +47,8 @@ def read_json(path: str) -> AllResults:
 
 
 def head_of(fields: Dict[str, Any]) -> Head:
+    """What is checked. Like all functions below, it raises a ValueError or KeyError for fields that
+    no check writes."""
     if integer(fields['crashfs-check']) != FORMAT:
         raise ValueError('another format')
     part, parts = row(fields['shard'], integer, integer)
@@ -57,19 +60,20 @@ def head_of(fields: Dict[str, Any]) -> Head:
         text(fields['sha256']),
         [text(word) for word in items(fields['command'])],
         Shard(part, parts),
-        is_true(fields['unproved']),
+        boolean(fields['unproved']),
         {line.number: line for line in lines},
         text(fields['stopped']),
         [
             (line, tried)
             for line, tried in (row(one, integer, integer) for one in fields['cut_off'])
         ],
-        is_true(fields.get('has_rest', False)),
+        boolean(fields.get('has_rest', False)),
         integer(fields.get('refused_version', 0)),
     )
 
 
 def results_of(fields: Dict[str, Any]) -> Results:
+    """The results of a window."""
     plan = plan_of(fields)
     return Results(
         plan,
@@ -77,24 +81,29 @@ def results_of(fields: Dict[str, Any]) -> Results:
         by_state(plan, fields['known'], integer),
         by_state(plan, fields.get('reruns', {}), outcome),
         chosen_of(plan, fields.get('chosen')),
-        number(fields.get('seconds', 0.0)),
+        seconds(fields.get('seconds', 0.0)),
     )
 
 
 def chosen_of(plan: Plan, value: Any) -> Optional[FrozenSet[int]]:
+    """The numbers of the states to try if not all are; None if all are. ValueError for anything
+    else."""
     chosen = None if value is None else frozenset(map(integer, items(value)))
-    if chosen is not None and not all(map(plan.has, chosen)):
+    if chosen is not None and not all(map(plan.has_state, chosen)):
         raise ValueError('no state of the plan')
     return chosen
 
 
-def number(value: Any) -> float:
+def seconds(value: Any) -> float:
+    """A duration: a finite number from 0 on. ValueError for anything else."""
     if type(value) not in (int, float) or not 0 <= value < MOST:
         raise ValueError('no number')
     return float(value)
 
 
 def plan_of(fields: Dict[str, Any]) -> Plan:
+    """The plan of a window, whose states have the numbers that their places give. ValueError or
+    KeyError for anything else."""
     operations = [
         MicroOperation(*row(one, integer, text, text, text, integer))
         for one in items(fields['operations'])
@@ -115,12 +124,12 @@ def plan_of(fields: Dict[str, Any]) -> Plan:
         if known is None
         else all_states_of(known, lambda one: first <= one < first + len(listed))
     )
-    profiles = profiles_of(fields.get('profiles', [[], [], '']), len(listed))
+    profiles = set_profiles_of(fields.get('profiles', [[], [], '']), len(listed))
     return Plan(operations, listed, Needs(masks), first, all_states, profiles)
 
 
-def profiles_of(value: Any, count: int) -> SetProfiles:
-    """The profiles of so many states."""
+def set_profiles_of(value: Any, count: int) -> SetProfiles:
+    """The profiles of so many listed states. ValueError for anything else."""
     names, of_sets, wanted = row(value, items, items, text)
     names = tuple(map(text, names))
     allowed = tuple(integer(one, (1 << len(names)) - 1) for one in of_sets)
@@ -129,24 +138,27 @@ def profiles_of(value: Any, count: int) -> SetProfiles:
     return SetProfiles(names, allowed, wanted)
 
 
-def all_states_of(value: Any, has: Callable[[int], bool]) -> AllStates:
+def all_states_of(value: Any, has_state: Callable[[int], bool]) -> AllStates:
+    """What is known of all crash states; has_state says which numbers a state of the plan has.
+    ValueError for anything else."""
     sets, are_listed, are_read, most, families, drawn = row(
-        value, optional, is_true, is_true, integer, integer, items
+        value, count_or_none, boolean, boolean, integer, integer, items
     )
-    if not all(map(has, map(integer, drawn))):
+    if not all(map(has_state, map(integer, drawn))):
         raise ValueError('no state of the plan')
     return AllStates(sets, are_listed, are_read, most, families, tuple(drawn))
 
 
-def optional(value: Any) -> Optional[int]:
-    """A number of any size, or None."""
+def count_or_none(value: Any) -> Optional[int]:
+    """A whole number of any size, or None. ValueError for anything else."""
     if value is not None and (type(value) is not int or value < 0):
         raise ValueError('no number')
     return value
 
 
 def state(value: Any, number: int, count: int) -> State:
-    """A state of a plan that has so many micro-operations; its number must be the next one."""
+    """A state of a plan that has so many micro-operations; it must have this number. ValueError for
+    anything else."""
     own, family, numbers, says, same = row(value, integer, text, items, integer, integer)
     places = [integer(place, count) for place in numbers]
     wanted = NUMBERS.get(family, len(places) if family == 'pick' else -1)
@@ -156,6 +168,7 @@ def state(value: Any, number: int, count: int) -> State:
 
 
 def outcome(value: Any) -> Outcome:
+    """The outcome of a state, with a known result. ValueError for anything else."""
     result, cause, output = row(value, text, text, text)
     if result not in (GOOD, BAD, NO_ANSWER):
         raise ValueError('no result of a command')
@@ -163,26 +176,31 @@ def outcome(value: Any) -> Outcome:
 
 
 def by_state(plan: Plan, values: Dict[str, Any], read: Callable[[Any], Value]) -> Dict[int, Value]:
+    """Values by the numbers of states of a plan, each read by a function. ValueError for other
+    keys."""
     found = {int(number): read(value) for number, value in values.items()}
-    if not all(map(plan.has, found)):
+    if not all(map(plan.has_state, found)):
         raise ValueError('no state of the plan')
     return found
 
 
 def row(values: Any, *reads: Read) -> Tuple[Any, ...]:
-    """The items of a list that has so many."""
+    """The items of a list, each read by the function at its place. ValueError if they aren't as
+    many."""
     if len(items(values)) != len(reads):
         raise ValueError('a list of another length')
     return tuple(read(value) for read, value in zip(reads, values))
 
 
 def items(value: Any) -> List[Any]:
+    """The items of a list, of any types. ValueError for what is no list."""
     if type(value) is not list:
         raise ValueError('no list')
     return value
 
 
 def integer(value: Any, most: int = MOST) -> int:
+    """A whole number from 0 to `most`. ValueError for anything else."""
     if type(value) is not int or not 0 <= value <= most:
         raise ValueError('no number')
     return value
@@ -196,7 +214,8 @@ def text(value: Any) -> str:
     return value
 
 
-def is_true(value: Any) -> bool:
+def boolean(value: Any) -> bool:
+    """True or false. ValueError for anything else."""
     if type(value) is not bool:
         raise ValueError('neither true nor false')
     return value

@@ -7,15 +7,16 @@ import os
 import signal
 import sys
 import traceback
+from dataclasses import dataclass
 from typing import Dict, List, NamedTuple, NoReturn, Protocol
 
 from crashfs_tools.checker.options import RecoveryFunction
 from crashfs_tools.common.command import TEXT, Refused
 from crashfs_tools.common.descendants import die_with_parent
+from crashfs_tools.common.guard import STOPS, VARIABLE
 
 # The signals that Python ignores, and that a command has as usual.
 IGNORED = (signal.SIGPIPE, signal.SIGXFSZ)
-STOPS = (signal.SIGINT, signal.SIGTERM, signal.SIGHUP)
 FAILED = 1
 
 
@@ -28,23 +29,25 @@ class StandardStreams(NamedTuple):
 
 
 class StateRecovery(Protocol):
-    """Starts in this process's directory, in a session of its own."""
+    """What is run in a state: it starts in this process's directory, in a session of its own."""
 
     @property
     def words(self) -> List[str]:
         """What reports call it."""
 
     def start(self, environment: Dict[bytes, bytes], streams: StandardStreams) -> int:
-        """The number of the process that was started."""
+        """Starts it, and returns the number of its process."""
 
 
+@dataclass
 class CommandRecovery:
     """A program with its arguments."""
 
-    def __init__(self, words: List[str]) -> None:
-        self.words = words
+    words: List[str]
 
     def start(self, environment: Dict[bytes, bytes], streams: StandardStreams) -> int:
+        """Starts the program, and returns the number of its process. Refused if it can't be
+        started, but an OSError if there is no room for a process."""
         try:
             return os.posix_spawn(
                 self.words[0],
@@ -64,18 +67,21 @@ class CommandRecovery:
             raise Refused(f'{self.words[0]}: {error.strerror}') from error
 
 
+@dataclass
 class FunctionRecovery:
     """A function. Each call is in a fork of this process: nothing that it does to this one's memory
     is seen later, and it can be killed if it is slow."""
 
-    def __init__(self, function: RecoveryFunction) -> None:
-        self.function = function
+    function: RecoveryFunction
 
     @property
     def words(self) -> List[str]:
+        """The function's module and name."""
         return [f'{self.function.__module__}.{self.function.__qualname__}']
 
     def start(self, environment: Dict[bytes, bytes], streams: StandardStreams) -> int:
+        """Forks this process, calls the function in the fork, and returns the number of its
+        process. An OSError if there is no room for one."""
         process = os.fork()
         if process == 0:
             try:
@@ -88,7 +94,9 @@ class FunctionRecovery:
         return process
 
     def become_child(self, environment: Dict[bytes, bytes], streams: StandardStreams) -> None:
-        """Gives a new process what a command has; it is killed if its parent ends."""
+        """Makes this fork what a command would be: in a session of its own, with the streams, usual
+        signals, and the three variables that differ for each state. It is killed if its parent
+        ends."""
         die_with_parent()
         os.setsid()
         for stop in STOPS:
@@ -99,11 +107,12 @@ class FunctionRecovery:
         # The caller may have replaced them, as pytest does.
         sys.stdin, sys.stdout = open(0, **TEXT), open(1, 'w', **TEXT)
         sys.stderr = sys.stdout
-        for name in (b'CRASHFS_STATE', b'CRASHFS_SAYS'):
-            os.environb[name] = environment[name]
+        for name in (b'CRASHFS_STATE', b'CRASHFS_SAYS', os.fsencode(VARIABLE)):
+            if name in environment:
+                os.environb[name] = environment[name]
 
     def call(self) -> int:
-        """Calls the function, and returns the status; the last line printed is the cause."""
+        """Calls the function, and returns the exit status; the last line printed is the cause."""
         lines = [line.rstrip('\n') for line in sys.stdin]
         try:
             self.function(os.getcwd(), lines)
@@ -120,7 +129,7 @@ class FunctionRecovery:
 
 
 def cause_of(fault: BaseException) -> str:
-    """The text of an assertion; of another exception also its type."""
+    """A fault as a line: the text of an assertion; of another exception also its type."""
     text = str(fault).strip()
     if not (isinstance(fault, AssertionError) and text):
         text = traceback.format_exception_only(type(fault), fault)[-1].strip()
@@ -128,7 +137,7 @@ def cause_of(fault: BaseException) -> str:
 
 
 def end_process(status: int) -> NoReturn:
-    """Ends a fork, without what the caller's program does at its own end."""
+    """Ends this fork, without what the caller's program does at its own end."""
     try:
         sys.stdout.flush()
     finally:

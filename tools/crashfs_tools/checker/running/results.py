@@ -23,7 +23,8 @@ class Head:
     """What is checked. lines are those of the trace's operations; stopped says what ended the check
     early, if anything did; cut_off has the lines whose loss was not tried to the session's end,
     each with how many later micro-operations it was tried for; has_rest says whether the session
-    goes on after the last window that was begun."""
+    goes on after the last window that was begun. refused_version is that of a trace which only the
+    second reading takes, or 0."""
 
     trace: str
     digest: str
@@ -37,9 +38,11 @@ class Head:
     refused_version: int = 0
 
     def identity(self) -> Tuple[object, ...]:
+        """Equal for two reports of one check: the trace's digest, COMMAND and the shard."""
         return self.digest, self.command, self.shard
 
     def fields(self) -> Dict[str, Any]:
+        """What the JSON has of it, which read_results reads."""
         return {
             'crashfs-check': FORMAT,
             'trace': self.trace,
@@ -57,9 +60,14 @@ class Head:
 
 @dataclass
 class Results:
-    """A window's plan, and the outcomes by the states tried. known are the states that the window
-    before has too, with their numbers there: they are tried there. reruns are second outcomes.
-    chosen are the states to try if all would take too long, seconds how long each takes."""
+    """A window's plan, and the outcomes by the numbers of the states that were tried. known are the
+    states that the window before has too, with their numbers there: they are tried there. reruns
+    are outcomes of second runs. chosen are the states to try if all would take too long, and
+    seconds is how long each takes.
+
+    Made from these: own are the states without known ones; tried_for has for each trial the number
+    of the state that is tried for it, here or in the window before; trials has those of them that
+    are tried here."""
 
     plan: Plan
     outcomes: Dict[int, Outcome] = field(default_factory=dict)
@@ -69,19 +77,21 @@ class Results:
     seconds: float = 0.0
 
     def __post_init__(self) -> None:
+        """Finds what is tried, once: plan and known don't change later. Of equal states a known
+        one comes first, so that nothing is tried again."""
         first: Dict[Trial, int] = {}
         for state in sorted(self.plan.states, key=lambda one: one.number not in self.known):
-            first.setdefault(Trial(state.same, state.says), state.number)
-        self.first_of = first
+            first.setdefault(state.trial, state.number)
+        self.tried_for = first
         self.own = [state for state in self.plan.states if state.number not in self.known]
-        # Each trial, with the state that is tried for it.
         self.trials = {trial: number for trial, number in first.items() if number not in self.known}
 
-    def of_states(self, before: Dict[int, Outcome]) -> Dict[int, Outcome]:
-        """The outcomes of all states that are equal to one that was tried, here or before."""
+    def outcomes_by_state(self, before: Dict[int, Outcome]) -> Dict[int, Outcome]:
+        """The outcome of each state, by its number, that is equal to one that was tried here, or in
+        the window before, whose outcomes are `before`."""
         found = {}
         for state in self.plan.states:
-            number = self.first_of[Trial(state.same, state.says)]
+            number = self.tried_for[state.trial]
             known = self.known.get(number)
             outcome = self.outcomes.get(number) if known is None else before.get(known)
             if outcome is not None:
@@ -90,10 +100,10 @@ class Results:
 
     @cached_property
     def numbers_of_sets(self) -> Dict[int, Set[int]]:
-        """The states that are tried for a set; of a set that the window before has none."""
+        """The numbers of the states that are tried here for each set."""
         found: Dict[int, Set[int]] = {}
         for state in self.plan.states:
-            number = self.trials.get(Trial(state.same, state.says))
+            number = self.trials.get(state.trial)
             if number is not None:
                 found.setdefault(self.plan.kept[state.number], set()).add(number)
         return found
@@ -106,16 +116,19 @@ class Results:
 
     @property
     def wanted(self) -> List[int]:
-        """The states to try."""
+        """The numbers of the states to try: of equal states one, and if some are chosen only
+        these."""
         numbers = self.trials.values()
         return [one for one in numbers if self.chosen is None or one in self.chosen]
 
     def choose(self, turns: Iterable[Set[int]]) -> None:
-        """Lets only these states be tried, and those that were."""
+        """Lets only some states be tried: those of some turns, and those that were tried
+        already."""
         self.chosen = frozenset(self.outcomes).union(*turns)
 
-    def take(self, earlier: Results) -> None:
-        """Takes the outcomes of an earlier check of the same, but for those without an answer."""
+    def take_earlier(self, earlier: Results) -> None:
+        """Takes the outcomes and the choice of an earlier check of the same plan. States without an
+        answer are tried again."""
         self.chosen, self.seconds = earlier.chosen, earlier.seconds
         self.outcomes.update(
             {state: one for state, one in earlier.outcomes.items() if one.result != NO_ANSWER}
@@ -127,9 +140,12 @@ class Results:
         return all(number in self.outcomes for number in self.wanted)
 
     def identity(self) -> Tuple[object, ...]:
+        """Equal for two results of one window of a trace: its micro-operations, states and
+        needs."""
         return self.plan.operations, self.plan.listed, self.plan.needs.masks
 
     def fields(self) -> Dict[str, Any]:
+        """What the JSON has of the window, which read_results reads."""
         return {
             'first': self.plan.first,
             'all_states': self.plan.all_states and list(self.plan.all_states),
@@ -147,15 +163,16 @@ class Results:
 
 @dataclass
 class AllResults:
-    """The results of a check that is over."""
+    """The results of a check that is over, window by window."""
 
     head: Head
     windows: List[Results]
 
 
 def known_states(before: Plan, plan: Plan) -> Dict[int, int]:
-    """The states of a window that the one before it has too, with their numbers there."""
-    lead = plan.begin - before.begin
+    """The states of a window's plan that the plan before it has too, by their numbers, with the
+    numbers there. Both keep the same, if all before the window is kept."""
+    lead = plan.first_place - before.first_place
     earlier = {before.kept[state.number]: state.number for state in reversed(before.states)}
     shared = {}
     for state in plan.states:
@@ -166,7 +183,7 @@ def known_states(before: Plan, plan: Plan) -> Dict[int, int]:
 
 
 def refuse_other_parts(parts: List[int], count: int) -> None:
-    """Refused unless each part is there once."""
+    """Refused unless each of so many shards is there once, by its number from 1."""
     for part in range(1, count + 1):
         given = parts.count(part)
         if given != 1:
@@ -176,7 +193,7 @@ def refuse_other_parts(parts: List[int], count: int) -> None:
 
 
 def refuse_other_commands(commands: List[List[str]]) -> None:
-    """Refused unless all are one command; its program may be in another directory."""
+    """Refused unless all commands are one; its program may be in another directory."""
     first, *others = ([os.path.basename(one[0]), *one[1:]] if one else [] for one in commands)
     for other in others:
         if other != first:
@@ -184,9 +201,10 @@ def refuse_other_commands(commands: List[List[str]]) -> None:
             raise Refused(f'the reports are of different COMMANDs: {shown}')
 
 
-def merged(parts: List[AllResults]) -> AllResults:
-    """The shards of one check together; Refused if they aren't all shards of one. Of a check that
-    was stopped some windows may be missing."""
+def merged_shards(parts: List[AllResults]) -> AllResults:
+    """The results of the shards of one check as one. Refused if they aren't all shards of one
+    check. Of a check that was stopped some may lack windows: the results with most windows are
+    changed, and used."""
     first = max(parts, key=lambda one: len(one.windows))
     for one in parts:
         refuse_other_check(first, one)
@@ -195,6 +213,7 @@ def merged(parts: List[AllResults]) -> AllResults:
     for one in parts:
         for whole, window in zip(first.windows, one.windows):
             whole.outcomes.update(window.outcomes)
+            whole.reruns.update(window.reruns)
     head = replace(
         first.head,
         shard=Shard(),

@@ -42,11 +42,11 @@ class Outcome(NamedTuple):
 
     @property
     def word(self) -> str:
-        """The word before the cause's first colon."""
+        """The part of the cause before its first colon."""
         return self.cause.partition(':')[0]
 
     @property
-    def kind(self) -> str:
+    def cause_without_numbers(self) -> str:
         """The whole cause, but for its numbers."""
         return without_numbers(self.cause)
 
@@ -55,8 +55,8 @@ GOOD_OUTCOME = Outcome(GOOD)
 
 
 class AcknowledgedLines:
-    """What was acknowledged up to each state, as a file for the commands' standard input. Each
-    process has one file, which it cuts or extends: one for each state would be too much."""
+    """The session's acknowledged lines, as a file in a folder for the commands' standard input.
+    Each process has one file, which it cuts or extends: one for each state would be too much."""
 
     def __init__(self, texts: List[str], folder: str) -> None:
         self.texts = texts
@@ -66,7 +66,8 @@ class AcknowledgedLines:
         self.sizes = [0, *accumulate(len(text.encode('utf-8')) + 1 for text in texts)]
 
     def path(self, count: int) -> str:
-        """The file, with so many lines until another number is asked for."""
+        """The path of this process's file, after the file was given the first so many lines. A
+        later call changes the file."""
         file = os.path.join(self.folder, f'says-{os.getpid()}')
         if self.file != file:
             self.file, self.count = file, 0
@@ -80,7 +81,7 @@ class AcknowledgedLines:
         return file
 
     def text(self, count: int, first: int = 0) -> str:
-        """The lines from a number on, up to another."""
+        """The lines from the place `first` to before `count` as one text, each with its end."""
         return ''.join(f'{text}\n' for text in self.texts[first:count])
 
 
@@ -89,7 +90,8 @@ class CheckEnded(Exception):
 
 
 class End(Enum):
-    """Why a command runs no more: by itself, or because it was killed."""
+    """Why a command runs no more: it exited, or it was killed since it was late, printed too much,
+    or the check ended."""
 
     EXITED = 'exited'
     LATE = 'late'
@@ -97,34 +99,35 @@ class End(Enum):
     KILLED = 'killed'
 
 
-def nothing() -> None:
-    pass
+def do_nothing() -> None:
+    """Does nothing: the callback of those that need none."""
 
 
 @dataclass
 class Checker:
-    """One recovery, and what it is run with. life is the end of a pipe that is closed when the
-    check is over; when_slow is called once for each command that takes long. end_bearers ends what
-    was started with the environment, if this process isn't the reaper of what a command leaves."""
+    """One recovery, and what it is run with. life is this process's end of a pipe whose other end
+    is closed when the check is over; when_slow is called once for each command that takes long.
+    end_bearers ends what was started with the environment, if this process isn't the reaper of what
+    a command leaves."""
 
     recovery: StateRecovery
     timeout: float
     environment: Dict[str, str]
     says: AcknowledgedLines
     life: Optional[int] = None
-    when_slow: Callable[[], None] = nothing
-    end_bearers: Callable[[], None] = nothing
+    when_slow: Callable[[], None] = do_nothing
+    end_bearers: Callable[[], None] = do_nothing
     # What commands left that could not be ended, with the names of the programs.
     left: Dict[int, str] = field(default_factory=dict)
 
     @cached_property
     def whole_environment(self) -> Dict[bytes, bytes]:
-        """As bytes, which are passed on as they are."""
+        """The environment as bytes, which are passed on as they are."""
         return {os.fsencode(name): os.fsencode(value) for name, value in self.environment.items()}
 
     @cached_property
-    def here(self) -> int:
-        """The directory of this process."""
+    def own_directory(self) -> int:
+        """A descriptor of the directory that this process is in."""
         return os.open('.', os.O_PATH | os.O_DIRECTORY | os.O_CLOEXEC)
 
     @cached_property
@@ -137,13 +140,15 @@ class Checker:
 
     @cached_property
     def mounts(self) -> MountTable:
+        """What is mounted."""
         return MountTable()
 
     def run(self, state: int, says: int, directory: str) -> Outcome:
-        """Runs the command in a state's directory, and ends all that it leaves running or mounted.
-        If a process can't be ended, neither this state nor a later one has an answer."""
+        """Runs the recovery in a state's directory with the first so many acknowledged lines, ends
+        what it leaves running, and unmounts what it leaves mounted. Once a process can't be ended,
+        neither this state nor a later one has an answer. CheckEnded if the check ends meanwhile."""
         if self.left and self.end_left(descendants.children() - set(self.left)):
-            return self.process_outcome()
+            return self.outcome_of_left()
         before, mounted = descendants.children(), self.mounts.below(directory)
         environment = {
             **self.whole_environment,
@@ -163,30 +168,33 @@ class Checker:
                 self.end_left(before, descendants.ENDING_SECONDS)
                 stays = self.unmount(directory, set(mounted))
             if self.left:
-                return self.process_outcome()
+                return self.outcome_of_left()
             if stays:
                 return Outcome(NO_ANSWER, f'a mount that it left can not be unmounted: {stays[0]}')
             if end is End.EXITED and status == 0:
                 return GOOD_OUTCOME
-            printed = output.tail().replace(os.fsencode(directory), b'.')
-            return self.outcome(end, status, printed.decode('utf-8', 'replace'))
+            printed = output.read_tail().replace(os.fsencode(directory), b'.')
+            return self.outcome_of_end(end, status, printed.decode('utf-8', 'replace'))
         finally:
             output.close()
 
     def end_left(self, before: Set[int], seconds: float = 0) -> Dict[int, str]:
-        """Ends the children that weren't there before; returns those that can't be ended."""
+        """Kills the children that weren't there before, and waits so many seconds for them. Sets
+        `left` to those that still run, with the names of their programs, and returns it."""
         self.end_bearers()
         self.left = descendants.end_children(before, seconds)
         return self.left
 
-    def process_outcome(self) -> Outcome:
+    def outcome_of_left(self) -> Outcome:
+        """The outcome of a state if a process that a command left can't be ended."""
         return Outcome(
             NO_ANSWER,
             f'a process that it left could not be ended: {descendants.processes_text(self.left)}',
         )
 
     def unmount(self, directory: str, before: Set[int]) -> List[str]:
-        """Unmounts what wasn't mounted before; returns what stays, as paths in the directory."""
+        """Unmounts what wasn't mounted below a directory before, by the numbers of the mounts;
+        returns what stays, as paths in the directory."""
         found = self.mounts.below(directory)
         left = self.mounts.unmount({one: found[one] for one in found if one not in before})
         return [os.path.relpath(point, directory) for point in left]
@@ -194,8 +202,9 @@ class Checker:
     def start(
         self, directory: str, environment: Dict[bytes, bytes], lines: str, output: Output
     ) -> int:
-        """Starts the recovery; its directory is this process's meanwhile."""
-        here = self.here
+        """Starts the recovery with a file of lines as its input; returns the number of its process.
+        Its directory is this process's meanwhile, and output is closed for writing."""
+        here = self.own_directory
         os.chdir(directory)
         try:
             return self.recovery.start(environment, StandardStreams(lines, output.writing))
@@ -204,7 +213,8 @@ class Checker:
             output.close_writing()
 
     def wait(self, process: int, output: Output) -> End:
-        """Waits for the command's end; Over if the check's comes before."""
+        """Waits for the command's end, and returns why it came; CheckEnded if the check's comes
+        before. A process that hasn't exited still runs when this returns."""
         waiting = Waiting(self.poll, process, output)
         begun = time.monotonic()
         is_slow = False
@@ -222,7 +232,7 @@ class Checker:
                     raise CheckEnded
                 has_ended = waiting.has_ended(ready)
                 if has_ended:
-                    output.tail()
+                    output.read_tail()
                 if output.is_flood:
                     return End.FLOODED
                 if has_ended:
@@ -230,7 +240,9 @@ class Checker:
         finally:
             waiting.close()
 
-    def outcome(self, end: End, status: int, printed: str) -> Outcome:
+    def outcome_of_end(self, end: End, status: int, printed: str) -> Outcome:
+        """The outcome of a command that isn't good, by its end, its status as subprocess has it,
+        and the end of what it printed."""
         output = printed[-OUTPUT_LETTERS:]
         if end is End.LATE:
             return Outcome(NO_ANSWER, f'it had not ended after {self.timeout:g} seconds', output)
@@ -244,7 +256,7 @@ class Checker:
 
 
 class Waiting:
-    """Waits for a process or for what it prints, besides what a poll object has already. A system
+    """Waits for a process, for what it prints, and for what a poll object has already. A system
     without descriptors of processes (before Linux 5.3) is asked again and again."""
 
     def __init__(self, poll: select.poll, process: int, output: Output) -> None:
@@ -257,7 +269,8 @@ class Waiting:
             poll.register(one, select.POLLIN)
 
     def wait(self, seconds: float) -> Set[Optional[int]]:
-        """What is ready after at most so many seconds; what is printed is read."""
+        """Waits at most so many seconds; returns the descriptors that are ready, maybe none. What
+        is printed is read meanwhile."""
         if self.descriptor is None:
             seconds = min(seconds, LOOK_SECONDS)
         ready: Set[Optional[int]] = {one for one, _ in self.poll.poll(seconds * 1000)}
@@ -266,15 +279,18 @@ class Waiting:
         return ready
 
     def has_ended(self, ready: Set[Optional[int]]) -> bool:
+        """Whether the process has ended, by what wait() returned; it isn't reaped."""
         if self.descriptor is not None:
             return self.descriptor in ready
         return os.waitid(os.P_PID, self.process, os.WEXITED | os.WNOHANG | os.WNOWAIT) is not None
 
     def unregister(self, one: int) -> None:
+        """Waits no longer for a descriptor."""
         self.registered.remove(one)
         self.poll.unregister(one)
 
     def close(self) -> None:
+        """Leaves the poll object as it was."""
         for one in list(self.registered):
             self.unregister(one)
         if self.descriptor is not None:
@@ -282,6 +298,7 @@ class Waiting:
 
 
 def opened_process(process: int) -> Optional[int]:
+    """A descriptor of a process, which is ready when it has ended; None if the system has none."""
     try:
         return os.pidfd_open(process)
     except (AttributeError, OSError):
@@ -289,8 +306,8 @@ def opened_process(process: int) -> Optional[int]:
 
 
 def keep_descriptors() -> None:
-    """From here on a command gets the first three descriptors of this process only, and those are
-    open."""
+    """Lets commands inherit the descriptors 0 to 2 only, and opens those of them that are
+    closed."""
     while True:
         descriptor = os.open(os.devnull, os.O_RDWR | os.O_CLOEXEC)
         if descriptor > 2:
@@ -306,6 +323,7 @@ def keep_descriptors() -> None:
 
 
 def end_group(group: int) -> None:
+    """Kills the processes of a group, if there are any that may be killed."""
     try:
         os.killpg(group, signal.SIGKILL)
     except OSError:

@@ -4,24 +4,28 @@ from __future__ import annotations
 
 from dataclasses import dataclass, replace
 from functools import cached_property, lru_cache
-from typing import TYPE_CHECKING, Callable, Dict, Iterable, List, Optional, Sequence, Set
+from typing import TYPE_CHECKING, Callable, Dict, Iterable, List, Optional, Sequence, Set, Tuple
 
 from crashfs_tools.checker.options import Options
-from crashfs_tools.checker.states.layout import Archive, Layout
+from crashfs_tools.checker.states.layout import (
+    Archive,
+    Layout,
+    TreesByState,
+    trees_of_small_plan,
+)
 from crashfs_tools.checker.states.plan import Planned, State
 from crashfs_tools.common.command import TEXT, Refused
 from crashfs_tools.common.guard import Guard
 from crashfs_tools.common.limits import RUNS
 from crashfs_tools.common.program import Crashfs
-from crashfs_tools.common.trace_text import is_large_trace, root_owner
+from crashfs_tools.common.trace_lines import is_large_trace, root_owner
 
 from .cache import OutcomeCache, StateKeys
-from .pace import Pace, TooSlow
-from .progress import Progress
+from .progress import Pace, Progress, TooSlow
 from .recoveries import CommandRecovery, FunctionRecovery, StateRecovery
 from .results import Results
-from .runner import AcknowledgedLines, Checker, Outcome, nothing
-from .turns import turns
+from .runner import AcknowledgedLines, Checker, Outcome, do_nothing
+from .turns import states_in_turns
 from .workers import OnOutcome, StateWorkers
 
 if TYPE_CHECKING:
@@ -49,10 +53,12 @@ class Workplace:
 
 
 class Trials:
-    """Tries the states of one plan."""
+    """Tries the states of one plan. With keeps_trees all trees of a small plan are kept in memory:
+    that is for trials that need most of them."""
 
-    def __init__(self, workplace: Workplace, planned: Planned) -> None:
+    def __init__(self, workplace: Workplace, planned: Planned, keeps_trees: bool = False) -> None:
         self.workplace = workplace
+        self.keeps_trees = keeps_trees
         self.options = workplace.options
         self.program = workplace.program
         self.guard = workplace.guard
@@ -60,47 +66,62 @@ class Trials:
         self.planned = planned
         self.plan = planned.plan
 
-    def with_plan(self, planned: Planned, program: Optional[Crashfs] = None) -> Trials:
-        """The same with another plan, also of another program."""
-        workplace = self.workplace
-        if program is not None:
-            workplace = replace(workplace, program=program)
-        return Trials(workplace, planned)
+    def for_recovery(self, planned: Planned, program: Crashfs) -> Trials:
+        """The same for all states of a recovery, whose trees a program makes."""
+        return Trials(replace(self.workplace, program=program), planned, keeps_trees=True)
 
-    def checker(self) -> Checker:
-        return Checker(self.recovery(), self.options.timeout, self.guard.environment, self.says)
+    def new_checker(self) -> Checker:
+        """A checker for COMMAND, or for the function in its place."""
+        recovery: StateRecovery = CommandRecovery(self.options.command)
+        if self.options.function is not None:
+            recovery = FunctionRecovery(self.options.function)
+        return Checker(recovery, self.options.timeout, self.guard.environment, self.says)
 
-    def recovery(self) -> StateRecovery:
-        function = self.options.function
-        if function is not None:
-            return FunctionRecovery(function)
-        return CommandRecovery(self.options.command)
+    def archive_layout(self, folder: str) -> Archive:
+        """A layout of states below a folder, in which each keeps a directory of its own."""
+        return Archive(self.program, self.planned, folder, self.guard.environment, self.kept_trees)
 
-    def archive(self, folder: str) -> Archive:
-        return Archive(self.program, self.planned, folder, self.guard.environment)
-
-    def layout(self, many: bool = False) -> Layout:
-        """Where states are tried; nothing of it is there any more when the guard has ended. many
-        says whether it is worth the while to keep what they have in common."""
+    def new_layout(self, many: bool = False) -> Layout:
+        """A new layout, below the guard's directory or on the server of --serve. many says that so
+        many states are tried that a layout pays which keeps large trees from state to state."""
         if self.options.serve is None:
-            if many and has_large_trees(self.planned.trace) and self.program.has_changes:
+            if many and self.are_trees_large and self.program.has_changes:
                 from crashfs_tools.checker.states.kept_layout import KeptLayout
 
                 return KeptLayout(
                     self.program, self.planned, self.guard.directory, self.guard.environment
                 )
-            return self.archive(self.guard.directory)
+            return self.archive_layout(self.guard.directory)
         from crashfs_tools.checker.states.mounts import Mounts
 
         with open(self.planned.trace, **TEXT) as file:
             uname = self.options.uname or root_owner(file)
         return Mounts(self.options.serve, uname, self.guard.directory, self.guard.environment)
 
+    @cached_property
+    def are_trees_large(self) -> bool:
+        """Whether the trace has so many files or bytes that trees are kept from state to state."""
+        return has_large_trees(self.planned.trace)
+
+    @cached_property
+    def kept_trees(self) -> Optional[TreesByState]:
+        """All trees of the plan in memory; None if they aren't kept, since they are large, too
+        many, or not asked for. Made once."""
+        if not self.keeps_trees or self.are_trees_large:
+            return None
+        return trees_of_small_plan(self.program, self.planned, self.guard.environment)
+
     def tree(self, number: int) -> Entries:
+        """The tree of a state, without its root."""
         return self.trees([number])[0]
 
     def trees(self, numbers: Sequence[int]) -> List[Entries]:
-        """The trees of these states, without their roots."""
+        """The trees of the states of these numbers, in their order, without the roots.
+        ProgramFault, or KeyError for a number, if the program lacks one."""
+        kept = self.kept_trees
+        if kept is not None:
+            firsts = [self.plan.state(number).same for number in numbers]
+            return [{f'/{path}': entry for path, entry in kept[one] if path} for one in firsts]
         found = {}
         for request in self.planned.requests(numbers):
             for own, tree in self.program.trees(request.words, self.guard.environment):
@@ -109,97 +130,102 @@ class Trials:
         return [found[number] for number in numbers]
 
     def try_one(self, state: State, attempt: int = 0) -> Outcome:
-        """The outcome of a state; another one for each attempt, so that runs can be compared."""
+        """The outcome of a state. Each number of an attempt, below ATTEMPTS, has a run of its own,
+        also in the cache."""
         found: Dict[int, Outcome] = {}
-        self.run_uncached(self.layout, {state.number}, found.__setitem__, attempt)
+        self.find_outcomes(self.new_layout, {state.number}, found.__setitem__, attempt)
         return found[state.number]
 
-    def run_words(self, words: List[str], number: int) -> str:
-        """Runs other words in the place of COMMAND in a state; returns the state's directory."""
-        checker = replace(self.checker(), recovery=CommandRecovery(words))
-        layout, place = self.archive(self.guard.directory), ''
-        for own, directory in layout.states({number}):
-            with layout.laid_out(own, directory):
-                checker.run(own, self.plan.state(own).says, directory)
-            place = directory
-        return place
+    def run_words(self, words: List[str], number: int) -> Tuple[Outcome, str]:
+        """Runs other words than COMMAND in a state; returns their outcome, and the path that the
+        state's directory had: it is gone by then."""
+        checker = replace(self.new_checker(), recovery=CommandRecovery(words))
+        layout = self.new_layout()
+        ((own, directory),) = layout.states({number})
+        with layout.laid_out(own, directory):
+            outcome = checker.run(own, self.plan.state(own).says, directory)
+        return outcome, directory
 
-    def try_states(self, wanted: Set[int], on_outcome: OnOutcome) -> None:
-        """Tries states; a stop may come meanwhile."""
-        self.try_in_turns([wanted], on_outcome)
-
-    def try_in_turns(self, turns: Sequence[Set[int]], on_outcome: OnOutcome) -> None:
-        """Tries states, turn by turn."""
+    def try_states(self, turns: Sequence[Set[int]], on_outcome: OnOutcome) -> None:
+        """Tries states, turn by turn, with their progress shown; on_outcome is called with each
+        number and outcome. Stopped, TimeUp or TooSlow may come in between: earlier outcomes were
+        given."""
         progress = self.workplace.progress
-        progress.begin(sum(map(len, turns)), self.planned.part())
+        progress.begin_part(sum(map(len, turns)), self.planned.part_text())
 
-        def step(number: int, outcome: Outcome) -> None:
+        def note(number: int, outcome: Outcome) -> None:
             on_outcome(number, outcome)
-            progress.step(outcome)
+            progress.add_outcome(outcome)
 
         @lru_cache(None)
         def layout() -> Layout:
-            return self.layout(many=True)
+            return self.new_layout(many=True)
 
         try:
             for turn in turns:
-                self.run_uncached(layout, turn, step)
+                self.find_outcomes(layout, turn, note)
         finally:
-            progress.end()
+            progress.end_part()
 
     @cached_property
-    def keys(self) -> StateKeys:
+    def state_keys(self) -> StateKeys:
         """The keys of this plan's states in the cache."""
         return StateKeys(self.planned.trace, self.plan, self.says.texts)
 
-    def run_uncached(
+    def find_outcomes(
         self,
         layout: Callable[[], Layout],
         wanted: Set[int],
         on_outcome: OnOutcome,
         attempt: int = 0,
     ) -> None:
-        """Runs COMMAND in the states whose outcome isn't in the cache."""
+        """Gives on_outcome the outcome of each wanted state: from the cache, if that has it, else
+        by a run of COMMAND, which the cache gets. The layout is only made if COMMAND runs."""
         cache, left = self.workplace.cache, set(wanted)
         if cache is None:
             self.run_workers(layout(), left, on_outcome)
             return
         for number in sorted(wanted):
-            known = cache.outcome(self.keys.key(number, attempt))
+            known = cache.outcome(self.state_keys.key(number, attempt))
             if known is not None:
                 left.remove(number)
                 on_outcome(number, known)
 
         def keep(number: int, outcome: Outcome) -> None:
             assert cache is not None
-            cache.add(self.keys.key(number, attempt), outcome)
+            cache.add(self.state_keys.key(number, attempt), outcome)
             on_outcome(number, outcome)
 
         if left:
             self.run_workers(layout(), left, keep)
 
-    def forget(self, numbers: Iterable[int]) -> None:
-        """Drops the outcomes of states from the cache: they may be others the next time."""
+    def drop_from_cache(self, numbers: Iterable[int]) -> None:
+        """Drops the outcomes of states, of all attempts, from the cache: they may be others the
+        next time."""
         cache = self.workplace.cache
         if cache is not None:
             for number in numbers:
                 for attempt in range(ATTEMPTS):
-                    cache.forget(self.keys.key(number, attempt))
+                    cache.drop(self.state_keys.key(number, attempt))
 
     def run_workers(self, layout: Layout, wanted: Set[int], on_outcome: OnOutcome) -> None:
-        """Runs COMMAND in other processes: nothing of it is left if this one is killed."""
+        """Runs COMMAND in some states, by processes that end with this one, and gives on_outcome
+        each outcome. Refused or an OSError if a process has a fault."""
         options = self.options
-        workers = StateWorkers(self.checker(), layout, options.jobs, on_outcome, options.fail_fast)
+        workers = StateWorkers(
+            self.new_checker(), layout, options.jobs, on_outcome, options.fail_fast
+        )
         try:
             workers.run(wanted, {state.number: state.says for state in self.plan.listed})
         finally:
             workers.end(self.guard.end_processes)
             self.guard.end_processes()
 
-    def wanted(self, results: Results) -> Set[int]:
-        """The states that are tried: of the shard, the first of each that are alike."""
+    def wanted_states(self, results: Results) -> Set[int]:
+        """The numbers of the states of this shard to try, one of equal ones. Refused if a server
+        has too few runs for them."""
         shard = self.options.shard
-        firsts = {state for place, state in enumerate(results.wanted) if shard.has(place)}
+        firsts = {state for place, state in enumerate(results.wanted) if shard.has_place(place)}
         if self.options.serve is not None and len(firsts) > RUNS:
             raise Refused(
                 f'{len(firsts):,} states are more than the {RUNS:,} runs of one server: '
@@ -207,38 +233,40 @@ class Trials:
             )
         return firsts
 
-    def run(self, results: Results, after_each: Callable[[], None] = nothing) -> bool:
-        """Tries each different state of the shard that has no outcome yet; returns whether it
-        tried all. If that would take too long it tries those of the families."""
+    def try_all(self, results: Results, after_each: Callable[[], None] = do_nothing) -> bool:
+        """Tries the states of the shard that have no outcome yet, and writes the outcomes into the
+        results, calling after_each. If all would take too long, only those of the families are
+        chosen. Returns whether all chosen ones have an outcome."""
         every = results.plan.all_states
         if every is not None and not every.are_listed:
-            results.choose(turns(results, are_all=False))
+            results.choose(states_in_turns(results, are_all=False))
         pace = Pace(self.options.most_seconds if results.chosen is None else float('inf'))
 
         def keep(number: int, outcome: Outcome) -> None:
             results.outcomes[number] = outcome
             after_each()
-            pace.step()
+            pace.note_tried()
 
         while True:
-            left = self.wanted(results) - set(results.outcomes)
+            left = self.wanted_states(results) - set(results.outcomes)
             pace.begin(len(left))
             try:
-                self.try_in_turns(self.turns(results, left), keep)
+                self.try_states(self.turns_of(results, left), keep)
                 return left <= set(results.outcomes)
             except TooSlow:
-                results.choose(turns(results, are_all=False))
+                results.choose(states_in_turns(results, are_all=False))
             finally:
                 results.seconds = pace.seconds or results.seconds
 
-    def turns(self, results: Results, left: Set[int]) -> List[Set[int]]:
-        """The states that are left, in the order in which they are tried."""
+    def turns_of(self, results: Results, left: Set[int]) -> List[Set[int]]:
+        """The states that are left, turn by turn, so that an early end finds most. In one turn if
+        all will be tried anyway."""
         every = results.plan.all_states
         is_whole = every is not None and every.are_listed and results.chosen is None
         is_limited = self.options.time_limit is not None or self.options.fail_fast
         if every is None or is_whole and not is_limited:
             return [left]
-        found = [turn & left for turn in turns(results, are_all=is_whole)]
+        found = [turn & left for turn in states_in_turns(results, are_all=is_whole)]
         others = left - set().union(*found)
         return [turn for turn in [*found, others] if turn]
 

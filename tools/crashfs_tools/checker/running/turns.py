@@ -4,52 +4,56 @@ from __future__ import annotations
 
 from typing import Dict, Iterable, Iterator, List, Set
 
-from crashfs_tools.checker.states.plan import Plan, line_losses
+from crashfs_tools.checker.states.plan import Plan
 
 from .results import Results
 
 
-def turns(results: Results, are_all: bool) -> List[Set[int]]:
-    """The states to try, turn by turn, as results names them. are_all says whether states of no
-    family come too, after those of the families and those that were drawn."""
+def states_in_turns(results: Results, are_all: bool) -> List[Set[int]]:
+    """The numbers of the states to try, turn by turn; each state once, and no turn is empty.
+    are_all says whether states of no family come too, after those of the families and those that
+    were drawn."""
     plan = results.plan
     found: List[Set[int]] = []
     seen: Set[int] = set()
     for sets in [*family_turns(plan), drawn_sets(plan), *([plan.kept.values()] if are_all else [])]:
-        turn = tried_for(results, sets) - seen
+        turn = states_tried_for(results, sets) - seen
         seen |= turn
         found += [turn] if turn else []
     return found
 
 
-def tried_for(results: Results, sets: Iterable[int]) -> Set[int]:
-    """The states that are tried for those of some sets that the plan has."""
+def states_tried_for(results: Results, sets: Iterable[int]) -> Set[int]:
+    """The numbers of the states that are tried for those of some sets that the plan has."""
     numbers = results.numbers_of_sets
     return {number for one in sets for number in numbers.get(one, ())}
 
 
 def family_turns(plan: Plan) -> Iterator[List[int]]:
-    """Sets of the families: first prefixes that end at an acknowledged line, sets of one operation
-    and what it needs, whole operations that are lost, what else is lost at acknowledged lines."""
+    """The sets of eight turns, those first that find most: prefixes that end at an acknowledged
+    line; each micro-operation with what it needs; whole operations that are lost; holes that end at
+    an acknowledged line; picks; prefixes; some blocks of torn writes that are lost; holes. A turn
+    may have sets of an earlier one, or sets that the plan doesn't list."""
     says = {place + 1 for place, one in enumerate(plan.operations) if one.kind == 'say'}
     prefixes = {
         one.numbers[0]: plan.kept[one.number] for one in plan.listed if one.family == 'prefix'
     }
     yield [prefixes[end] for end in (0, *sorted(says), len(plan.operations)) if end in prefixes]
     yield list(plan.needs.masks)
-    yield line_losses(plan.operations, plan.needs)
+    yield plan.needs.sets_without_lines(one.line for one in plan.operations)
     holes = [one for one in plan.listed if one.family == 'hole']
     torn = torn_places(plan)
     whole = [one for one in holes if one.numbers[0] not in torn]
     yield [plan.kept[one.number] for one in whole if one.numbers[1] in says]
     yield [plan.kept[one.number] for one in plan.families if one.family == 'pick']
     yield list(prefixes.values())
-    yield [plan.needs.full & ~plan.needs.needing(place) for place in samples(torn)]
+    yield [plan.needs.full & ~plan.needs.set_needing(place) for place in sample_places(torn)]
     yield [plan.kept[one.number] for one in reversed(whole)]
 
 
 def torn_places(plan: Plan) -> Dict[int, List[int]]:
-    """Each block of a write of several, with all blocks of that write."""
+    """The place of each block of a write of several, with the places of all blocks of that write,
+    ascending."""
     lines: Dict[int, List[int]] = {}
     for place, one in enumerate(plan.operations):
         if one.kind == 'write_block':
@@ -57,8 +61,9 @@ def torn_places(plan: Plan) -> Dict[int, List[int]]:
     return {place: places for places in lines.values() if len(places) > 1 for place in places}
 
 
-def samples(torn: Dict[int, List[int]]) -> List[int]:
-    """The first, the middle and the last block of each write."""
+def sample_places(torn: Dict[int, List[int]]) -> List[int]:
+    """The places of the first, the middle and the last block of each torn write, from what
+    torn_places returns."""
     writes = {places[0]: places for places in torn.values()}
     return [
         place
@@ -68,5 +73,6 @@ def samples(torn: Dict[int, List[int]]) -> List[int]:
 
 
 def drawn_sets(plan: Plan) -> List[int]:
+    """The sets that were drawn at random, in their order; none of a plan without such sets."""
     drawn = plan.all_states.drawn if plan.all_states is not None else ()
     return [plan.kept[number] for number in drawn]

@@ -8,51 +8,56 @@ import os
 import select
 import signal
 import time
-from dataclasses import replace
+from dataclasses import dataclass, replace
 from functools import partial
 from typing import Any, Callable, Dict, List, NoReturn, Optional, Set
 
 from crashfs_tools.checker.states.layout import Layout
 from crashfs_tools.common.command import Refused, ending_text
-from crashfs_tools.common.descendants import NoReaper, become_reaper
-from crashfs_tools.common.guard import STOPS, end_bearers, with_token
+from crashfs_tools.common.descendants import become_reaper
+from crashfs_tools.common.guard import STOPS, end_bearers, stops_blocked, with_token
 from crashfs_tools.common.program import ProgramFault
 
 from .runner import BAD, GOOD, GOOD_OUTCOME, TURN_SECONDS, CheckEnded, Checker, Outcome
 
+# How long processes have to undo what they laid out before they are killed.
 ENDING_SECONDS = 5
 PIECE_BYTES = 1 << 16
 # A process says what it knows after so long.
 SENT_SECONDS = 0.05
 
+# Called with a state's number and its outcome.
 OnOutcome = Callable[[int, Outcome], None]
 
 
+@dataclass
 class Worker:
-    """One process, and what it has said so far of a line that isn't whole."""
+    """One process by its number, this end of its pipe, and what it has written so far of a line
+    that isn't whole."""
 
-    def __init__(self, process: int, pipe: int) -> None:
-        self.process = process
-        self.pipe = pipe
-        self.rest = b''
+    process: int
+    pipe: int
+    rest: bytes = b''
 
-    def lines(self) -> Optional[List[bytes]]:
-        """The lines that it says next; None if it says no more."""
+    def new_lines(self) -> Optional[List[bytes]]:
+        """The whole lines that it has written since the last call, maybe none; None at its end.
+        BlockingIOError if the pipe doesn't block and nothing is there."""
         piece = os.read(self.pipe, PIECE_BYTES)
         *lines, self.rest = (self.rest + piece).split(b'\n')
         return lines if piece else None
 
 
 class Outbox:
-    """What a process says, some of it at a time: a line has the number of a state that is good, or
-    the fields of anything else."""
+    """What a process reports by its pipe, some of it at a time. A line is the number of a state
+    that is good, or the JSON of another outcome or of a fault."""
 
     def __init__(self, pipe: int) -> None:
         self.pipe = pipe
         self.lines: List[str] = []
         self.sent = time.monotonic()
 
-    def add(self, number: int, outcome: Outcome) -> None:
+    def add_outcome(self, number: int, outcome: Outcome) -> None:
+        """Adds the outcome of a state, and sends all lines if the last time is SENT_SECONDS ago."""
         if outcome.result == GOOD:
             self.lines.append(f'{number}\n')
         else:
@@ -61,9 +66,11 @@ class Outbox:
             self.send()
 
     def add_fields(self, fields: Dict[str, Any]) -> None:
+        """Adds a line of JSON."""
         self.lines.append(json.dumps(fields) + '\n')
 
     def send(self) -> None:
+        """Writes all lines that were added."""
         text = ''.join(self.lines).encode()
         self.lines = []
         while text:
@@ -72,8 +79,9 @@ class Outbox:
 
 
 class StateWorkers:
-    """Takes turns: the k-th process has every k-th state. Each ends when the pipe `life` is closed,
-    also if that is because this process was killed."""
+    """Processes that share the states: of n jobs the k-th process has each n-th state. Each ends
+    when this process's end of the pipe `life` is closed, also because this process was killed. Call
+    run() once, and end() in any case."""
 
     def __init__(
         self,
@@ -94,11 +102,13 @@ class StateWorkers:
         self.life, self.alive = os.pipe()
 
     def run(self, wanted: Set[int], says_of: Dict[int, int]) -> None:
-        """Runs the command in each wanted state; the first fault ends it all."""
+        """Runs the command in each wanted state; says_of has the number of acknowledged lines for
+        each. Returns at the end of all, or at the first failure with fail_fast. The first fault of
+        a process is raised."""
         ordered = sorted(wanted)
         jobs = min(self.jobs, len(ordered))
         for place in range(jobs):
-            self.start(ordered[place::jobs], says_of)
+            self.start_worker(ordered[place::jobs], says_of)
         poll = select.poll()
         left = {worker.pipe: worker for worker in self.workers}
         for pipe in left:
@@ -108,33 +118,34 @@ class StateWorkers:
             for pipe, _ in poll.poll(TURN_SECONDS * 1000):
                 if not self.read_outcomes(left[pipe]):
                     poll.unregister(pipe)
-                    self.reap(left.pop(pipe))
+                    self.reap_worker(left.pop(pipe))
 
     def read_outcomes(self, worker: Worker) -> bool:
-        """Takes the outcomes that a process has written; False if it writes no more."""
-        lines = worker.lines()
+        """Reads what a process has written, and takes its lines; returns False at its end. The
+        fault of a process is raised."""
+        lines = worker.new_lines()
         for line in lines or []:
-            self.take(line)
+            self.take_line(line)
         return lines is not None
 
-    def start(self, share: List[int], says_of: Dict[int, int]) -> None:
+    def start_worker(self, share: List[int], says_of: Dict[int, int]) -> None:
+        """Forks a process for a share of the states."""
         reading, writing = os.pipe()
         # A signal waits meanwhile: the new process takes none as this one does.
-        before = signal.pthread_sigmask(signal.SIG_BLOCK, STOPS)
-        process = os.fork()
-        if process == 0:
-            for number in STOPS:
-                if signal.getsignal(number) is not signal.SIG_IGN:
-                    signal.signal(number, lambda *_: None)
-            signal.pthread_sigmask(signal.SIG_SETMASK, before)
-            os.close(self.alive)
-            self.work(share, says_of, writing)
-        signal.pthread_sigmask(signal.SIG_SETMASK, before)
+        with stops_blocked() as before:
+            process = os.fork()
+            if process == 0:
+                for number in STOPS:
+                    if signal.getsignal(number) is not signal.SIG_IGN:
+                        signal.signal(number, lambda *_: None)
+                signal.pthread_sigmask(signal.SIG_SETMASK, before)
+                os.close(self.alive)
+                self.work(share, says_of, writing)
         os.close(writing)
         self.workers.append(Worker(process, reading))
 
     def work(self, share: List[int], says_of: Dict[int, int], pipe: int) -> NoReturn:
-        """The new process: it never returns."""
+        """The new process: it tries its states, reports by its pipe, and never returns."""
         gc.freeze()
         outbox = Outbox(pipe)
         checker = self.own_checker(outbox)
@@ -142,13 +153,13 @@ class StateWorkers:
             for number, directory in self.layout.states(set(share)):
                 with self.layout.laid_out(number, directory):
                     outcome = checker.run(number, says_of[number], directory)
-                outbox.add(number, outcome)
+                outbox.add_outcome(number, outcome)
                 if self.fail_fast and outcome.result == BAD:
                     break
         except CheckEnded:
             pass
         except BaseException as fault:
-            outbox.add_fields(as_fields(fault))
+            outbox.add_fields(fields_of_fault(fault))
         finally:
             outbox.send()
             os._exit(0)
@@ -157,31 +168,31 @@ class StateWorkers:
         """The checker of a new process, which is the reaper of what its commands leave. If the
         system doesn't make it one, a token of its own is in their environment."""
         checker = replace(self.checker, life=self.life, when_slow=outbox.send)
-        try:
-            become_reaper()
-        except NoReaper:
+        if not become_reaper():
             token = os.urandom(16).hex()
             checker.environment = with_token(checker.environment, token)
             checker.end_bearers = partial(end_bearers, token)
         return checker
 
-    def take(self, line: bytes) -> None:
-        """Takes an outcome; raises what another process can't do."""
+    def take_line(self, line: bytes) -> None:
+        """Gives on_outcome the outcome of a line of an Outbox. If the line has a fault, that is
+        raised. With fail_fast the first failure ends the run."""
         if line.isdigit():
             self.on_outcome(int(line), GOOD_OUTCOME)
             return
-        said = json.loads(line)
-        if 'state' not in said:
-            raise as_fault(said)
-        outcome = Outcome(*said['outcome'])
+        fields = json.loads(line)
+        if 'state' not in fields:
+            raise fault_of_fields(fields)
+        outcome = Outcome(*fields['outcome'])
         is_last = self.fail_fast and outcome.result == BAD
         # Others may find a failing state before they hear of the first one.
         if not (is_last and self.has_failed):
-            self.on_outcome(said['state'], outcome)
+            self.on_outcome(fields['state'], outcome)
         self.has_failed = self.has_failed or is_last
         self.ending = self.ending or is_last
 
-    def reap(self, worker: Worker) -> None:
+    def reap_worker(self, worker: Worker) -> None:
+        """Waits for a process that writes no more; Refused if it didn't end with status 0."""
         status = os.waitstatus_to_exitcode(os.waitpid(worker.process, 0)[1])
         self.workers.remove(worker)
         os.close(worker.pipe)
@@ -189,8 +200,9 @@ class StateWorkers:
             raise Refused(f'a process of this check {ending_text(status)}')
 
     def end(self, end_processes: Callable[[Set[int]], object]) -> None:
-        """Ends all: first the commands, by what is passed, which spares processes. It waits a
-        moment for processes that must undo what they laid out, and takes what they still say."""
+        """Ends all: first the commands, by a function that ends all other processes than some. It
+        waits for processes that must undo what they laid out, for ENDING_SECONDS, and takes what
+        they still report."""
         self.ending = True
         os.close(self.alive)
         deadline = time.monotonic() + ENDING_SECONDS
@@ -203,6 +215,7 @@ class StateWorkers:
         os.close(self.life)
 
     def end_one(self, worker: Worker, is_late: bool) -> None:
+        """Reaps a process if it has ended, and kills it before that if it is late."""
         if is_late:
             os.kill(worker.process, signal.SIGKILL)
         has_ended = os.waitpid(worker.process, 0 if is_late else os.WNOHANG)[0]
@@ -212,7 +225,8 @@ class StateWorkers:
             self.workers.remove(worker)
 
     def read_last(self, worker: Worker) -> None:
-        """Takes the outcomes that a process has said by now; faults are known or late."""
+        """Takes the outcomes that a process has written by now. Faults are passed over: one is
+        known already, or comes from the end itself."""
         os.set_blocking(worker.pipe, False)
         try:
             while self.read_outcomes(worker):
@@ -221,8 +235,8 @@ class StateWorkers:
             return
 
 
-def as_fields(fault: BaseException) -> Dict[str, Any]:
-    """A fault as another process can raise it."""
+def fields_of_fault(fault: BaseException) -> Dict[str, Any]:
+    """A fault as JSON, for fault_of_fields in another process."""
     if isinstance(fault, OSError) and fault.errno is not None:
         return {'fault': 'os', 'what': [fault.errno, fault.strerror, fault.filename]}
     if isinstance(fault, ProgramFault):
@@ -231,7 +245,8 @@ def as_fields(fault: BaseException) -> Dict[str, Any]:
     return {'fault': kind, 'what': [str(fault) if kind == 'refused' else repr(fault)]}
 
 
-def as_fault(fields: Dict[str, Any]) -> Exception:
+def fault_of_fields(fields: Dict[str, Any]) -> Exception:
+    """The fault of another process; one of an unknown type is a RuntimeError."""
     what = fields['what']
     if fields['fault'] == 'os':
         return OSError(*what)

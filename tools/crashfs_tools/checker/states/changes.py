@@ -11,15 +11,16 @@ ENDING = '.missing'
 
 
 class Changes(NamedTuple):
-    """Of one state: the paths of the start tree that it doesn't have, and its entries that the
-    start tree doesn't have the same, by their paths in the archive: the root's is empty."""
+    """Of the state of a number: the paths of the start tree that it doesn't have, and its entries
+    that the start tree doesn't have the same. Paths are relative, the root's is empty."""
 
     number: int
     missing: List[str]
     entries: Entries
 
     def applied(self, start: Entries) -> Entries:
-        """The state's tree. A missing path that the start tree doesn't have is a KeyError."""
+        """The state's tree, as a new map: the start tree with the changes. KeyError if the start
+        tree lacks a path that is missing in the state."""
         tree = dict(start)
         for path in self.missing:
             del tree[path]
@@ -28,7 +29,8 @@ class Changes(NamedTuple):
 
 def read_changes(members: Iterator[Member]) -> Iterator[Changes]:
     """The changes of each state, in the order of the archive: first the list of what is missing,
-    which has no directory before its name, and then the entries."""
+    which has no directory before its name, and then the entries. ArchiveFault if an entry comes
+    before its list."""
     changes: Optional[Changes] = None
     for whole, entry in members:
         top, _, path = whole.partition('/')

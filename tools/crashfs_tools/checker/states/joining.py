@@ -7,9 +7,9 @@ from typing import Dict, List
 from .plan import Plan, State
 
 
-def joined(trace: str, plan: Plan) -> List[State]:
-    """The states of a plan, of which each has the first equal one of all parts, by the second
-    reading."""
+def joined_states(trace: str, plan: Plan) -> List[State]:
+    """The listed states of a plan in which `same` is the first equal state of all parts, found by
+    the second reading of the trace at a path."""
     from crashfs_tools.reading import read
     from crashfs_tools.reading.states import Digest, States
 

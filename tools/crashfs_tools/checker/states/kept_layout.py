@@ -17,31 +17,41 @@ from .plan import Planned
 
 
 class KeptLayout(Archive):
+    """Each process that calls states() has one directory below the folder, `directory`, which is
+    None before."""
+
     def __init__(
         self, program: Crashfs, planned: Planned, folder: str, environment: Dict[str, str]
     ) -> None:
+        """Asks the program for the start tree; ProgramFault if it fails."""
         super().__init__(program, planned, folder, environment)
         words = [*planned.parts[0].words, '--state', '0']
         with program.archive(words, environment) as members:
             self.start: Entries = dict(members)
-        self.kept: Optional[KeptTree] = None
+        self.directory: Optional[KeptTree] = None
 
     def states(self, wanted: Set[int]) -> Iterator[Tuple[int, str]]:
-        self.kept = KeptTree(os.path.join(self.folder, f'kept-{os.getpid()}'))
+        """Yields the same directory for each state, changed to its tree. In the end it is
+        removed."""
+        own = self.directory = KeptTree(os.path.join(self.folder, f'kept-{os.getpid()}'))
         try:
-            for number, tree in self.trees(wanted):
-                self.kept.bring(tree)
-                yield number, self.kept.directory
+            for number, tree in self.changed_trees(wanted):
+                own.change_to(tree)
+                yield number, own.directory
         finally:
-            self.kept.remove()
+            own.remove()
 
     @contextmanager
     def laid_out(self, number: int, directory: str) -> Iterator[None]:
-        assert self.kept is not None
-        self.kept.begin()
+        """Notes that COMMAND may change the directory from here on. It stays: the next state
+        changes it."""
+        assert self.directory is not None
+        self.directory.note_start()
         yield
 
-    def trees(self, wanted: Set[int]) -> Iterator[Tuple[int, Entries]]:
+    def changed_trees(self, wanted: Set[int]) -> Iterator[Tuple[int, Entries]]:
+        """The trees of the wanted states, by their numbers, with their roots: the start tree with
+        what each changes. ProgramFault, at the end, if the program lacks one."""
         left = set(wanted)
         for request in self.planned.requests(wanted):
             words = [*request.words, '--changes']

@@ -19,8 +19,8 @@ from crashfs_tools.common.file_bytes import file_bytes
 from crashfs_tools.common.mount_table import MountTable
 from crashfs_tools.common.removal import FOLDER, LEFT, remove_tree, set_folder_mode
 
-from .layout import FILLED_MODE, NEW_FILE, Bytes, make_links, unused, write_all
-from .rewriting import rewrite
+from .layout import FILLED_MODE, NEW_FILE, make_links, unused_path, write_all
+from .rewriting import Bytes, rewrite
 
 # File systems that change a file's times with the first store through a new mapping.
 WITH_TIMES = {'ext2', 'ext3', 'ext4', 'xfs', 'f2fs', 'overlay'}
@@ -51,20 +51,29 @@ class Unchangeable(Exception):
 
 
 class KeptTree:
+    """The directory of one process. Call change_to() for each tree, and note_start() before COMMAND
+    starts: files that are younger count as changed by COMMAND."""
+
     def __init__(self, directory: str) -> None:
         self.directory = directory
         self.mounts = MountTable()
+        # Whether the directory has the last tree, but for what COMMAND changed.
         self.is_whole = False
+        # The files as they were written, by path.
         self.files: Dict[str, Laid] = {}
-        # What is there, and the modes of directories that are.
+        # Of the change that is made: the paths that are there, and the modes of directories.
         self.there: Set[str] = set()
         self.modes: Dict[str, int] = {}
+        # When COMMAND started, in nanoseconds of the clock of files.
         self.started = 0
+        # Whether the file system's times show each store, and which extended attributes a new
+        # directory has.
         self.has_times = False
         self.attributes: List[str] = []
 
-    def bring(self, tree: Mapping[str, Entry]) -> None:
-        """Makes the directory have the tree."""
+    def change_to(self, tree: Mapping[str, Entry]) -> None:
+        """Gives the directory a tree, whose paths are relative, the root's empty: by changes or, if
+        something can't be changed, from scratch in a new directory."""
         if self.is_whole:
             try:
                 self.change(tree)
@@ -80,17 +89,20 @@ class KeptTree:
         # Files that are as old as COMMAND count as changed by it.
         time.sleep(TICK_SECONDS)
 
-    def begin(self) -> None:
-        """COMMAND starts after this."""
+    def note_start(self) -> None:
+        """Notes the time: COMMAND starts after this."""
         self.started = time.clock_gettime_ns(REALTIME_COARSE)
 
     def remove(self) -> None:
-        """Removes the directory; what stays of it is beside, and another one takes its place."""
+        """Removes the directory. If some of it stays, the next tree gets a directory with another
+        path."""
         if not remove_tree(self.directory):
-            self.directory = unused(self.directory)
+            self.directory = unused_path(self.directory)
         self.is_whole, self.files = False, {}
 
     def change(self, tree: Mapping[str, Entry]) -> None:
+        """Changes what differs from the tree. Unchangeable, or an OSError, if something can't be
+        changed: the directory is then in between."""
         if self.mounts.below(self.directory):
             raise Unchangeable
         self.there, self.modes = {''}, {}
@@ -103,7 +115,7 @@ class KeptTree:
                 self.files = {path: self.files[path] for path in self.there if path in self.files}
                 for path, one in tree.items():
                     if path not in self.there:
-                        self.put(at, path, one)
+                        self.make_entry(at, path, one)
                 # Until now no symbolic link is there: nothing was made or changed through one.
                 make_links(links_of(tree), at)
                 self.set_modes(at, tree)
@@ -113,8 +125,9 @@ class KeptTree:
             os.umask(umask)
 
     def clear(self, at: int, path: str, tree: Mapping[str, Entry]) -> None:
-        """Removes what isn't in the tree, or isn't as it was, below a directory; and every symbolic
-        link."""
+        """Removes what differs from the tree below a path, whose directory is open as `at`, and all
+        symbolic links. Files that stay are noted as there. Unchangeable if a directory has a mount
+        or extended attributes."""
         if attributes_of(at) != self.attributes:
             raise Unchangeable
         with os.scandir(at) as entries:
@@ -125,7 +138,7 @@ class KeptTree:
             status = entry.stat(follow_symlinks=False)
             if not stat.S_ISDIR(status.st_mode):
                 if wanted is not None and (
-                    self.has(at, name, wanted, status)
+                    self.has_file(at, name, wanted, status)
                     or self.change_bytes(at, name, wanted, status)
                 ):
                     self.there.add(name)
@@ -140,6 +153,8 @@ class KeptTree:
     def clear_directory(
         self, at: int, name: str, path: str, status: os.stat_result, tree: Mapping[str, Entry]
     ) -> None:
+        """Clears a directory that the tree has, by its name below an open one; path is the whole
+        one."""
         self.open_up(path, name, at, status)
         below = os.open(name, FOLDER, dir_fd=at)
         try:
@@ -149,15 +164,17 @@ class KeptTree:
         self.there.add(path)
 
     def open_up(self, path: str, name: str, at: Optional[int], status: os.stat_result) -> None:
-        """Gives a directory the rights that changes need."""
+        """Gives a directory the rights that changes need, and notes its mode by its path; name is
+        that below `at`."""
         mode = stat.S_IMODE(status.st_mode)
         if mode & FILLED_MODE != FILLED_MODE:
             set_folder_mode(name, FILLED_MODE, at)
             mode = FILLED_MODE
         self.modes[path] = mode
 
-    def has(self, at: int, path: str, wanted: Entry, status: os.stat_result) -> bool:
-        """Whether a file is as it was written, and as it is wanted."""
+    def has_file(self, at: int, path: str, wanted: Entry, status: os.stat_result) -> bool:
+        """Whether the file of a path is still as it was written, and is as wanted; `at` is its open
+        directory, status what lstat says of it."""
         laid = self.files.get(path)
         if laid is None or laid.entry != wanted or not self.is_as_laid(laid, status):
             return False
@@ -168,8 +185,9 @@ class KeptTree:
         return laid.signature == signature_of(status) and status.st_ctime_ns < self.started
 
     def change_bytes(self, at: int, path: str, wanted: Entry, status: os.stat_result) -> bool:
-        """Gives a large file the bytes that are wanted; returns False if it must be made again,
-        since COMMAND put another one in its place or changed more than its bytes."""
+        """Gives a large file its wanted bytes in place; `at` is its open directory. Returns False,
+        and changes nothing, if it must be made again: COMMAND replaced it, or changed more than its
+        bytes, or it is small."""
         laid = self.files.get(path)
         if (
             not self.has_times
@@ -193,7 +211,9 @@ class KeptTree:
             os.close(file)
         return True
 
-    def put(self, at: int, path: str, one: Entry) -> None:
+    def make_entry(self, at: int, path: str, one: Entry) -> None:
+        """Makes the file or directory of a path below the open root, and notes what it made;
+        nothing for a symbolic link."""
         if one.data is None:
             if one.is_directory:
                 os.mkdir(path, FILLED_MODE, dir_fd=at)
@@ -208,7 +228,8 @@ class KeptTree:
             os.close(file)
 
     def set_modes(self, at: int, tree: Mapping[str, Entry]) -> None:
-        """Inner directories before outer ones: modes may forbid what is done below."""
+        """Gives the directories their modes: inner ones before outer ones, since modes may forbid
+        what is done below."""
         changed = [path for path, mode in self.modes.items() if tree[path].mode != mode]
         for path in sorted(changed, reverse=True):
             set_folder_mode(path or '.', tree[path].mode, at)
@@ -222,10 +243,12 @@ def links_of(tree: Mapping[str, Entry]) -> Iterator[Tuple[str, str]]:
 
 
 def is_large(entry: Entry) -> bool:
+    """Whether a file is changed in place, not made again."""
     return len(entry.data or b'') >= LARGE_BYTES
 
 
 def signature_of(status: os.stat_result) -> Signature:
+    """What shows that a file was changed: first the RIGHTS numbers that its bytes don't change."""
     return (
         status.st_ino,
         status.st_mode,
@@ -239,6 +262,8 @@ def signature_of(status: os.stat_result) -> Signature:
 
 
 def bytes_of(at: int, name: str) -> Bytes:
+    """The bytes of the file of a name in an open directory, which isn't followed if it is a link
+    (OSError)."""
     file = os.open(name, os.O_RDONLY | os.O_NOFOLLOW | os.O_CLOEXEC, dir_fd=at)
     try:
         return file_bytes(file)
@@ -246,16 +271,18 @@ def bytes_of(at: int, name: str) -> Bytes:
         os.close(file)
 
 
-def attributes_of(directory: Union[str, int]) -> List[str]:
-    """The names of its extended attributes; none if the file system has no such thing."""
+def attributes_of(file: Union[str, int]) -> List[str]:
+    """The names of the extended attributes of a file or directory, by its path or descriptor; none
+    if the file system has no such thing."""
     try:
-        return os.listxattr(directory)
+        return os.listxattr(file)
     except OSError:
         return []
 
 
 def file_system_of(path: str) -> str:
-    """The type of the file system that has a path, or nothing if it isn't found."""
+    """The type of the file system that has a path, as mountinfo names it; an empty text if it names
+    none."""
     device = os.stat(path).st_dev
     wanted = f'{os.major(device)}:{os.minor(device)}'
     try:

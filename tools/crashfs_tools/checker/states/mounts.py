@@ -23,6 +23,7 @@ class Mounts(Layout):
     def __init__(
         self, address: Address, uname: str, folder: str, environment: Dict[str, str]
     ) -> None:
+        """uname is the user who attaches; Refused if it has a comma, or if the host isn't known."""
         if ',' in uname:
             raise Refused(f'--uname {uname}: no mount can have a name with a comma')
         self.address = address
@@ -33,12 +34,14 @@ class Mounts(Layout):
         self.run = f'check-{os.urandom(8).hex()}'
 
     def states(self, wanted: Set[int]) -> Iterator[Tuple[int, str]]:
+        """Yields paths below the folder at which nothing is yet: laid_out() makes them."""
         os.makedirs(self.folder, exist_ok=True)
         for number in sorted(wanted):
             yield number, os.path.join(self.folder, str(number))
 
     @contextmanager
     def laid_out(self, number: int, directory: str) -> Iterator[None]:
+        """Within this a state's run is mounted at the directory."""
         os.mkdir(directory)
         self.mount(f'{number}/{self.run}', directory)
         try:
@@ -48,8 +51,8 @@ class Mounts(Layout):
         os.rmdir(directory)
 
     def mount_words(self, name: str, directory: str) -> List[str]:
-        """The command that mounts a state's run. Linux shows all files as those of who runs
-        this; whose rights count is said by uname."""
+        """The command that mounts a state's run, by its name at the server. Linux shows all files
+        as those of the user who runs this; the rights that count are those of uname."""
         options = [
             'trans=tcp',
             f'port={self.address.port}',
@@ -63,13 +66,15 @@ class Mounts(Layout):
         return ['mount', '-t', '9p', '-o', ','.join(options), self.host, directory]
 
     def mount(self, name: str, directory: str) -> None:
+        """Mounts the run of a name; Refused if that fails."""
         fault = fault_of(self.mount_words(name, directory), directory, self.environment)
         if fault:
             raise Refused(f'no mount of {name} from {self.address}: {fault} ({NEEDS})')
 
     def unmount(self, directory: str) -> None:
-        """Lazily where a process that COMMAND left behind is in it still. The guard's mark isn't
-        in its environment: nothing has to end it."""
+        """Unmounts a state: lazily if a process that COMMAND left behind is still in it. The
+        command doesn't have the check's environment, by which the guard finds processes to end: it
+        must run to its end also if the check is stopped. Refused if it stays mounted."""
         environment = dict(os.environ)
         fault = fault_of(['umount', directory], directory, environment)
         if fault and fault_of(['umount', '-l', directory], directory, environment):
@@ -77,8 +82,9 @@ class Mounts(Layout):
 
 
 def fault_of(words: List[str], directory: str, environment: Dict[str, str]) -> str:
-    """What a command says that fails, in a line; nothing of one that does what it should. It has
-    a session of its own, so that Ctrl-C doesn't end it half-way."""
+    """Runs a command about a directory, in a session of its own, so that Ctrl-C doesn't end it
+    half-way. Returns an empty text if it succeeds, else a line that says why not, without the
+    directory's name."""
     try:
         ran = subprocess.run(
             words,

@@ -6,16 +6,19 @@ import json
 from dataclasses import dataclass
 from typing import Any, Dict, Iterable, Iterator, List, NamedTuple, Optional, Sequence, Tuple
 
+from .place_sets import lacking_of, places_of, set_of, size_of
+
 # The fields of a micro-operation that its text has after its kind and path, in this order.
 DETAILS = ('to', 'block', 'at', 'count', 'length', 'node', 'target', 'mode', 'owner', 'group')
 
 
 class PlanError(Exception):
-    """Output of `crashfs list` that this tool doesn't know."""
+    """Output of `crashfs list` or `crashfs picks` that this tool doesn't know."""
 
 
 class MicroOperation(NamedTuple):
-    """A micro-operation by its place in the session; path is that of its file, or of its entry."""
+    """A micro-operation by its place in the session. path is that of its file or entry; rest has
+    its details as text, and line is that of the session's trace."""
 
     place: int
     kind: str
@@ -25,19 +28,9 @@ class MicroOperation(NamedTuple):
 
     @property
     def text(self) -> str:
+        """The micro-operation as reports and pages show it."""
         words = [f'op {self.place}', self.kind, self.path, self.rest]
         return ' '.join(word for word in words if word)
-
-
-class State(NamedTuple):
-    """A crash state. numbers are places in its plan: a prefix's end; what a hole is missing, and
-    its end; the members of a pick. same is the first state with an equal tree."""
-
-    number: int
-    family: str
-    numbers: Tuple[int, ...]
-    says: int
-    same: int
 
 
 class Trial(NamedTuple):
@@ -45,6 +38,23 @@ class Trial(NamedTuple):
 
     same: int
     says: int
+
+
+class State(NamedTuple):
+    """A crash state. family is `prefix`, `hole` or `pick`. numbers are places in its plan: a
+    prefix's end; what a hole is missing, and its end; the members of a pick. says is how many lines
+    were acknowledged, and same the first state with an equal tree."""
+
+    number: int
+    family: str
+    numbers: Tuple[int, ...]
+    says: int
+    same: int
+
+    @property
+    def trial(self) -> Trial:
+        """What the state is tried by: one run is enough for all states of a trial."""
+        return Trial(self.same, self.says)
 
 
 class Offsets(NamedTuple):
@@ -57,11 +67,12 @@ class Offsets(NamedTuple):
     says: int = 0
     lines: Tuple[int, ...] = ()
 
-    def line(self, number: int) -> int:
+    def session_line(self, number: int) -> int:
+        """The line of the session that is a line of the plan's trace."""
         return self.lines[number - 1] if self.lines else number
 
-    def own_lines(self, values: Dict[int, str]) -> Dict[int, str]:
-        """Values by lines of the session, by the last line of the plan's trace for each."""
+    def by_own_lines(self, values: Dict[int, str]) -> Dict[int, str]:
+        """Values by the trace's own lines: by the last one for each line of the session."""
         if not self.lines:
             return values
         own = {line: number for number, line in enumerate(self.lines, 1)}
@@ -83,42 +94,53 @@ class AllStates(NamedTuple):
 
 
 class Needs:
-    """Which micro-operations each one needs, by any chain, itself among them. Sets of places are
-    numbers whose bits are the places."""
+    """Which micro-operations each one needs, by any chain, itself among them: a set for each place.
+    No micro-operation needs a later one."""
 
     def __init__(self, masks: Sequence[int]) -> None:
         self.masks = masks
-        self.needed_by: Dict[int, int] = {}
+        self._needing: Dict[int, int] = {}
 
-    def needs(self, later: int, earlier: int) -> bool:
-        return later < len(self.masks) and bool(self.masks[later] >> earlier & 1)
+    def is_needed(self, earlier: int, by: int) -> bool:
+        """Whether the micro-operation at `by` needs an earlier one; False for a `by` past the
+        end."""
+        return by < len(self.masks) and bool(self.masks[by] >> earlier & 1)
 
-    def needing(self, place: int) -> int:
-        """The micro-operations that need one, itself among them."""
-        if place not in self.needed_by:
-            self.needed_by[place] = 1 << place | set_of(
-                later for later in range(place + 1, len(self.masks)) if self.needs(later, place)
+    def set_needing(self, place: int) -> int:
+        """The set of the micro-operations that need one, itself among them."""
+        if place not in self._needing:
+            later = range(place + 1, len(self.masks))
+            self._needing[place] = set_of(
+                [place, *(one for one in later if self.is_needed(place, by=one))]
             )
-        return self.needed_by[place]
+        return self._needing[place]
 
     @property
     def full(self) -> int:
         """The set of all micro-operations."""
         return (1 << len(self.masks)) - 1
 
+    def sets_without_lines(self, lines: Iterable[int]) -> List[int]:
+        """The largest allowed set that has nothing of each line, which `lines` has by places."""
+        lost: Dict[int, int] = {}
+        for place, line in enumerate(lines):
+            lost[line] = lost.get(line, 0) | self.set_needing(place)
+        return [self.full & ~one for one in lost.values()]
+
     @property
-    def holes(self) -> int:
-        """How many holes a plan has."""
-        return sum(place + 1 - count(mask) for place, mask in enumerate(self.masks))
+    def hole_count(self) -> int:
+        """How many holes a plan has: one for each micro-operation and each earlier one that it
+        doesn't need."""
+        return sum(place + 1 - size_of(mask) for place, mask in enumerate(self.masks))
 
-    def has_hole(self, kept: int) -> bool:
-        """Whether a set is a prefix, or one without a micro-operation and all that need it."""
-        lacking = (1 << kept.bit_length()) - 1 & ~kept
+    def is_prefix_or_hole(self, kept: int) -> bool:
+        """Whether a set is that of a prefix or of a hole."""
+        lacking = lacking_of(kept)
         first = next(places_of(lacking), None)
-        return first is None or lacking == self.needing(first) & (1 << kept.bit_length()) - 1
+        return first is None or lacking == self.set_needing(first) & (1 << kept.bit_length()) - 1
 
-    def allow(self, kept: int) -> bool:
-        """Whether a set has all that its members need."""
+    def is_allowed(self, kept: int) -> bool:
+        """Whether a set has all that its members need, so that a crash may leave it."""
         return all(self.masks[place] & ~kept == 0 for place in places_of(kept))
 
 
@@ -134,7 +156,9 @@ class SetProfiles(NamedTuple):
 
 class Plan:
     """The micro-operations, the states of crashes, and what each state keeps. first is the number
-    of the first state. all_states is None if only families of states were asked for."""
+    of the first listed state; the others follow it. kept has the set of each listed state, by its
+    number, and states those of the listed ones that may be tried. all_states is None if only
+    families of states were asked for."""
 
     def __init__(
         self,
@@ -145,85 +169,89 @@ class Plan:
         all_states: Optional[AllStates] = None,
         profiles: SetProfiles = SetProfiles(),
     ) -> None:
+        assert len(profiles.of_sets) in (0, len(listed))
         self.all_states = all_states
         self.profiles = profiles
         self.operations = operations
         self.listed = listed
         self.needs = needs
         self.first = first
-        self.says = set_of(at for at, one in enumerate(operations) if one.kind == 'say')
-        self.kept = {state.number: self.kept_by(state) for state in listed}
-        self.under = self.profiles_of_trials()
+        self.say_places = set_of(at for at, one in enumerate(operations) if one.kind == 'say')
+        self.kept = {state.number: self.set_kept_by(state) for state in listed}
+        self._profiles = self.profiles_of_trials()
         self.states = [
             state
             for state in listed
-            if self.may_be(self.kept[state.number])
-            and profiles.wanted in ('', *self.profiles_of(state))
+            if self.may_be_left(self.kept[state.number])
+            and profiles.wanted in ('', *self.profile_names_of(state))
         ]
 
     def profiles_of_trials(self) -> Dict[Trial, int]:
-        """A trial is allowed under a profile if one of the sets that leave it is."""
+        """For each trial, as bits, the profiles that allow one of the sets that leave it."""
         found: Dict[Trial, int] = {}
         for state, profiles in zip(self.listed, self.profiles.of_sets):
-            trial = Trial(state.same, state.says)
-            found[trial] = found.get(trial, 0) | profiles
+            found[state.trial] = found.get(state.trial, 0) | profiles
         return found
 
-    def profiles_of(self, state: State) -> List[str]:
-        """The profiles under whose rules a crash may leave what a state leaves."""
-        bits = self.under.get(Trial(state.same, state.says), 0)
+    def profile_names_of(self, state: State) -> List[str]:
+        """The names of the profiles under whose rules a crash may leave what a state leaves."""
+        bits = self._profiles.get(state.trial, 0)
         return [name for place, name in enumerate(self.profiles.names) if bits >> place & 1]
 
     def with_states(
         self, listed: List[State], all_states: Optional[AllStates], profiles: SetProfiles
     ) -> Plan:
-        """The same plan with these states, and what is known of them."""
+        """The same plan with these listed states, their profiles, and what is known of all."""
         return Plan(self.operations, listed, self.needs, self.first, all_states, profiles)
 
     @property
     def families(self) -> List[State]:
-        """The states that are listed as members of families."""
+        """The first listed states; all if only families were asked for."""
         return self.listed[: self.all_states.families] if self.all_states else self.listed
 
     @property
-    def begin(self) -> int:
-        """The session's place of the first micro-operation."""
+    def first_place(self) -> int:
+        """The session's place of the first micro-operation; 0 if the plan has none."""
         return self.operations[0].place if self.operations else 0
 
-    def has(self, number: int) -> bool:
+    def has_state(self, number: int) -> bool:
+        """Whether a state of this number is listed."""
         return self.first <= number < self.first + len(self.listed)
 
     def state(self, number: int) -> State:
+        """The listed state of a number; has_state() must hold."""
         return self.listed[number - self.first]
 
-    def text(self, state: State) -> str:
-        """Which state it is, by the session's micro-operations."""
-        shown = ' '.join(str(self.begin + number) for number in state.numbers)
+    def state_text(self, state: State) -> str:
+        """Which state it is, by the session's places of its numbers; those of a pick, of which
+        there may be hundreds, aren't shown."""
+        shown = ' '.join(str(self.first_place + number) for number in state.numbers)
         return 'a pick' if state.family == 'pick' else f'{state.family} {shown}'
 
-    def kept_by(self, state: State) -> int:
+    def set_kept_by(self, state: State) -> int:
+        """The set of the micro-operations that a state has, by its family and numbers."""
         if state.family == 'pick':
             return set_of(state.numbers)
         if state.family == 'prefix':
             return (1 << state.numbers[0]) - 1
         lost, end = state.numbers
-        return (1 << end) - 1 & ~self.needs.needing(lost)
+        return (1 << end) - 1 & ~self.needs.set_needing(lost)
 
-    def may_be(self, kept: int) -> bool:
-        """Whether a crash leaves the set: none keeps what the program did after it printed a line,
-        and lacks the line. Traces of version 3 have no other states."""
-        first_lacking = self.says & ~kept & -(self.says & ~kept)
-        return first_lacking == 0 or kept < first_lacking
+    def may_be_left(self, kept: int) -> bool:
+        """Whether a crash may leave a set: no member comes after an acknowledged line that it
+        lacks. Traces of version 3 on have no other sets."""
+        lost_says = self.say_places & ~kept
+        first_lost = lost_says & -lost_says
+        return first_lost == 0 or kept < first_lost
 
-    def lacking(self, state: State) -> int:
-        """What a state lacks of the session up to the last of its micro-operations."""
-        kept = self.kept[state.number]
-        return (1 << kept.bit_length()) - 1 & ~kept
+    def set_lost_by(self, state: State) -> int:
+        """The set of what a state lacks before its last micro-operation."""
+        return lacking_of(self.kept[state.number])
 
 
 class Part(NamedTuple):
-    """The states of a plan from one number to before another: the options that name them for the
-    program, which gives the first of them the number `own`."""
+    """The states of a plan from the number `first` to before `end`: the options that name their
+    plan for the program, which gives the first of them the number `own`."""
 
     words: List[str]
     first: int
@@ -232,8 +260,8 @@ class Part(NamedTuple):
 
 
 class Request(NamedTuple):
-    """States that the program gives at once: the options that name them. The program's numbers are
-    those of the plan without `lead`."""
+    """States that the program gives at once: the options that name them. A state's number in the
+    plan is the program's number of it and `lead`."""
 
     words: List[str]
     lead: int
@@ -251,8 +279,8 @@ class Planned:
     offsets: Offsets = Offsets()
     is_last: bool = True
 
-    def part(self) -> str:
-        """Which part of the session it is, before what is said of it; nothing if it is all."""
+    def part_text(self) -> str:
+        """Which part of the session it is, before a colon; an empty text if it is the whole."""
         begin = self.offsets.operations
         if self.is_last and begin == 0:
             return ''
@@ -264,18 +292,18 @@ class Planned:
         return [self.trace, *(path for option, path in pairs if option == '--picks')]
 
     def requests(self, numbers: Iterable[int]) -> Iterator[Request]:
-        """The states of these numbers, for `tar`."""
+        """The options of `tar` for the states of these numbers, for each part that has some."""
         wanted = set(numbers)
         for part in self.parts:
             own = {one for one in wanted if part.first <= one < part.end}
             if own:
                 lead = part.first - part.own
-                listed = list_of(one - lead for one in own)
-                yield Request([*part.words, '--states', listed], lead)
+                shown = ranges_text(one - lead for one in own)
+                yield Request([*part.words, '--states', shown], lead)
 
 
-def list_of(numbers: Iterable[int]) -> str:
-    """Numbers as `tar --states` takes them: one by one and in ranges, ascending."""
+def ranges_text(numbers: Iterable[int]) -> str:
+    """Different numbers as `tar --states` takes them: one by one and in ranges, ascending."""
     ranges: List[List[int]] = []
     for number in sorted(numbers):
         if ranges and ranges[-1][1] == number - 1:
@@ -285,39 +313,16 @@ def list_of(numbers: Iterable[int]) -> str:
     return ','.join(str(first) if first == last else f'{first}-{last}' for first, last in ranges)
 
 
-def line_losses(operations: Sequence[MicroOperation], needs: Needs) -> List[int]:
-    """For each line of the trace the largest set that has nothing of it."""
-    lost: Dict[int, int] = {}
-    for place, one in enumerate(operations):
-        lost[one.line] = lost.get(one.line, 0) | needs.needing(place)
-    return [needs.full & ~one for one in lost.values()]
-
-
-def set_of(places: Iterable[int]) -> int:
-    return sum(1 << place for place in places)
-
-
-def count(places: int) -> int:
-    return bin(places).count('1')
-
-
-def places_of(mask: int) -> Iterator[int]:
-    """The places of a set, ascending."""
-    while mask:
-        lowest = mask & -mask
-        yield lowest.bit_length() - 1
-        mask ^= lowest
-
-
 def read_plan(listed: str, offsets: Offsets = Offsets(), more: Sequence[str] = ()) -> Plan:
-    """The plan that the program printed, with numbers, places and lines of the whole session. more
-    has what it printed of further parts, of which the picks are taken."""
+    """The plan that `list --json` printed, in numbers, places and lines of the session. more has
+    what it printed for further parts, of which only the picks are added. PlanError for a line that
+    it doesn't know."""
     read = Listed(offsets)
     for part in (listed, *more):
-        read.begin()
+        read.begin_part()
         for line in part.rstrip('\n').split('\n'):
             try:
-                read.take(json.loads(line))
+                read.add_line(json.loads(line))
             except (ValueError, KeyError, TypeError, AttributeError) as error:
                 raise PlanError(f'crashfs list printed: {line}') from error
     needs = Needs(read.masks)
@@ -325,7 +330,7 @@ def read_plan(listed: str, offsets: Offsets = Offsets(), more: Sequence[str] = (
 
 
 class Listed:
-    """What `crashfs list` printed of the parts of a plan."""
+    """What `crashfs list` printed of the parts of a plan, taken line by line."""
 
     def __init__(self, offsets: Offsets) -> None:
         self.offsets = offsets
@@ -335,23 +340,25 @@ class Listed:
         self.allowed: List[List[str]] = []
 
     def profiles(self) -> SetProfiles:
-        """What it printed of profiles. The first state, of which nothing is kept, has all."""
+        """What it printed of profiles. The first state, which keeps nothing, is allowed by all."""
         names = tuple(self.allowed[0]) if self.allowed else ()
         return SetProfiles(names, tuple(set_of(map(names.index, one)) for one in self.allowed))
 
-    def begin(self) -> None:
-        """Begins the next part: the program numbers its picks from the same number on."""
+    def begin_part(self) -> None:
+        """Begins the next part, in which the program numbers the picks from the same number on."""
         self.is_first = not self.states
         self.lead = 0 if self.is_first else len(self.states) - len(self.operations) - 1
 
-    def take(self, fields: Dict[str, Any]) -> None:
+    def add_line(self, fields: Dict[str, Any]) -> None:
+        """Adds the operation or the state of a line. Each part has the same operations."""
         if 'op' not in fields:
-            self.take_state(fields)
+            self.add_state(fields)
         elif self.is_first:
             self.operations.append(operation_of(fields, self.offsets))
             self.masks.append(set_of(fields['needs']))
 
-    def take_state(self, fields: Dict[str, Any]) -> None:
+    def add_state(self, fields: Dict[str, Any]) -> None:
+        """Adds the state of a line; of a further part only a pick, with a lead on its numbers."""
         if not self.is_first:
             if fields['kind'] != 'pick':
                 return
@@ -364,17 +371,20 @@ class Listed:
 
 
 def operation_of(fields: Dict[str, Any], offsets: Offsets) -> MicroOperation:
+    """The micro-operation of a line of `list --json`, in places and lines of the session."""
     rest = ' '.join(str(fields[key]) for key in DETAILS if key in fields)
     return MicroOperation(
         fields['op'] + offsets.operations,
         fields['kind'],
         fields.get('path') or '',
         rest,
-        offsets.line(fields['line']),
+        offsets.session_line(fields['line']),
     )
 
 
 def state_of(fields: Dict[str, Any], offsets: Offsets) -> State:
+    """The state of a line of `list --json`, in numbers of the session; KeyError for another
+    kind."""
     kind = fields['kind']
     if kind == 'pick':
         numbers = tuple(fields['places'])

@@ -12,8 +12,9 @@ Bytes = Union[bytes, bytearray, SparseBytes]
 
 
 def rewrite(file: int, before: Bytes, wanted: Bytes) -> None:
-    """Makes an open file that has the bytes `before` have others."""
-    for at in places(before, wanted):
+    """Changes an open file, which has the bytes `before`, to the wanted bytes. Only pieces that
+    differ are written."""
+    for at in piece_offsets(before, wanted):
         piece = wanted[at : at + PIECE_BYTES]
         if before[at : at + PIECE_BYTES] != piece and (at < len(before) or has_bytes(piece)):
             write_at(file, at, piece)
@@ -21,8 +22,8 @@ def rewrite(file: int, before: Bytes, wanted: Bytes) -> None:
         os.ftruncate(file, len(wanted))
 
 
-def places(before: Bytes, wanted: Bytes) -> Iterable[int]:
-    """Where pieces begin that may differ."""
+def piece_offsets(before: Bytes, wanted: Bytes) -> Iterable[int]:
+    """Where the pieces of the wanted bytes begin that may differ, ascending."""
     if isinstance(before, SparseBytes) and isinstance(wanted, SparseBytes):
         pages = before.pages.keys() | wanted.pages.keys()
         starts = {page * PAGE_BYTES // PIECE_BYTES * PIECE_BYTES for page in pages}
@@ -36,6 +37,7 @@ def has_bytes(piece: Union[bytes, bytearray]) -> bool:
 
 
 def write_at(file: int, at: int, data: Union[bytes, bytearray]) -> None:
+    """Writes all bytes at an offset of an open file."""
     while data:
         count = os.pwrite(file, data, at)
         at, data = at + count, data[count:]

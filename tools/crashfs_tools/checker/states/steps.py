@@ -28,9 +28,11 @@ class Step:
 
 
 class Session:
-    """A trace, its steps, and before each step how many micro-operations there were."""
+    """A trace, its steps, and before each step how many micro-operations there were: places has
+    one number more than there are steps."""
 
     def __init__(self, name: str, text: str) -> None:
+        """Reads the text of a trace; Refused with its name if a line can't be done."""
         self.trace, numbers = read_numbered(text)
         self.steps: List[Step] = []
         self.places = [0]
@@ -39,7 +41,7 @@ class Session:
             fault = tree.fault(operation)
             if fault:
                 raise Refused(f'{name}: line {line}: {fault}')
-            for piece in pieces(operation, tree):
+            for piece in parts_of_operation(operation, tree):
                 before = tree.micro_operations
                 tree.apply(piece)
                 size = tree.micro_operations - before
@@ -48,8 +50,8 @@ class Session:
         self.end = tree
 
     def end_trace(self) -> str:
-        """A trace of the tree at the session's end, in which nothing happens."""
-        return text_of(
+        """The text of a trace of the tree at the session's end, in which nothing happens."""
+        return trace_text(
             Trace(
                 *start_lines(self.end.entries, self.end.files),
                 [],
@@ -61,20 +63,21 @@ class Session:
 
 
 def start_tree(trace: Trace) -> Tree:
+    """The tree in which a trace begins, to which its operations can be applied."""
     tree = tree_of(trace)
     for entry in trace.start:
         tree.add_start(entry)
     return tree
 
 
-def pieces(operation: Operation, tree: Tree) -> Iterator[Operation]:
+def parts_of_operation(operation: Operation, tree: Tree) -> Iterator[Operation]:
     """An operation; or a long write as what makes the same micro-operations: first its size, then
-    so many blocks at a time."""
+    so many blocks at a time. tree is the one before it."""
     if not isinstance(operation, Write) or len(operation.data) <= PIECE_BLOCKS * tree.block:
         yield operation
         return
     end = operation.offset + len(operation.data)
-    for length in sizes(tree, operation.path, end):
+    for length in lengths_before_write(tree, operation.path, end):
         yield Truncate(operation.path, length)
     at = operation.offset
     while at < end:
@@ -84,9 +87,9 @@ def pieces(operation: Operation, tree: Tree) -> Iterator[Operation]:
         at = stop
 
 
-def sizes(tree: Tree, path: str, end: int) -> Iterator[int]:
-    """The lengths that a write up to a place gives a file, one after the other: in version 4 it
-    grows to the end of its last page first."""
+def lengths_before_write(tree: Tree, path: str, end: int) -> Iterator[int]:
+    """The sizes that a write up to the offset `end` gives a file before its blocks, in their order:
+    in version 4 first the end of its last page. None if the file doesn't grow."""
     size = len(tree.entries[path].data or b'')
     if tree.version >= 4 and grows_past_page(size, end):
         yield page_end(size)
@@ -106,23 +109,28 @@ class Steps:
         self.start = self.tree.entries.copy()
 
     def end_within(self, size: int) -> int:
-        """The last end of a part that has no more micro-operations, and at least one step."""
+        """The last step before which a part may end that has at most so many micro-operations; at
+        least the step after the first one, even if that is larger."""
         places = self.session.places
         end = bisect.bisect_right(places, places[self.begin] + size) - 1
         return min(max(end, self.begin + 1), len(self.session.steps))
 
-    def size_to(self, end: int) -> int:
+    def size_until(self, end: int) -> int:
+        """How many micro-operations the part before a step has."""
         return self.session.places[end] - self.session.places[self.begin]
 
     def go_to(self, step: int, start: Entries) -> None:
+        """Goes on to a later step, by applying the operations before it. start is the tree there as
+        the program gives it."""
         for one in self.session.steps[self.begin : step]:
             self.says += isinstance(one.operation, Say)
             self.tree.apply(one.operation)
         self.begin = step
         self.start = start
 
-    def trace(self, end: int) -> Tuple[str, Tuple[int, ...]]:
-        """The trace of the steps up to an end, and for each of its lines that of the session."""
+    def trace_until(self, end: int) -> Tuple[str, Tuple[int, ...]]:
+        """The text of the trace of the part before a step, and for each line of this text the
+        number of its line in the session: 0 for the header and the start lines."""
         part = self.session.steps[self.begin : end]
         whole = self.session.trace
         header, start = start_lines(self.start, self.tree.files)
@@ -136,8 +144,9 @@ class Steps:
             whole.block,
             notes,
         )
-        return text_of(trace), (0,) * (1 + len(start)) + tuple(one.line for one in part)
+        return trace_text(trace), (0,) * (1 + len(start)) + tuple(one.line for one in part)
 
 
-def text_of(trace: Trace) -> str:
+def trace_text(trace: Trace) -> str:
+    """A trace as its file has it."""
     return ''.join(line + '\n' for line in trace.lines())

@@ -1,4 +1,4 @@
-"""Calls that read, write and truncate."""
+"""Calls that read, write and truncate. Each `on_NAME` translates a call NAME that has returned."""
 
 from __future__ import annotations
 
@@ -14,6 +14,7 @@ NOT_IN_LOG = 'its bytes are not in the log'
 
 
 def on_read(files: LiveFiles, process: Process, call: Call) -> None:
+    """Moves the offset of the open file past what was read."""
     file = process.descriptors.files.get(call.descriptor().number)
     if file is not None:
         file.position += call.result
@@ -21,60 +22,67 @@ def on_read(files: LiveFiles, process: Process, call: Call) -> None:
 
 def on_preadv2(files: LiveFiles, process: Process, call: Call) -> None:
     """Moves the file's own offset if it reads at that."""
-    if arguments.integer(call.word(3)) == -1:
+    if arguments.integer(call.argument(3)) == -1:
         on_read(files, process, call)
 
 
 def on_lseek(files: LiveFiles, process: Process, call: Call) -> None:
+    """Sets the offset of the open file."""
     file = process.descriptors.files.get(call.descriptor().number)
     if file is not None:
         file.position = call.result
 
 
 def on_llseek(files: LiveFiles, process: Process, call: Call) -> None:
-    """The lseek of 32-bit programs: it returns the offset through a pointer."""
+    """The lseek of 32-bit programs: strace shows the new offset in the first cell, `[42]`."""
     file = process.descriptors.files.get(call.descriptor().number)
-    cells = [arguments.offset_cell(word) for word in call.words]
+    cells = [arguments.offset_in_cell(word) for word in call.arguments]
     found = [cell for cell in cells if cell is not None]
     if file is not None and found:
         file.position = found[0]
 
 
 def on_write(files: LiveFiles, process: Process, call: Call) -> None:
-    write_to_descriptor(files, process, call, 0, arguments.data(call.word(1)), None)
+    """Writes at the offset of the open file."""
+    write_to_descriptor(files, process, call, arguments.bytes_of_text(call.argument(1)))
 
 
 def on_pwrite(files: LiveFiles, process: Process, call: Call) -> None:
-    offset = arguments.integer(call.word(3))
-    write_to_descriptor(files, process, call, 0, arguments.data(call.word(1)), offset)
+    """Writes at an offset that the call names."""
+    data = arguments.bytes_of_text(call.argument(1))
+    offset = arguments.integer(call.argument(3))
+    write_to_descriptor(files, process, call, data, offset=offset)
 
 
 def on_writev(files: LiveFiles, process: Process, call: Call) -> None:
-    write_to_descriptor(files, process, call, 0, arguments.vector(call.word(1)), None)
+    """Writes several pieces at the offset of the open file."""
+    write_to_descriptor(files, process, call, arguments.bytes_of_vector(call.argument(1)))
 
 
 def on_pwritev(files: LiveFiles, process: Process, call: Call) -> None:
-    """Also pwritev2, which has flags, and -1 for the file's own offset."""
-    offset: Optional[int] = arguments.integer(call.word(3))
+    """Writes several pieces at an offset. pwritev2 has flags, too, and -1 means the offset of the
+    open file."""
+    offset = arguments.integer(call.argument(3))
     write_to_descriptor(
         files,
         process,
         call,
-        0,
-        arguments.vector(call.word(1)),
-        None if offset == -1 else offset,
-        call.word(4),
+        arguments.bytes_of_vector(call.argument(1)),
+        offset=None if offset == -1 else offset,
+        flags=call.argument(4),
     )
 
 
 def on_send(files: LiveFiles, process: Process, call: Call) -> None:
-    """Reads the bytes that are sent over a socket."""
-    word = call.word(1)
-    data = arguments.vector(word) if call.name == 'sendmsg' else arguments.data(word)
-    whole = arguments.vectors(word) if call.name == 'sendmmsg' else data
+    """Adds the bytes that are sent over a socket, or reports that the log lacks them."""
+    word = call.argument(1)
+    data = (
+        arguments.bytes_of_vector(word) if call.name == 'sendmsg' else arguments.bytes_of_text(word)
+    )
+    whole = arguments.bytes_of_messages(word) if call.name == 'sendmmsg' else data
     stream = files.stream_of(process, call)
     if stream is not None and whole is None:
-        files.report(f'{call.name}: {NOT_IN_LOG}', stream.name)
+        files.recording.report(f'{call.name}: {NOT_IN_LOG}', stream.name)
     elif stream is not None and whole is not None:
         files.recording.add_output(
             stream, whole if call.name == 'sendmmsg' else whole[: call.result]
@@ -82,7 +90,8 @@ def on_send(files: LiveFiles, process: Process, call: Call) -> None:
 
 
 def on_accept(files: LiveFiles, process: Process, call: Call) -> None:
-    process.descriptors.put(call.result, None, 'SOCK_CLOEXEC' in call.word(3))
+    """Adds a connection, over which something may be acknowledged."""
+    process.descriptors.set_file(call.result, None, 'SOCK_CLOEXEC' in call.argument(3))
     files.recording.streams.add_connection(call.made.text)
 
 
@@ -90,25 +99,27 @@ def write_to_descriptor(
     files: LiveFiles,
     process: Process,
     call: Call,
-    target: int,
     data: Optional[bytes],
-    offset: Optional[int],
+    *,
+    target: int = 0,
+    offset: Optional[int] = None,
     flags: str = '',
-    what: str = NOT_IN_LOG,
+    missing: str = NOT_IN_LOG,
 ) -> None:
-    """Writes bytes to a descriptor: at an offset, or at the file's own offset (None)."""
+    """Writes bytes to the descriptor that is the argument `target`: at an offset, or at that of the
+    open file (None). `missing` says why the bytes aren't known, if data is None."""
     stream = files.stream_of(process, call, target)
     if stream is not None:
         if data is not None:
             files.recording.add_output(stream, data[: call.result])
         elif stream.is_acknowledged:
-            files.report(f'{call.name}: {what}', stream.name)
+            files.recording.report(f'{call.name}: {missing}', stream.name)
         return
     file = files.open_file(process, call, target)
     if file is None or file.node is None or file.node.is_directory:
         return
     if data is None:
-        files.drop_bytes(file.node, f'{call.name}: {what}')
+        files.drop_bytes(file.node, f'{call.name}: {missing}')
     else:
         write_to_file(files, file, data[: call.result], offset, flags)
 
@@ -116,8 +127,8 @@ def write_to_descriptor(
 def write_to_file(
     files: LiveFiles, file: OpenFile, data: bytes, offset: Optional[int], flags: str
 ) -> None:
-    """Writes bytes to an open file, moves its offset if it wrote there, and adds the sync that the
-    file or the call asks for."""
+    """Writes bytes to an open file (offset None: at its own offset, which it then moves), and adds
+    the sync that the file or the call asks for."""
     node = file.node
     assert node is not None
     floats: object = file if offset is None else None
@@ -132,23 +143,26 @@ def write_to_file(
 
 
 def on_ftruncate(files: LiveFiles, process: Process, call: Call) -> None:
+    """Sets the length of an open file."""
     file = files.open_file(process, call)
     if file is not None and file.node is not None:
-        files.set_length(file.node, arguments.integer(call.word(1)))
+        files.set_length(file.node, arguments.integer(call.argument(1)))
 
 
 def on_truncate(files: LiveFiles, process: Process, call: Call) -> None:
+    """Sets the length of the file of a path."""
     node = files.node_argument(process, call, 0)
     if node is not None:
-        files.set_length(node, arguments.integer(call.word(1)))
+        files.set_length(node, arguments.integer(call.argument(1)))
 
 
 def on_fallocate(files: LiveFiles, process: Process, call: Call) -> None:
+    """Makes a file longer, or a range of it zeros. With other modes its bytes are dropped."""
     file = files.open_file(process, call)
     if file is None or file.node is None:
         return
-    mode, node = call.word(1), file.node
-    offset, length = arguments.integer(call.word(2)), arguments.integer(call.word(3))
+    mode, node = call.argument(1), file.node
+    offset, length = arguments.integer(call.argument(2)), arguments.integer(call.argument(3))
     end = offset + length
     if 'COLLAPSE' in mode or 'INSERT' in mode:
         files.drop_bytes(node, f'fallocate with {mode}')
@@ -163,12 +177,14 @@ def copy_between_descriptors(
     files: LiveFiles,
     process: Process,
     call: Call,
+    *,
     source: int,
     target: int,
     from_offset: Optional[int],
     to_offset: Optional[int],
 ) -> None:
-    """Copies bytes from one descriptor to another, as the kernel does without the program."""
+    """Copies bytes between the descriptors that are the arguments `source` and `target`, as the
+    kernel does without the program. An offset that is None is that of the open file."""
     if call.result == 0:
         return
     data = None
@@ -183,42 +199,50 @@ def copy_between_descriptors(
         files,
         process,
         call,
-        target,
         data,
-        to_offset,
-        what='its bytes come from a file that is not followed',
+        target=target,
+        offset=to_offset,
+        missing='its bytes come from a file that is not followed',
     )
 
 
 def on_sendfile(files: LiveFiles, process: Process, call: Call) -> None:
-    copy_between_descriptors(files, process, call, 1, 0, arguments.offset_cell(call.word(2)), None)
+    """Copies from a file to a descriptor: in the call the target comes first."""
+    offset = arguments.offset_in_cell(call.argument(2))
+    copy_between_descriptors(
+        files, process, call, source=1, target=0, from_offset=offset, to_offset=None
+    )
 
 
 def on_copy_file_range(files: LiveFiles, process: Process, call: Call) -> None:
+    """Copies between two descriptors, each at an offset of its own; splice does, too."""
     copy_between_descriptors(
         files,
         process,
         call,
-        0,
-        2,
-        arguments.offset_cell(call.word(1)),
-        arguments.offset_cell(call.word(3)),
+        source=0,
+        target=2,
+        from_offset=arguments.offset_in_cell(call.argument(1)),
+        to_offset=arguments.offset_in_cell(call.argument(3)),
     )
 
 
 def on_tee(files: LiveFiles, process: Process, call: Call) -> None:
+    """Writes what was in a pipe: the log lacks these bytes."""
     if call.result > 0:
-        write_to_descriptor(files, process, call, 1, None, None)
+        write_to_descriptor(files, process, call, None, target=1)
 
 
 def on_ioctl(files: LiveFiles, process: Process, call: Call) -> None:
+    """Drops the bytes of a file that shares those of another from now on (FICLONE)."""
     file = process.descriptors.files.get(call.descriptor().number)
-    if file is not None and file.node is not None and 'FICLONE' in call.word(1):
-        files.drop_bytes(file.node, f'ioctl {call.word(1)}: {NOT_IN_LOG}')
+    if file is not None and file.node is not None and 'FICLONE' in call.argument(1):
+        files.drop_bytes(file.node, f'ioctl {call.argument(1)}: {NOT_IN_LOG}')
 
 
 def on_io_uring(files: LiveFiles, process: Process, call: Call) -> None:
-    files.report(f'{call.name}: what is done by it is not in the log', '/')
+    """Reports that what is done by io_uring, or by aio, is not in the log."""
+    files.recording.report(f'{call.name}: what is done by it is not in the log', '/')
 
 
 # Traced only if the lines of a socket are asked for.

@@ -1,4 +1,4 @@
-"""Calls that change modes and owners."""
+"""Calls that change modes and owners. Each `on_NAME` translates a call NAME that has returned."""
 
 from __future__ import annotations
 
@@ -18,21 +18,25 @@ PERMISSIONS = 0o777
 
 
 def on_chmod(files: LiveFiles, process: Process, call: Call) -> None:
-    set_mode(files, files.node_argument(process, call, 0), call.word(1))
+    """Sets the mode of the file of a path."""
+    set_mode(files, files.node_argument(process, call, 0), call.argument(1))
 
 
 def on_fchmod(files: LiveFiles, process: Process, call: Call) -> None:
+    """Sets the mode of an open file."""
     file = files.open_file(process, call)
-    set_mode(files, file.node if file else None, call.word(1))
+    set_mode(files, file.node if file else None, call.argument(1))
 
 
 def on_fchmodat(files: LiveFiles, process: Process, call: Call) -> None:
-    set_mode(files, files.node_argument_at(process, call, 0), call.word(2))
+    """Sets the mode of the file of a path relative to a directory."""
+    set_mode(files, files.node_argument_at(process, call, 0), call.argument(2))
 
 
 def set_mode(files: LiveFiles, node: Optional[Node], word: str) -> None:
     # Some programs pass the kind of the file too, which the kernel ignores.
-    """Gives a file or directory the mode that a call names, if it has another."""
+    """Gives a file or directory the mode that a call names, in the trace too, if it has another;
+    nothing for None."""
     mode = octal(word) & 0o7777
     if node is not None:
         node.mode = mode & PERMISSIONS
@@ -44,27 +48,31 @@ def set_mode(files: LiveFiles, node: Optional[Node], word: str) -> None:
             f'it gets the mode bits {mode & ~PERMISSIONS:o}, beyond 777', path
         )
     if mode & PERMISSIONS != files.recording.tree.entries[path].mode:
-        node.has_new_rights = files.recording.add(Chmod(path, mode & PERMISSIONS))
+        node.has_new_rights = files.recording.add_operation(Chmod(path, mode & PERMISSIONS))
 
 
 def on_chown(files: LiveFiles, process: Process, call: Call) -> None:
+    """Sets the owners of the file of a path; lchown those of a symbolic link itself."""
     node = files.node_argument(process, call, 0, not call.name.startswith('l'))
-    set_owner(files, node, call.word(1), call.word(2))
+    set_owner(files, node, call.argument(1), call.argument(2))
 
 
 def on_fchown(files: LiveFiles, process: Process, call: Call) -> None:
+    """Sets the owners of an open file."""
     file = files.open_file(process, call)
-    set_owner(files, file.node if file else None, call.word(1), call.word(2))
+    set_owner(files, file.node if file else None, call.argument(1), call.argument(2))
 
 
 def on_fchownat(files: LiveFiles, process: Process, call: Call) -> None:
-    follows = 'AT_SYMLINK_NOFOLLOW' not in call.word(4)
+    """Sets the owners of the file of a path relative to a directory."""
+    follows = 'AT_SYMLINK_NOFOLLOW' not in call.argument(4)
     node = files.node_argument_at(process, call, 0, follows)
-    set_owner(files, node, call.word(2), call.word(3))
+    set_owner(files, node, call.argument(2), call.argument(3))
 
 
 def set_owner(files: LiveFiles, node: Optional[Node], user: str, group: str) -> None:
-    """Gives a file or directory an owner and a group, each unless the call leaves it unchanged."""
+    """Gives a file or directory an owner and a group, in the trace too; each that the call leaves
+    unchanged stays. Nothing for None."""
     path = path_in_trace(node)
     if node is None or path is None:
         return
@@ -72,7 +80,7 @@ def set_owner(files: LiveFiles, node: Optional[Node], user: str, group: str) -> 
     owner = entry.owner if user in UNCHANGED else user_name(integer(user))
     owning_group = entry.group if group in UNCHANGED else group_name(integer(group))
     if (owner, owning_group) != (entry.owner, entry.group):
-        node.has_new_rights = files.recording.add(Chown(path, owner, owning_group))
+        node.has_new_rights = files.recording.add_operation(Chown(path, owner, owning_group))
 
 
 def path_in_trace(node: Optional[Node]) -> Optional[str]:
@@ -86,17 +94,18 @@ def on_attribute(files: LiveFiles, process: Process, call: Call) -> None:
     path = path_in_trace(node)
     if path is None:
         return
-    if call.name.endswith('setxattr') and arguments.path(call.word(1)) == acl.NAME:
-        entries = acl.entries_of(arguments.data(call.word(2)) or b'')
+    if call.name.endswith('setxattr') and arguments.path_of_text(call.argument(1)) == acl.NAME:
+        entries = acl.rights_by_tag(arguments.bytes_of_text(call.argument(2)) or b'')
         if entries is not None:
-            set_mode(files, node, f'{acl.mode_of(entries):o}')
-            if acl.is_mode(entries):
+            set_mode(files, node, f'{acl.mode_of_rights(entries):o}')
+            if acl.is_only_mode(entries):
                 return
     files.recording.report_note('its extended attributes change, which no trace has', path)
 
 
 def attribute_node(files: LiveFiles, process: Process, call: Call) -> Optional[Node]:
-    """The file whose attributes a call changes."""
+    """The file whose extended attributes a call changes, by a path or a descriptor; None if it
+    isn't followed."""
     if not call.name.startswith('f'):
         return files.node_argument(process, call, 0, not call.name.startswith('l'))
     file = files.open_file(process, call)

@@ -1,4 +1,5 @@
-"""Calls that make, rename and remove names."""
+"""Calls that make, rename and remove names. Each `on_NAME` translates a call NAME that has
+returned."""
 
 from __future__ import annotations
 
@@ -12,89 +13,97 @@ from crashfs_tools.recorder.directory import target_fault
 from crashfs_tools.recorder.live_tree import Node
 from crashfs_tools.recorder.processes import Process
 from crashfs_tools.recorder.live_files import LiveFiles
-from crashfs_tools.recorder.recording import renamed_directory
+from crashfs_tools.recorder.recording import renamed_directory_reason
 from crashfs_tools.recorder.strace_log import Call
 
 
 def on_unlink(files: LiveFiles, process: Process, call: Call) -> None:
+    """Removes a name."""
     remove_name(files, files.path_argument(process, call, 0))
 
 
 def on_rmdir(files: LiveFiles, process: Process, call: Call) -> None:
+    """Removes a directory."""
     remove_directory(files, files.path_argument(process, call, 0))
 
 
 def on_unlinkat(files: LiveFiles, process: Process, call: Call) -> None:
+    """Removes a name, or with AT_REMOVEDIR a directory."""
     path = files.path_argument_at(process, call, 0)
-    if 'AT_REMOVEDIR' in call.word(2):
+    if 'AT_REMOVEDIR' in call.argument(2):
         remove_directory(files, path)
     else:
         remove_name(files, path)
 
 
 def remove_name(files: LiveFiles, path: Optional[str]) -> None:
-    """Removes a name. If the file keeps a name that the trace lacks, the trace renames it to
-    that."""
+    """Removes a name, in the trace too. If the file keeps a name that the trace lacks, the trace
+    renames it to that."""
     if path is None or path not in files.tree.nodes:
         return
-    node = files.tree.remove(path)
+    node = files.tree.remove_name(path)
     if path not in node.traced_paths:
         if node.names and node.traced_paths:
-            files.report('a hard link was made, and removed again', path)
+            files.recording.report('a hard link was made, and removed again', path)
         return
     node.traced_paths.discard(path)
     if node.names and not node.traced_paths:
         rename_traced(files, node, path, node.name)
     else:
-        files.recording.add(Unlink(path))
+        files.recording.add_operation(Unlink(path))
 
 
 def rename_traced(files: LiveFiles, node: Node, source: str, target: str) -> None:
     """Renames a file in the trace, from source to target."""
     node.traced_paths.discard(source)
-    if files.recording.add(Rename(source, target)):
+    if files.recording.add_operation(Rename(source, target)):
         node.traced_paths.add(target)
 
 
 def remove_directory(files: LiveFiles, path: Optional[str]) -> None:
-    """Removes an empty directory."""
+    """Removes an empty directory, from the trace too if that has it. Of the recorded directory
+    itself it is only reported."""
     if path is None or path not in files.tree.nodes:
         return
     if path == '/':
-        files.report('the directory itself was removed', path)
+        files.recording.report('the directory itself was removed', path)
         return
-    node = files.tree.remove(path)
+    node = files.tree.remove_name(path)
     if path in node.traced_paths:
-        files.recording.add(Rmdir(path))
+        files.recording.add_operation(Rmdir(path))
         node.traced_paths.discard(path)
 
 
 def on_mkdir(files: LiveFiles, process: Process, call: Call) -> None:
-    make_directory(files, process, files.path_argument(process, call, 0), call.word(1))
+    """Makes a directory."""
+    make_directory(files, process, files.path_argument(process, call, 0), call.argument(1))
 
 
 def on_mkdirat(files: LiveFiles, process: Process, call: Call) -> None:
-    make_directory(files, process, files.path_argument_at(process, call, 0), call.word(2))
+    """Makes a directory at a path relative to another one."""
+    make_directory(files, process, files.path_argument_at(process, call, 0), call.argument(2))
 
 
 def make_directory(files: LiveFiles, process: Process, path: Optional[str], mode: str) -> None:
-    """Makes a directory with a mode, less the umask."""
+    """Makes a directory with a mode, less the umask; nothing for one outside (None)."""
     if path is not None:
         bits = octal(mode) & ~process.paths.umask & 0o777
         files.add_new(path, Node.directory(bits))
 
 
 def on_rename(files: LiveFiles, process: Process, call: Call) -> None:
+    """Renames; the call has no flags."""
     rename_path(
         files, files.path_argument(process, call, 0), files.path_argument(process, call, 1), ''
     )
 
 
 def on_renameat(files: LiveFiles, process: Process, call: Call) -> None:
+    """Renames between paths relative to directories; renameat2 has flags, too."""
     source, target = files.path_argument_at(process, call, 0), files.path_argument_at(
         process, call, 2
     )
-    rename_path(files, source, target, call.word(4))
+    rename_path(files, source, target, call.argument(4))
 
 
 def rename_path(files: LiveFiles, source: Optional[str], target: Optional[str], flags: str) -> None:
@@ -102,18 +111,18 @@ def rename_path(files: LiveFiles, source: Optional[str], target: Optional[str], 
     if source is None and target is None:
         return
     if '/' in (source, target):
-        files.report('the directory itself was renamed, or replaced', '/')
+        files.recording.report('the directory itself was renamed, or replaced', '/')
         return
-    node = files.tree.get(source)
+    node = files.tree.node_at(source)
     if source is not None and 'RENAME_WHITEOUT' in flags:
-        files.report('RENAME_WHITEOUT left a device', source)
+        files.recording.report('RENAME_WHITEOUT left a device', source)
     if source is None or node is None:
         add_from_outside(files, target)
     elif target is None:
         move_outside(files, source, node)
     elif 'RENAME_EXCHANGE' in flags:
         exchange_names(files, source, target)
-    elif files.tree.get(target) is not node:
+    elif files.tree.node_at(target) is not node:
         rename_file(files, source, target, node)
 
 
@@ -121,16 +130,16 @@ def add_from_outside(files: LiveFiles, target: Optional[str]) -> None:
     """Adds a file from outside, or from an ignored name: its bytes aren't known."""
     if target is None:
         return
-    files.report('renamed to from outside the directory, or from an ignored name', target)
+    files.recording.report('renamed to from outside the directory, or from an ignored name', target)
     if target in files.tree.nodes:
-        files.tree.remove(target)
-    files.tree.add(target, Node.unknown())
+        files.tree.remove_name(target)
+    files.tree.add_name(target, Node.unknown())
 
 
 def move_outside(files: LiveFiles, source: str, node: Node) -> None:
     """Removes what was renamed to the outside, or to an ignored name."""
-    if node.is_directory and files.tree.below(source):
-        files.report('a directory with entries was renamed out of the directory', source)
+    if node.is_directory and files.tree.paths_below(source):
+        files.recording.report('a directory with entries was renamed out of the directory', source)
         forget_below(files, source)
     elif node.is_directory:
         remove_directory(files, source)
@@ -140,40 +149,40 @@ def move_outside(files: LiveFiles, source: str, node: Node) -> None:
 
 def forget_below(files: LiveFiles, path: str) -> None:
     """Forgets a path and what is below it. The trace keeps both."""
-    for gone in [path] + files.tree.below(path):
-        files.tree.remove(gone).traced_paths.discard(gone)
+    for gone in [path] + files.tree.paths_below(path):
+        files.tree.remove_name(gone).traced_paths.discard(gone)
 
 
 def exchange_names(files: LiveFiles, source: str, target: str) -> None:
     """Exchanges two names. No trace has that: it is reported."""
-    files.report(f'exchanged with {target}, which no trace can say', source)
+    files.recording.report(f'exchanged with {target}, which no trace can say', source)
     files.recording.differing.add(target)
     for path in (source, target):
-        node = files.tree.get(path)
+        node = files.tree.node_at(path)
         if node is not None and node.is_directory:
             forget_below(files, path)
         elif node is not None:
             node.traced_paths.discard(path)
-    one, other = files.tree.get(source), files.tree.get(target)
+    one, other = files.tree.node_at(source), files.tree.node_at(target)
     if one is not None and other is not None:
-        files.tree.remove(source)
-        files.tree.remove(target)
-        files.tree.add(target, one)
-        files.tree.add(source, other)
+        files.tree.remove_name(source)
+        files.tree.remove_name(target)
+        files.tree.add_name(target, one)
+        files.tree.add_name(source, other)
 
 
 def rename_file(files: LiveFiles, source: str, target: str, node: Node) -> None:
     """Renames a file or directory within the recorded directory; what has the name goes."""
     if target in files.tree.nodes:
-        replace_name(files, files.tree.remove(target), target)
-    files.tree.move(source, target)
+        replace_name(files, files.tree.remove_name(target), target)
+    files.tree.move_node(source, target)
     if node.is_directory:
-        files.move_directories(source, target)
+        files.move_working_directories(source, target)
         rename_directory(files, node, source, target)
     elif source in node.traced_paths:
         rename_traced(files, node, source, target)
     elif not node.traced_paths:
-        files.report('renamed to from a file that is not in the trace', target)
+        files.recording.report('renamed to from a file that is not in the trace', target)
 
 
 def replace_name(files: LiveFiles, node: Node, path: str) -> None:
@@ -181,32 +190,36 @@ def replace_name(files: LiveFiles, node: Node, path: str) -> None:
     if path in node.traced_paths:
         node.traced_paths.discard(path)
         if node.names and not node.traced_paths:
-            files.report('a file was replaced that has another name by a link', path)
+            files.recording.report('a file was replaced that has another name by a link', path)
 
 
 def rename_directory(files: LiveFiles, node: Node, source: str, target: str) -> None:
     """Renames a directory in the trace, if its version may have that."""
-    if source in node.traced_paths and files.recording.raise_version_for(renamed_directory(source)):
-        if files.recording.add(Rename(source, target)):
+    if source in node.traced_paths and files.recording.raise_version_for(
+        renamed_directory_reason(source)
+    ):
+        if files.recording.add_operation(Rename(source, target)):
             files.tree.move_traced(source, target)
             return
-    files.report(
+    files.recording.report(
         f'a directory was renamed to {target}: no trace can say it; what is done '
         'below it is left out',
         source,
     )
     files.recording.differing.add(target)
-    for path in [target] + files.tree.below(target):
+    for path in [target] + files.tree.paths_below(target):
         files.tree.nodes[path].traced_paths.discard(source + path[len(target) :])
 
 
 def on_link(files: LiveFiles, process: Process, call: Call) -> None:
+    """Gives a file another name. A symbolic link is linked itself."""
     node = files.node_argument(process, call, 0, follows=False)
     add_link(files, node, files.path_argument(process, call, 1))
 
 
 def on_linkat(files: LiveFiles, process: Process, call: Call) -> None:
-    node = files.node_argument_at(process, call, 0, 'AT_SYMLINK_FOLLOW' in call.word(4))
+    """Gives a file another name, by paths relative to directories."""
+    node = files.node_argument_at(process, call, 0, 'AT_SYMLINK_FOLLOW' in call.argument(4))
     add_link(files, node, files.path_argument_at(process, call, 2))
 
 
@@ -215,14 +228,16 @@ def add_link(files: LiveFiles, node: Optional[Node], target: Optional[str]) -> N
     if target is None:
         return
     if node is None:
-        files.report('a link to a file without a name, or from outside the directory', target)
-        files.tree.add(target, Node.unknown())
+        files.recording.report(
+            'a link to a file without a name, or from outside the directory', target
+        )
+        files.tree.add_name(target, Node.unknown())
     elif node.is_temporary and not node.names:
         name_temporary_file(files, node, target)
     else:
-        files.tree.add(target, node)
+        files.tree.add_name(target, node)
         source = node.traced_path
-        if source is not None and files.recording.add(Link(source, target)):
+        if source is not None and files.recording.add_operation(Link(source, target)):
             node.traced_paths.add(target)
 
 
@@ -232,7 +247,7 @@ def name_temporary_file(files: LiveFiles, node: Node, path: str) -> None:
     if node.data and path in node.traced_paths:
         files.write_bytes(node, 0, bytes(node.data))
     if node.was_synced:
-        files.report(
+        files.recording.report(
             'a file of O_TMPFILE that was synced before it had this name: the trace '
             'has the sync after the name',
             path,
@@ -241,16 +256,19 @@ def name_temporary_file(files: LiveFiles, node: Node, path: str) -> None:
 
 
 def on_symlink(files: LiveFiles, process: Process, call: Call) -> None:
-    make_symbolic_link(files, files.path_argument(process, call, 1), call.word(0))
+    """Makes a symbolic link: its target comes first."""
+    make_symbolic_link(files, files.path_argument(process, call, 1), call.argument(0))
 
 
 def on_symlinkat(files: LiveFiles, process: Process, call: Call) -> None:
-    make_symbolic_link(files, files.path_argument_at(process, call, 1), call.word(0))
+    """Makes a symbolic link at a path relative to a directory: its target comes first."""
+    make_symbolic_link(files, files.path_argument_at(process, call, 1), call.argument(0))
 
 
 def make_symbolic_link(files: LiveFiles, path: Optional[str], word: str) -> None:
-    """Makes a symbolic link."""
-    target = arguments.path(word) or ''
+    """Makes a symbolic link; word is the argument that has its target. One that no trace may have
+    is reported."""
+    target = arguments.path_of_text(word) or ''
     fault = target_fault(target)
     if fault:
         add_untraceable(files, path, f'{fault} was made')
@@ -259,11 +277,13 @@ def make_symbolic_link(files: LiveFiles, path: Optional[str], word: str) -> None
 
 
 def on_mknod(files: LiveFiles, process: Process, call: Call) -> None:
-    make_file(files, process, files.path_argument(process, call, 0), call.word(1))
+    """Makes a plain file; reports a device or a pipe."""
+    make_file(files, process, files.path_argument(process, call, 0), call.argument(1))
 
 
 def on_mknodat(files: LiveFiles, process: Process, call: Call) -> None:
-    make_file(files, process, files.path_argument_at(process, call, 0), call.word(2))
+    """Makes a plain file at a path relative to a directory; reports a device or a pipe."""
+    make_file(files, process, files.path_argument_at(process, call, 0), call.argument(2))
 
 
 def make_file(files: LiveFiles, process: Process, path: Optional[str], mode: str) -> None:
@@ -279,7 +299,7 @@ def make_file(files: LiveFiles, process: Process, path: Optional[str], mode: str
 
 def on_bind(files: LiveFiles, process: Process, call: Call) -> None:
     """Reports a socket that is bound to a path."""
-    shown = call.word(1).partition('sun_path=')[2].partition('}')[0]
+    shown = call.argument(1).partition('sun_path=')[2].partition('}')[0]
     if shown.startswith('"'):
         path = files.join_path(process.paths.directory, shown)
         add_untraceable(files, path, 'a socket was bound')
@@ -289,10 +309,10 @@ def add_untraceable(files: LiveFiles, path: Optional[str], what: str) -> None:
     """Adds something that no trace can have, and reports it."""
     if path is None:
         return
-    parent = files.tree.get(parent_of(path))
+    parent = files.tree.node_at(parent_of(path))
     if parent is not None and parent.traced_path is not None:
-        files.report(what, path)
-    files.tree.add(path, Node.unknown())
+        files.recording.report(what, path)
+    files.tree.add_name(path, Node.unknown())
 
 
 HANDLERS = {

@@ -1,4 +1,4 @@
-"""Calls that open, close and duplicate."""
+"""Calls that open, close and duplicate. Each `on_NAME` translates a call NAME that has returned."""
 
 from __future__ import annotations
 
@@ -11,27 +11,37 @@ from crashfs_tools.recorder.processes import OpenFile, Process
 from crashfs_tools.recorder.live_files import UNKNOWN, LiveFiles
 from crashfs_tools.recorder.strace_log import Call
 
+CREAT_FLAGS = 'O_WRONLY|O_CREAT|O_TRUNC'
+
 
 def on_open(files: LiveFiles, process: Process, call: Call) -> None:
-    path = files.path_argument(process, call, 0, follows_last_link(call.word(1)))
-    open_path(files, process, call, call.word(0), path, call.word(1), call.word(2))
+    """Opens a path."""
+    word, flags, mode = call.argument(0), call.argument(1), call.argument(2)
+    path = files.path_argument(process, call, 0, follows_last_link(flags))
+    open_path(files, process, call, word=word, path=path, flags=flags, mode=mode)
 
 
 def on_openat(files: LiveFiles, process: Process, call: Call) -> None:
-    path = files.path_argument_at(process, call, 0, follows_last_link(call.word(2)))
-    open_path(files, process, call, call.word(1), path, call.word(2), call.word(3))
+    """Opens a path relative to a directory."""
+    word, flags, mode = call.argument(1), call.argument(2), call.argument(3)
+    path = files.path_argument_at(process, call, 0, follows_last_link(flags))
+    open_path(files, process, call, word=word, path=path, flags=flags, mode=mode)
 
 
 def on_openat2(files: LiveFiles, process: Process, call: Call) -> None:
-    how = call.word(2)
-    mode = re.search(r'mode=(0[0-7]*)', how)
+    """Opens a path relative to a directory; flags and mode are fields of one argument."""
+    word, how = call.argument(1), call.argument(2)
+    found = re.search(r'mode=(0[0-7]*)', how)
+    mode = found[1] if found else ''
     path = files.path_argument_at(process, call, 0, follows_last_link(how))
-    open_path(files, process, call, call.word(1), path, how, mode[1] if mode else '')
+    open_path(files, process, call, word=word, path=path, flags=how, mode=mode)
 
 
 def on_creat(files: LiveFiles, process: Process, call: Call) -> None:
-    path = files.path_argument(process, call, 0, True)
-    open_path(files, process, call, call.word(0), path, 'O_WRONLY|O_CREAT|O_TRUNC', call.word(1))
+    """Opens a path to write it from its beginning."""
+    word, mode = call.argument(0), call.argument(1)
+    path = files.path_argument(process, call, 0, follows=True)
+    open_path(files, process, call, word=word, path=path, flags=CREAT_FLAGS, mode=mode)
 
 
 def follows_last_link(flags: str) -> bool:
@@ -43,15 +53,17 @@ def open_path(
     files: LiveFiles,
     process: Process,
     call: Call,
+    *,
     word: str,
     path: Optional[str],
     flags: str,
     mode: str,
 ) -> None:
-    """Opens a path; word is the path as the call has it."""
+    """Opens a path of the directory, or None for one elsewhere. `word` is the argument that has the
+    path; flags and mode are as the call has them."""
     known = files.open_file_of_path(process, word)
     if known is not None and known.node is None:
-        process.descriptors.put(
+        process.descriptors.set_file(
             call.result, OpenFile(None, stream=known.stream), 'O_CLOEXEC' in flags
         )
         return
@@ -62,8 +74,8 @@ def open_path(
         node = node_to_open(files, process, made, flags, mode)
     else:
         node = node_to_open(files, process, path, flags, mode)
-    file = None if node is None else OpenFile.of(node, flags)
-    process.descriptors.put(call.result, file, 'O_CLOEXEC' in flags)
+    file = None if node is None else OpenFile.opened_with(node, flags)
+    process.descriptors.set_file(call.result, file, 'O_CLOEXEC' in flags)
 
 
 def reopen_file(files: LiveFiles, known: OpenFile, flags: str) -> Optional[Node]:
@@ -81,35 +93,37 @@ def node_to_open(
     if path is None:
         return None
     if 'O_PATH' in flags:
-        return files.tree.get(path)
+        return files.tree.node_at(path)
     bits = octal(mode or '0') & ~process.paths.umask & 0o777
     if 'O_TMPFILE' in flags:
         made = Node.file(bits)
         made.is_temporary = True
         return made
-    node = files.tree.get(path)
+    node = files.tree.node_at(path)
     if node is None and 'O_CREAT' in flags:
         made = Node.file(bits)
         files.add_new(path, made)
         return made
     if node is None:
-        files.report(f'opened, and it was made {UNKNOWN}', path)
+        files.recording.report(f'opened, and it was made {UNKNOWN}', path)
     elif 'O_TRUNC' in flags and not node.is_directory and node.size:
         files.set_length(node, 0)
     return node
 
 
 def on_close(files: LiveFiles, process: Process, call: Call) -> None:
+    """Closes a descriptor."""
     process.descriptors.close(call.descriptor().number)
 
 
 def on_close_range(files: LiveFiles, process: Process, call: Call) -> None:
+    """Closes a range of descriptors, or has exec close them, as its flags say."""
     descriptors = process.descriptors
-    if 'UNSHARE' in call.word(2):
+    if 'UNSHARE' in call.argument(2):
         descriptors = process.descriptors = descriptors.copy()
-    first, last = integer(call.word(0)), integer(call.word(1))
+    first, last = integer(call.argument(0)), integer(call.argument(1))
     for number in [n for n in descriptors.files if first <= n <= last]:
-        if 'CLOEXEC' in call.word(2):
+        if 'CLOEXEC' in call.argument(2):
             descriptors.closed_by_exec.add(number)
         else:
             descriptors.close(number)
@@ -123,28 +137,30 @@ def duplicate_descriptor(
     if old.number == call.result:
         return
     file = process.descriptors.files.get(old.number)
-    if file is None and streams.is_asked(old.number):
+    if file is None and streams.is_asked_for(old.number):
         file = OpenFile(None, stream=streams.find_stream(old.number, old.text))
         process.descriptors.files[old.number] = file
-    if file is not None and file.stream is not None and streams.is_asked(call.result):
+    if file is not None and file.stream is not None and streams.is_asked_for(call.result):
         file.stream.is_acknowledged = True
-    process.descriptors.put(call.result, file, closed_by_exec)
+    process.descriptors.set_file(call.result, file, closed_by_exec)
 
 
 def on_dup(files: LiveFiles, process: Process, call: Call) -> None:
-    duplicate_descriptor(files, process, call, 'O_CLOEXEC' in call.word(2))
+    """Duplicates a descriptor; only dup3 has flags."""
+    duplicate_descriptor(files, process, call, 'O_CLOEXEC' in call.argument(2))
 
 
 def on_fcntl(files: LiveFiles, process: Process, call: Call) -> None:
-    number, command = call.descriptor().number, call.word(1)
+    """Duplicates a descriptor, or sets what exec and writes do with it."""
+    number, command = call.descriptor().number, call.argument(1)
     if command.startswith('F_DUPFD'):
         duplicate_descriptor(files, process, call, 'CLOEXEC' in command)
-    elif command == 'F_SETFD' and 'FD_CLOEXEC' in call.word(2):
+    elif command == 'F_SETFD' and 'FD_CLOEXEC' in call.argument(2):
         process.descriptors.closed_by_exec.add(number)
     elif command == 'F_SETFD':
         process.descriptors.closed_by_exec.discard(number)
     elif command == 'F_SETFL' and number in process.descriptors.files:
-        process.descriptors.files[number].appends = 'O_APPEND' in call.word(2)
+        process.descriptors.files[number].appends = 'O_APPEND' in call.argument(2)
 
 
 HANDLERS = {

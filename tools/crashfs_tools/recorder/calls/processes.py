@@ -1,4 +1,5 @@
-"""Calls that change what a process has: fork, exec, chdir, umask."""
+"""Calls that change what a process has: fork, exec, chdir, umask. Each `on_NAME` translates a call
+NAME that has returned."""
 
 from __future__ import annotations
 
@@ -7,20 +8,27 @@ import os.path
 from crashfs_tools.recorder import arguments
 from crashfs_tools.recorder.processes import Process
 from crashfs_tools.recorder.live_files import LiveFiles
+from crashfs_tools.recorder.mappings import Memory
 from crashfs_tools.recorder.strace_log import Call
 
 
 def on_clone(files: LiveFiles, process: Process, call: Call) -> None:
+    """Adds the process or thread that a fork makes, unless it has called already."""
     if call.result > 0 and call.result not in files.processes:
         files.processes[call.result] = process.forked_child(call)
 
 
 def on_execve(files: LiveFiles, process: Process, call: Call) -> None:
-    process.exec()
+    """Starts another program in a process: some descriptors are closed, nothing is mapped any more,
+    and the working directory and the umask are no longer shared with threads."""
+    process.descriptors = process.descriptors.after_exec()
+    process.paths = process.paths.copy()
+    process.memory = Memory()
 
 
 def on_chdir(files: LiveFiles, process: Process, call: Call) -> None:
-    path = arguments.path(call.word(0))
+    """Sets the working directory by a path."""
+    path = arguments.path_of_text(call.argument(0))
     if path is not None:
         place = process.paths
         full = os.path.join(place.directory, path)
@@ -28,16 +36,19 @@ def on_chdir(files: LiveFiles, process: Process, call: Call) -> None:
 
 
 def on_fchdir(files: LiveFiles, process: Process, call: Call) -> None:
+    """Sets the working directory by a descriptor."""
     process.paths.directory = call.descriptor().path or process.paths.directory
 
 
 def on_umask(files: LiveFiles, process: Process, call: Call) -> None:
-    process.paths.umask = arguments.octal(call.word(0))
+    """Sets the umask."""
+    process.paths.umask = arguments.octal(call.argument(0))
 
 
 def on_chroot(files: LiveFiles, process: Process, call: Call) -> None:
-    path = arguments.path(call.word(0)) or '/'
-    files.report('chroot: paths of that process mean other files from here on', path)
+    """Reports that paths of a process mean other files from here on."""
+    path = arguments.path_of_text(call.argument(0)) or '/'
+    files.recording.report('chroot: paths of that process mean other files from here on', path)
 
 
 HANDLERS = {

@@ -1,4 +1,4 @@
-"""Calls that sync, and that map files."""
+"""Calls that sync, and that map files. Each `on_NAME` translates a call NAME that has returned."""
 
 from __future__ import annotations
 
@@ -15,31 +15,35 @@ NOT_FOLLOWED = (
 
 
 def on_fsync(files: LiveFiles, process: Process, call: Call) -> None:
+    """Syncs an open file or directory."""
     file = files.open_file(process, call)
     if file is not None and file.node is not None:
         files.sync_file(file.node)
 
 
 def on_fdatasync(files: LiveFiles, process: Process, call: Call) -> None:
+    """Syncs the bytes and the size of an open file; an open directory as a whole."""
     file = files.open_file(process, call)
     if file is not None and file.node is not None:
         files.sync_data(file.node)
 
 
 def on_sync(files: LiveFiles, process: Process, call: Call) -> None:
-    files.recording.add(Sync())
+    """Syncs everything."""
+    files.recording.add_operation(Sync())
 
 
 def on_syncfs(files: LiveFiles, process: Process, call: Call) -> None:
     """Syncs a file system: a sync of the whole directory, if the file is in it."""
     path = call.descriptor().path
     if path is not None and files.relative_path(path) is not None:
-        files.recording.add(Sync())
+        files.recording.add_operation(Sync())
     else:
-        files.report('syncfs by a file outside the directory is left out', '/')
+        files.recording.report('syncfs by a file outside the directory is left out', '/')
 
 
 def on_sync_file_range(files: LiveFiles, process: Process, call: Call) -> None:
+    """Notes a sync that promises nothing of a crash."""
     file = files.open_file(process, call)
     if file is not None and file.node is not None and file.node.traced_path is not None:
         files.recording.report_note(
@@ -50,45 +54,50 @@ def on_sync_file_range(files: LiveFiles, process: Process, call: Call) -> None:
 
 def on_mmap(files: LiveFiles, process: Process, call: Call) -> None:
     """Maps a file, and unmaps what was mapped at that address."""
-    length = in_whole_pages(integer(call.word(1)))
+    length = in_whole_pages(integer(call.argument(1)))
     process.memory.unmap(call.result, length)
     file = process.descriptors.files.get(call.descriptor(4).number)
-    if file is None or file.node is None or 'MAP_SHARED' not in call.word(3):
+    if file is None or file.node is None or 'MAP_SHARED' not in call.argument(3):
         return
-    process.memory.map(Mapping(call.result, length, file.node, integer(call.word(5, '0'))))
-    if 'PROT_WRITE' in call.word(2):
+    process.memory.map(Mapping(call.result, length, file.node, integer(call.argument(5, '0'))))
+    if 'PROT_WRITE' in call.argument(2):
         report_mapped(files, process, call.result, length)
 
 
 def on_munmap(files: LiveFiles, process: Process, call: Call) -> None:
-    process.memory.unmap(integer(call.word(0)), integer(call.word(1)))
+    """Unmaps a range of addresses."""
+    process.memory.unmap(integer(call.argument(0)), integer(call.argument(1)))
 
 
 def on_mremap(files: LiveFiles, process: Process, call: Call) -> None:
-    old, old_length, new_length = [integer(call.word(place)) for place in range(3)]
-    process.memory.move(old, old_length, call.result, new_length, 'DONTUNMAP' in call.word(3))
+    """Moves a mapping, or gives it another length."""
+    old, old_length, new_length = [integer(call.argument(place)) for place in range(3)]
+    keeps = 'DONTUNMAP' in call.argument(3)
+    process.memory.move(old, old_length, call.result, new_length, keeps=keeps)
 
 
 def on_mprotect(files: LiveFiles, process: Process, call: Call) -> None:
-    if 'PROT_WRITE' in call.word(2):
-        report_mapped(files, process, integer(call.word(0)), integer(call.word(1)))
+    """Reports files whose mapping becomes writable."""
+    if 'PROT_WRITE' in call.argument(2):
+        report_mapped(files, process, integer(call.argument(0)), integer(call.argument(1)))
 
 
 def report_mapped(files: LiveFiles, process: Process, address: int, length: int) -> None:
-    """Reports files that are mapped for writing, unless copies show what is stored."""
+    """Reports the files of the trace that are mapped for writing in a range of addresses; nothing
+    if copies show what is stored there."""
     if files.has_copies:
         return
     for part, _ in process.memory.parts_in(address, length):
         if part.node.traced_path is not None:
-            files.report(NOT_FOLLOWED, part.node.traced_path)
+            files.recording.report(NOT_FOLLOWED, part.node.traced_path)
 
 
 def on_msync(files: LiveFiles, process: Process, call: Call) -> None:
     """Syncs the pages in the range, and no others."""
-    if 'MS_SYNC' not in call.word(2):
+    if 'MS_SYNC' not in call.argument(2):
         return
-    length = in_whole_pages(integer(call.word(1)))
-    for part, (offset, covered) in process.memory.parts_in(integer(call.word(0)), length):
+    length = in_whole_pages(integer(call.argument(1)))
+    for part, (offset, covered) in process.memory.parts_in(integer(call.argument(0)), length):
         files.sync_range(part.node, offset, covered)
 
 

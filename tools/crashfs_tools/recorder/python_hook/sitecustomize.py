@@ -67,23 +67,26 @@ WATCHED = frozenset(
 LIBRARY = os.path.dirname(os.__file__) + os.sep
 
 
-def profile(
+def mark_builtin_call(
     frame: FrameType,
     event: str,
     called: Any,
     last: Any = threading.local(),
     access: Callable[[str, int], bool] = os.access,
 ) -> None:
-    """Called at each call and return; only calls of built-in functions count."""
+    """What Python calls at each call and return: for a call of a built-in function of WATCHED, from
+    another line than the last one, it calls `access` with the line. The last parameters are kept
+    from a program that changes os."""
     if event == 'c_call' and called.__name__ in WATCHED:
         place = frame.f_code, frame.f_lineno
         if getattr(last, 'place', None) != place:
             last.place = place
-            access(PREFIX + place_of(frame), os.F_OK)
+            access(PREFIX + program_lines(frame), os.F_OK)
 
 
-def place_of(innermost: FrameType) -> str:
-    """The program's own innermost frames, with those of the standard library left out."""
+def program_lines(innermost: FrameType) -> str:
+    """The program's own innermost frames, FRAMES at most, as `kv.py:85 main < ..`; those of the
+    standard library are left out."""
     found: List[str] = []
     frame: Optional[FrameType] = innermost
     while frame is not None and len(found) < FRAMES:
@@ -95,7 +98,7 @@ def place_of(innermost: FrameType) -> str:
     return ' < '.join(found)
 
 
-def run_next() -> None:
+def run_replaced_module() -> None:
     """Runs the sitecustomize that this one took the place of."""
     here = os.path.dirname(os.path.abspath(__file__))
     path = [one for one in sys.path if os.path.abspath(one or '.') != here]
@@ -104,6 +107,6 @@ def run_next() -> None:
         spec.loader.exec_module(module_from_spec(spec))
 
 
-run_next()
-threading.setprofile(profile)
-sys.setprofile(profile)
+run_replaced_module()
+threading.setprofile(mark_builtin_call)
+sys.setprofile(mark_builtin_call)

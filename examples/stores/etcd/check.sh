@@ -1,0 +1,3 @@
+#!/bin/sh
+. "${0%/*}/../rows.sh"
+recover "$here/session.sh" all

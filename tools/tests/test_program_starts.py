@@ -1,0 +1,111 @@
+"""How often a check starts the program, and what it does with one archive of a whole plan."""
+
+from __future__ import annotations
+
+import os
+import unittest
+from typing import Any, List
+from unittest import mock
+
+from crashfs_tools.checker.states import layout as layouts
+from crashfs_tools.checker.states.layout import Archive, trees_of_small_plan
+from crashfs_tools.checker.states.plan import Planned
+from crashfs_tools.common.command import Refused
+from crashfs_tools.common.program import BUILT, Crashfs, ProgramFault
+
+from .support import EXAMPLES, FAKE
+from .test_all_states import Listing
+from .test_windows import HEADER, creat, said, sync, write
+
+# Each saved version is 15 micro-operations; none is lost if the directory is synced.
+CONFIG = str(EXAMPLES / 'config' / 'config.trace')
+RECOVERY = str(EXAMPLES / 'config' / 'check.sh')
+STORE = HEADER + creat('/a') + write('/a', 9) + sync('/a') + said('1') + write('/a', 3, 9)
+
+
+def programs() -> List[str]:
+    """The second reading in the place of the program, and the program itself if it is built."""
+    return [f'python3 -S {FAKE}', *([BUILT] if os.access(BUILT, os.X_OK) else [])]
+
+
+class Starts(Listing):
+    def starts(self, program: str, *words: str) -> List[str]:
+        """The commands with which a check starts a program."""
+        log = self.write('starts', '')
+        script = f'#!/bin/sh\necho "$*" >> {log}\nexec {program} "$@"\n'
+        crashfs = self.write('crashfs', script, 0o755)
+        ran = self.run_tool('crashfs-check', '--crashfs', crashfs, '--jobs', '2', *words)
+        self.assertEqual((ran.returncode, ran.stderr), (1, ''))
+        self.assertIn('with those 3 syncs 0 of these 12 states are left', ran.stdout)
+        return self.read('starts').splitlines()
+
+    def test_a_check_with_advice_starts_the_program_four_times(self) -> None:
+        for program in programs():
+            with self.subTest(program):
+                starts = self.starts(program, CONFIG, '--', RECOVERY)
+                self.assertEqual(
+                    [f"{line.split(' ')[0]} {' '.join(line.split(' ')[3:5])}" for line in starts],
+                    [
+                        'picks --every --different',
+                        'list --holes --picks',
+                        'picks --every --count',
+                        'tar --holes --picks',
+                    ],
+                )
+
+    def test_families_take_two_starts(self) -> None:
+        starts = self.starts(programs()[0], '--families', CONFIG, '--', RECOVERY)
+        self.assertEqual([line.split(' ')[0] for line in starts], ['list', 'tar'])
+
+
+class Archived(Listing):
+    def trees(self, planned: Planned) -> Any:
+        return trees_of_small_plan(Crashfs(FAKE, unproved=True), planned, {})
+
+    def test_each_state_of_a_small_plan_has_its_tree(self) -> None:
+        planned = self.planned(STORE)
+        program, trees = Crashfs(FAKE, unproved=True), self.trees(planned)
+        # No program is started for trees that are kept.
+        layout = Archive(Crashfs('/none'), planned, self.temporary, {}, trees)
+        for state in planned.plan.listed:
+            ((number, directory),) = layout.states({state.number})
+            (request,) = planned.requests([state.number])
+            ((_, tree),) = program.trees(request.words)
+            with layout.laid_out(number, directory):
+                found = {
+                    f'/{name}': (os.stat(os.path.join(directory, name)).st_size)
+                    for name in os.listdir(directory)
+                }
+            wanted = {path: len(entry.data or b'') for path, entry in tree.items() if path != '/'}
+            self.assertEqual((number, found), (state.number, wanted))
+            self.assertFalse(os.path.exists(directory))
+
+    def test_trees_of_a_larger_plan_are_not_kept(self) -> None:
+        planned = self.planned(STORE)
+        count = len({state.same for state in planned.plan.listed})
+        for bounds, is_kept in (
+            ({'MOST_TREES': count, 'MOST_BYTES': 1 << 20}, True),
+            ({'MOST_TREES': count - 1, 'MOST_BYTES': 1 << 20}, False),
+            ({'MOST_TREES': count, 'MOST_BYTES': 11}, False),
+        ):
+            with self.subTest(bounds), mock.patch.multiple(layouts, **bounds):
+                self.assertEqual(self.trees(planned) is not None, is_kept)
+
+    def test_a_program_that_leaves_a_state_out_is_named(self) -> None:
+        planned = self.planned(STORE)
+        planned.parts[0] = planned.parts[0]._replace(end=2)
+        with self.assertRaisesRegex(ProgramFault, 'crashfs tar wrote no state 2'):
+            self.trees(planned)
+
+
+class OtherNeeds(Listing):
+    def test_a_program_with_other_needs_is_refused(self) -> None:
+        """Its last micro-operation doesn't need the acknowledged line before it."""
+        lies = f'#!/bin/sh\npython3 -S {FAKE} "$@" | sed "s/,3,5\\]/,5]/"\n'
+        program = self.write('crashfs', lies, 0o755)
+        with self.assertRaisesRegex(Refused, 'second reading, of which one is wrong'):
+            self.planned(STORE, program=program)
+
+
+if __name__ == '__main__':
+    unittest.main()
