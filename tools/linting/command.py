@@ -14,6 +14,7 @@ from .python import (
     install_packages,
     missing_linters,
     mypy_faults,
+    unknown_names_in_tests,
     unexplained_comments,
 )
 from .words import retired_words
@@ -33,6 +34,7 @@ LINTERS: Dict[str, Callable[[], Faults]] = {
     'flake8': flake8_faults,
     'black': black_faults,
     'mypy': mypy_faults,
+    'names in tests': unknown_names_in_tests,
     'comments for linters': unexplained_comments,
     'layout': layout_faults,
     'words': retired_words,

@@ -9,10 +9,12 @@ import subprocess
 from pathlib import Path
 from typing import Dict, List, Optional
 
-from .sources import TOP, TOOLS, name_of, program_files, python_files
+from .sources import TOP, TOOLS, name_of, program_files, python_files, test_files
 
 # The packages of Debian that have them.
 PACKAGES = ('flake8', 'black', 'mypy')
+# What mypy's faults about a name that nothing has end with.
+UNKNOWN_NAME = re.compile(r'\[(?:attr-defined|name-defined|call-arg)\]$')
 UNEXPLAINED = re.compile(r'#\s*(?:type: ignore|noqa)(?!(?:\[[\w, -]+\]|: [A-Z]\d+)  # \S)')
 
 
@@ -61,6 +63,15 @@ def mypy_faults() -> Optional[List[str]]:
     """What mypy finds in all Python but the tests, whose helpers aren't typed; None if it isn't
     installed."""
     return faults_of_linter(['mypy'], program_files())
+
+
+def unknown_names_in_tests() -> Optional[List[str]]:
+    """What mypy finds in the tests of names, attributes and arguments that nothing has; None if it
+    isn't installed. The tests of the proved program run last of all, so that a name which was
+    changed without them would be seen late."""
+    words = ['mypy', '--check-untyped-defs', '--implicit-reexport']
+    faults = faults_of_linter(words, test_files())
+    return None if faults is None else [it for it in faults if UNKNOWN_NAME.search(it)]
 
 
 def unexplained_in(texts: Dict[str, str]) -> List[str]:

@@ -41,6 +41,11 @@ def program_files() -> List[Path]:
     return [path for path in python_files() if TOOLS in path.parents and not is_test(path)]
 
 
+def test_files() -> List[Path]:
+    """The modules of the tools' tests."""
+    return [path for path in python_files() if is_test(path)]
+
+
 def crate_sources() -> Iterator[Path]:
     """The files of all crates that the prover reads."""
     for part in PARTS:

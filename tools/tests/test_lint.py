@@ -5,6 +5,7 @@ from __future__ import annotations
 import contextlib
 import io
 import unittest
+from pathlib import Path
 from typing import Tuple
 from unittest import mock
 
@@ -13,7 +14,12 @@ from linting import python
 from linting.command import LINTERS, Faults, run_linters
 from linting.crates_page import crate_page_faults
 from linting.layout import CODE_COLUMNS, long_functions, long_lines
-from linting.python import faults_of_linter, install_packages, unexplained_in
+from linting.python import (
+    faults_of_linter,
+    install_packages,
+    unknown_names_in_tests,
+    unexplained_in,
+)
 from linting.words import (
     Line,
     names_in_python,
@@ -104,6 +110,15 @@ class Python(unittest.TestCase):
         )
         self.assertEqual(faults_of_linter(['false'], []), ['false: status 1'])
         self.assertIsNone(faults_of_linter(['no-such-linter'], []))
+
+    def test_a_name_that_nothing_has_is_a_fault_of_a_test(self) -> None:
+        unknown = 'a.py:1: error: "Client" has no attribute "end"  [attr-defined]'
+        faults = [unknown, 'a.py:2: error: Function is missing a return type  [no-untyped-def]']
+        for ran, wanted in ((faults, [unknown]), ([], []), (None, None)):
+            with mock.patch.object(python, 'faults_of_linter', return_value=ran) as linter:
+                self.assertEqual(unknown_names_in_tests(), wanted)
+            self.assertTrue(all(path.name != 'python.py' for path in linter.call_args.args[1]))
+            self.assertIn(Path(__file__), linter.call_args.args[1])
 
     def test_only_root_installs_and_only_what_is_missing(self) -> None:
         for user, names, calls in ((0, ['mypy'], 1), (0, [], 0), (1000, ['mypy'], 0)):

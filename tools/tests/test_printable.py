@@ -42,11 +42,12 @@ class Printable(unittest.TestCase):
 
     def test_output_is_utf_8_in_any_locale(self):
         for encoding in ('ascii', 'iso8859-1'):
-            stream = io.TextIOWrapper(io.BytesIO(), encoding=encoding)
+            printed = io.BytesIO()
+            stream = io.TextIOWrapper(printed, encoding=encoding)
             with mock.patch.object(sys, 'stdout', stream):
                 print_utf8()
                 print('東京 \udcff', end='', file=sys.stdout, flush=True)
-            self.assertEqual(stream.buffer.getvalue(), '東京 \\udcff'.encode())
+            self.assertEqual(printed.getvalue(), '東京 \\udcff'.encode())
 
 
 if __name__ == '__main__':

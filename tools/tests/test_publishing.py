@@ -98,7 +98,7 @@ class Publishing(InFolder):
         told = line(child.stdout)
         self.assertRegex(told, b'^listening 127[.]0[.]0[.]1:')
         client = Client(told.decode().split()[1])
-        self.addCleanup(client.end)
+        self.addCleanup(client.close)
         return client
 
     @needs_program

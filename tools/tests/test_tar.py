@@ -6,6 +6,7 @@ import shutil
 import subprocess
 import tarfile
 import unittest
+from typing import List, Tuple
 
 from crashfs_tools.common import limits
 from crashfs_tools.common.program import Crashfs
@@ -47,13 +48,14 @@ WIDE += f'''\
 
 # Files with bytes in several places, one of zeros, and one that is too small for pieces.
 SPARSE = '{"trace":4,"profile":"blocks","block":512,"owner":"c","group":"s","mode":"775"}\n'
-for name, length, parts in [
+SPARSE_FILES: List[Tuple[str, int, List[Tuple[int, str]]]] = [
     ('a', 400_000, [(0, 'first'), (200_000, 'middle'), (399_999, '!')]),
     ('b', 300_001, []),
     ('c', 65_535, []),
     ('d', 600_000, [(8_192 * 3, 'x' * 9000)]),
-]:
-    parts = ','.join(f'{{"at":{at},"text":"{text}"}}' for at, text in parts)
+]
+for name, length, pieces in SPARSE_FILES:
+    parts = ','.join(f'{{"at":{at},"text":"{text}"}}' for at, text in pieces)
     SPARSE += f'{{"start":"file","path":"/{name}",{RIGHTS},"length":{length},"parts":[{parts}]}}\n'
 LONG_SPARSE = SPARSE.partition('\n')[0] + '\n'
 LONG_SPARSE += f'{{"start":"file","path":"/{LONG}",{RIGHTS},"length":70000,"parts":[]}}\n'

@@ -1,6 +1,7 @@
 """What a session does that no trace says: each thing is reported, or only noted."""
 
 import unittest
+from typing import List, Tuple
 
 from crashfs_tools.common.trace import StartSymlink
 
@@ -8,7 +9,7 @@ from .support import recording_of
 from .translated_calls import FILE, IN_DIRECTORY, OPEN_F, TWO_FILES
 
 # (what is reported, the start tree, the log)
-TROUBLES = [
+TROUBLES: List[Tuple[str, List[str], List[str]]] = [
     (
         '/jail: chroot: paths of that process mean other files from here on',
         [],
@@ -167,7 +168,7 @@ OLD_TROUBLES = [
     ),
 ]
 # What is only noted.
-NOTES = [
+NOTES: List[Tuple[str, List[str], List[str]]] = [
     (
         '/f: sync_file_range: it promises nothing of a crash',
         FILE,
