@@ -74,7 +74,7 @@ module _ (ops : List MicroOp) (syncs : List SyncPoint) (version : Version) (prof
       (let v = removed_between ops home number E h j i (entry_of f) d (omega (arith, order)) (omega (arith, high)) held other in
       let from = v.1 in
       let apart : i ≢ v.0 = λ same. (let x : Other ≡ Delete (entry_of f) (Directory d) = sym (ap entry_op sets.1)
-          ∙ ap (entry_op_at ops) same ∙ v.3 in absurd (cc)) in
+      ∙ ap (entry_op_at ops) same ∙ v.3 in absurd (cc)) in
       two i v.0 j (omega (arith, from, apart)) v.2
       (settles_one_directory d settles (inl (inr (removes_by (op_at ops v.0) (entry_of f) d v.3))))
       (touches_one_entry (entry_of f) (touches_by (op_at ops v.0) (entry_of f) (Delete (entry_of f) (Directory d)) v.3
@@ -126,7 +126,7 @@ module _ (ops : List MicroOp) (syncs : List SyncPoint) (version : Version) (prof
       (let x : at_path (E i) w.path ≡ Some (Directory f.0) = subst (AreNamed (E i)) f.1.1 (h.named i low) in
       let y : at_path (E j) w.path ≡ Some (Directory g.0) = subst (AreNamed (E j)) g.1.1 (h.named j high) in
       let same = one_directory home number (E i) (E j) (h.placed i (omega (arith, low))) (h.placed j (omega (arith, high))) w.path f.0 g.0
-          x y in
+      x y in
       one i j order (settles_one_directory f.0 (inr (w.path, f.1.0, f.1.1))
       (subst (Settles (op_at ops j)) (sym same) (inr (w.path, g.1.0, g.1.1))))))
       (named_says (op_at ops j) w.path w.second))
@@ -187,8 +187,15 @@ module _ (ops : List MicroOp) (syncs : List SyncPoint) (version : Version) (prof
 
       again : (m : ℕ) × (i ≤ m) × (m < j) × Creates (op_at ops m) (Directory c)
       again = made_again ops home number E h i j order (omega (arith, high)) g c here held
-          (record { entry = g; node = latest.made.node; rights = latest.made.rights; bytes = latest.made.bytes; is = latest.made.is; path =
-          refl })
+          (record {
+            entry = g;
+            node = latest.made.node;
+            rights = latest.made.rights;
+            bytes = latest.made.bytes;
+            is = latest.made.is;
+            path =
+                refl;
+          })
 
       made : Creates (op_at ops i) (Directory c)
       made = ⊎_elim
@@ -230,14 +237,14 @@ module _ (ops : List MicroOp) (syncs : List SyncPoint) (version : Version) (prof
   pub making_chained : (i j : ℕ) → i < j → j < n → before.makes_parent (map op_before ops) i j ≡ true → IsChained i j
   making_chained i j order high is =
       let w = any_found (λ p. before.is_latest (map op_before ops) i j (parent_path p))
-          (before.paths_named (before.op_at (map op_before ops) j)) is in
+      (before.paths_named (before.op_at (map op_before ops) j)) is in
       let latest = latest_at i j (parent_path w.0) w.2 in
       let low : i < n = omega (arith, order, high) in
       ⊎_elim
       (λ (f : (e : DirEntry) × Contains (dir_entries (op_at ops j)) e × (e.path ≡ w.0)).
       (let nf = named_at ops home number E h j high f.0 f.1 in
       let at : at_path (E j) (parent_path w.0) ≡ Some (Directory f.0.directory) = ap (λ p. at_path (E j) (parent_path p)) (sym f.2)
-          ∙ nf.1 in
+      ∙ nf.1 in
       one i j order (makes_directory (entry_of f.0) (touch (op_at ops j) f.0 f.1)
       (latest_making i j order high (parent_path w.0) f.0.directory at latest))))
       (λ (g : (d : ℕ) × SetsAt (op_at ops j) d w.0). ⊎_elim

@@ -102,7 +102,7 @@ module _ (ops : List MicroOp) (home : ℕ → Entry) (number : Entry → ℕ) (E
   named_as k low d (inl (inl made)) =
       (let at = made_after ops home number E h k low d made in
       let c : Contains (dir_entries (op_at ops k)) made.0 =
-          subst (λ o. Contains (dir_entries o) made.0) (sym made.3) (0, omega arith, refl) in
+      subst (λ o. Contains (dir_entries o) made.0) (sym made.3) (0, omega arith, refl) in
       let here = held_named ops home number E h k (suc k) (omega (arith, low)) (omega (arith, low)) made.0 (Directory d)
       (named_at ops home number E h k low made.0 c) at in
       record {
@@ -165,9 +165,18 @@ module _ (ops : List MicroOp) (home : ℕ → Entry) (number : Entry → ℕ) (E
   pub made_again : (k j : ℕ) → k < j → j ≤ n → (g : DirEntry) (c : ℕ) → IsNamed (E j) g → E j (entry_of g) ≡ Some (Directory c)
       → (w : IsMadeAt (op_at ops k) g.path) → (m : ℕ) × (k ≤ m) × (m < j) × Creates (op_at ops m) (Directory c)
   made_again k j before_j high g c named held w = ⊎_elim
-      (λ (is : Some w.node ≡ Some (Directory c)).
-      (k, omega arith, before_j, (w.entry, w.rights, w.bytes, w.is
-      ∙ ap (λ x. CreateDirEntry w.entry x w.rights w.bytes) (some_node w.node c is))))
+      (λ (is : Some w.node ≡ Some (Directory c)). (
+        k,
+        omega arith,
+        before_j,
+        (
+          w.entry,
+          w.rights,
+          w.bytes,
+          w.is
+              ∙ ap (λ x. CreateDirEntry w.entry x w.rights w.bytes) (some_node w.node c is),
+        ),
+      ))
       (λ (other : Some w.node ≢ Some (Directory c)).
       (let low : k < n = omega (arith, before_j, high) in
       let made : Creates (op_at ops k) w.node = (w.entry, w.rights, w.bytes, w.is) in
@@ -175,7 +184,7 @@ module _ (ops : List MicroOp) (home : ℕ → Entry) (number : Entry → ℕ) (E
       h.step k low (entry_of w.entry) ∙ ap (λ o. after (E k) (entry_op o) (entry_of w.entry)) w.is
       ∙ put_here (E k) (entry_of w.entry) (Some w.node) in
       let same = one_entry ops home number E h k j (omega (arith, low)) high w.entry g (made_named ops home number E h k low w.node made)
-          named w.path in
+      named w.path in
       let v = made_between ops home number E h j (suc k) (entry_of g) c (omega (arith, before_j)) high
       (λ held_now. other (sym there ∙ ap (E (suc k)) same ∙ held_now)) held in
       let from = v.1 in
@@ -194,7 +203,7 @@ module _ (ops : List MicroOp) (home : ℕ → Entry) (number : Entry → ℕ) (E
       let ng = held_named ops home number E h i (suc i) (omega (arith, low)) (omega (arith, low)) g (Directory e.directory)
       (made_named ops home number E h i low (Directory e.directory) latest.made) at in
       let above : at_path (E j) (parent_path f.0.path) ≡ Some (Directory e.directory) = nf.1
-          ∙ ap (λ (x : Entry). Some (Directory x.directory)) f.2 in
+      ∙ ap (λ (x : Entry). Some (Directory x.directory)) f.2 in
       let same : g.path ≡ parent_path f.0.path =
       one_path home number (E (suc i)) (E j) (h.placed (suc i) (omega (arith, low))) (h.placed j (omega (arith, high))) g.path
       (parent_path f.0.path)

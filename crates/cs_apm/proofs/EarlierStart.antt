@@ -125,7 +125,7 @@ module _ (t : Trace) (homes : List Entry) (are : AreHomes (start_table t) homes)
       let p = leads_to i low ∙ ap Some at_i in
       let q = leads_to j j_low ∙ ap Some at_j in
       let same : path_of j ≡ path_of i = one_path (held_in (start_table t)) tree (length (path_of j)) (path_of j) (path_of i) d
-          (omega arith) q p in
+      (omega arith) q p in
       let i_named = named_at t.records i low in
       let j_named = named_at t.records j j_low in
       let before_i : path_cmp (get_or (map (λ e. e.0) t.records) j []) (get_or (map (λ e. e.0) t.records) i []) ≡ Less =
@@ -148,7 +148,7 @@ module _ (t : Trace) (homes : List Entry) (are : AreHomes (start_table t) homes)
       let w = place_found t.nodes d 0 k high is in
       let le = w.low in
       let place : directory_place t.nodes d ≡ w.place =
-          (let e : 0 + w.place ≡ w.place = omega arith in ap (λ o. unwrap_or o 0) w.first ∙ e) in
+      (let e : 0 + w.place ≡ w.place = omega arith in ap (λ o. unwrap_or o 0) w.first ∙ e) in
       let own : w.place ≡ k = ⊎_elim
       (λ (less : w.place < k). absurd (one_place k w.place d low less is w.is))
       (λ (more : k ≤ w.place). omega (arith, le, more))

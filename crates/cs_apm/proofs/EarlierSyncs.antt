@@ -180,7 +180,7 @@ module _ (ops : List MicroOp) (home : ℕ → Entry) (number : Entry → ℕ) (E
           let ne = named_at ops home number E h j high e (subst (λ o. Contains (dir_entries o) e) (sym is) (0, omega arith, refl)) in
           let w = any_found (λ p. path_eq e.path (parent_path p)) (before.paths_touched (op_before (op_at ops i))) t in
           let f = map_contains (λ (x : DirEntry). x.path) (dir_entries (op_at ops i)) w.0
-              (subst (λ ps. Contains ps w.0) (paths_are (op_at ops i)) w.1) in
+          (subst (λ ps. Contains ps w.0) (paths_are (op_at ops i)) w.1) in
           let nf = named_at ops home number E h i low f.0 f.1 in
           let path : e.path ≡ parent_path f.0.path = path_from e.path (parent_path w.0) w.2 ∙ ap parent_path (sym f.2) in
           let same : f.0.directory ≡ c =

@@ -215,7 +215,7 @@ module _ (ops : List MicroOp) (home : ℕ → Entry) (number : Entry → ℕ) (E
       let whole = whole_path f.path named.0 in
       let w = in_directory (E k) (parent_path f.path) (last_name f.path) (Directory d) (ap (at_path (E k)) whole ∙ at) in
       let same = one_directory home number (E k) (E i) (h.placed k high) (h.placed i low) (parent_path f.path) w.directory f.directory
-          w.above named.1 in
+      w.above named.1 in
       ap (λ c. E k (entry_in c (last_name f.path))) (sym same) ∙ w.held
 
   -- two named entries of one path, or of one entry

@@ -90,130 +90,130 @@ abbrev pub made_of : FileSystem → Made
 made_of fs = record { entries = fs.entries; files = length fs.sizes; homes = fs.homes }
 
 module _ (version : Version) (fs : FileSystem) (a b : DirEntry) (named : IsNamed (held_in fs.entries) a × IsNamed (held_in fs.entries) b)
-    where
-  abbrev m : Made
-  m = made_of fs
+  where
+    abbrev m : Made
+    m = made_of fs
 
-  abbrev from : Entry
-  from = entry_of a
+    abbrev from : Entry
+    from = entry_of a
 
-  abbrev to : Entry
-  to = entry_of b
+    abbrev to : Entry
+    to = entry_of b
 
-  -- what a move of the node leaves
-  abbrev moved : Node → Option Node → Made
-  moved node old = record m { entries = table_after fs.entries (entries.Move from to node old) }
+    -- what a move of the node leaves
+    abbrev moved : Node → Option Node → Made
+    moved node old = record m { entries = table_after fs.entries (entries.Move from to node old) }
 
-  whole_leaves : (node : Node) (old : Option Node) → IsLegalEntryOp (held_in fs.entries) (entries.Move from to node old)
-      → trace.MayReplace version node old → Leaves version m (micro.MoveDirEntry a b node old ∷ []) (moved node old)
-  whole_leaves node old legal may = record {
-    legal = (record { named = named; entry = legal; fitting = may }, tt);
-    made = refl;
-  }
-
-  module _ (kind : FileKind) (file : ℕ) (old : Option Node)
-      (legal : IsLegalEntryOp (held_in fs.entries) (entries.Move from to (File kind file) old))
-      (may : trace.MayReplace version (File kind file) old) (given : file < length fs.sizes) where
-    abbrev linked : Made
-    linked = made_after m (micro.LinkDirEntry b kind file old true)
-
-    no_directory_by : (o : Option Node) → trace.MayReplace version (File kind file) o → (d : ℕ) → o ≢ Some (Directory d)
-    no_directory_by None may d h = absurd (cc)
-    no_directory_by (Some (Directory c)) may d h = absurd may
-    no_directory_by (Some (File k f)) may d h = no_directory k f d h
-
-    none_there : (d : ℕ) → held_in fs.entries to ≢ Some (Directory d)
-    none_there d h = no_directory_by old may d (sym legal.2 ∙ h)
-
-    link_legal : IsLegalEntryOp (held_in fs.entries) (entries.Link to kind file)
-    link_legal = (
-      none_there,
-      (
-        legal.4.0,
-        way_kept (held_in fs.entries) (held_in fs.entries) (λ f. f ≢ from) Any (λ f c held passes. (held, tt)) legal.4.0 to.directory
-        legal.4.1,
-      ),
-    )
-
-    step : (e : Entry) → held_in linked.entries e ≡ put (held_in fs.entries) to (Some (File kind file)) e
-    step e = table_step fs.entries (entries.Link to kind file) link_legal e
-
-    still : held_in linked.entries from ≡ Some (File kind file)
-    still = step from ∙ put_other (held_in fs.entries) to from (Some (File kind file)) (λ same. legal.0 (sym same)) ∙ legal.1
-
-    named_still : IsNamed (held_in linked.entries) a
-    named_still = (
-      named.0.0,
-      ap (λ held. at_path held (parent_path a.path)) (λ i e. step e i)
-          ∙ keeps_path (held_in fs.entries) to (File kind file) none_there (parent_path a.path) (Some (Directory 0)) a.directory named.0.1,
-    )
-
-    same_end : table_after linked.entries (entries.Delete from (File kind file)) ≡ table_after fs.entries
-        (entries.Move from to (File kind file) old)
-    same_end =
-        same_map entry_total entry_exact _ _ (λ q. both q)
-        ∙ ap (λ o. option_map_or (λ held. insert (remove fs.entries from) to held) o fs.entries) (sym legal.1)
-      where
-        both : (q : Entry) → get (remove (insert fs.entries to (File kind file)) from) q
-            ≡ get (insert (remove fs.entries from) to (File kind file)) q
-        both q =
-            get-remove entry_total (insert fs.entries to (File kind file)) from q
-            ∙ ap (cond (is_eq (entry_cmp q from)) None) (get-insert entry_total fs.entries to (File kind file) q)
-            ∙ swapped (is_eq (entry_cmp q from)) (is_eq (entry_cmp q to)) refl refl
-            ∙ ap (cond (is_eq (entry_cmp q to)) (Some (File kind file))) (sym (get-remove entry_total fs.entries from q))
-            ∙ sym (get-insert entry_total (remove fs.entries from) to (File kind file) q)
-          where
-            swapped : (f t : Bool) → is_eq (entry_cmp q from) ≡ f → is_eq (entry_cmp q to) ≡ t
-                → cond f None (cond t (Some (File kind file)) (get fs.entries q))
-                ≡ cond t (Some (File kind file)) (cond f None (get fs.entries q))
-            swapped true true x y = absurd (legal.0 (sym (same_key q from x) ∙ same_key q to y))
-            swapped true false x y = refl
-            swapped false t x y = refl
-
-    halves_leave : Leaves version m (micro.LinkDirEntry b kind file old true ∷ micro.DeleteDirEntry a (File kind file) ∷ [])
-        (moved (File kind file) old)
-    halves_leave = record {
-      legal = (
-        record {
-          named = named.1;
-          entry = link_legal;
-          fitting = (given, (from, legal.1), legal.2, λ whole. absurd (false≢true (sym whole)));
-        },
-        (
-          record {
-            named = named_still;
-            entry = (still, λ d is. absurd (no_directory kind file d is));
-            fitting = tt;
-          },
-          tt,
-        ),
-      );
-      made = ap (λ t. record m { entries = t }) same_end;
+    whole_leaves : (node : Node) (old : Option Node) → IsLegalEntryOp (held_in fs.entries) (entries.Move from to node old)
+        → trace.MayReplace version node old → Leaves version m (micro.MoveDirEntry a b node old ∷ []) (moved node old)
+    whole_leaves node old legal may = record {
+      legal = (record { named = named; entry = legal; fitting = may }, tt);
+      made = refl;
     }
 
-    file_leaves : Leaves version m (move_micros version a b (File kind file) old) (moved (File kind file) old)
-    file_leaves = by (comes_in_halves version a b)
-      where
-        by : (halved : Bool)
-            → Leaves version m (cond halved
-            (micro.LinkDirEntry b kind file old true ∷ micro.DeleteDirEntry a (File kind file) ∷ [])
-            (micro.MoveDirEntry a b (File kind file) old ∷ [])) (moved (File kind file) old)
-        by true = halves_leave
-        by false = whole_leaves (File kind file) old legal may
+    module _ (kind : FileKind) (file : ℕ) (old : Option Node)
+        (legal : IsLegalEntryOp (held_in fs.entries) (entries.Move from to (File kind file) old))
+        (may : trace.MayReplace version (File kind file) old) (given : file < length fs.sizes) where
+      abbrev linked : Made
+      linked = made_after m (micro.LinkDirEntry b kind file old true)
 
-  moved_leaves : (node : Node) (old : Option Node) → IsLegalEntryOp (held_in fs.entries) (entries.Move from to node old)
-      → trace.MayReplace version node old → trace.IsGiven fs node
-      → Leaves version m (move_micros version a b node old) (moved node old)
-  moved_leaves (Directory d) old legal may given = whole_leaves (Directory d) old legal may
-  moved_leaves (File kind file) old legal may given = file_leaves kind file old legal may given
+      no_directory_by : (o : Option Node) → trace.MayReplace version (File kind file) o → (d : ℕ) → o ≢ Some (Directory d)
+      no_directory_by None may d h = absurd (cc)
+      no_directory_by (Some (Directory c)) may d h = absurd may
+      no_directory_by (Some (File k f)) may d h = no_directory k f d h
 
-  renamed_by : (same : Bool) (node : Node) (old : Option Node)
-      → IsLegalEntryOp (held_in fs.entries) (if same then entries.Other else entries.Move from to node old)
-      → trace.MayReplace version node old → trace.IsGiven fs node
-      → Leaves version m (if same then [] else move_micros version a b node old)
-      (record m { entries = table_after fs.entries (if same then entries.Other else entries.Move from to node old) })
-  renamed_by true node old legal may given = nothing_leaves version m
-  renamed_by false node old legal may given = moved_leaves node old legal may given
+      none_there : (d : ℕ) → held_in fs.entries to ≢ Some (Directory d)
+      none_there d h = no_directory_by old may d (sym legal.2 ∙ h)
+
+      link_legal : IsLegalEntryOp (held_in fs.entries) (entries.Link to kind file)
+      link_legal = (
+        none_there,
+        (
+          legal.4.0,
+          way_kept (held_in fs.entries) (held_in fs.entries) (λ f. f ≢ from) Any (λ f c held passes. (held, tt)) legal.4.0 to.directory
+              legal.4.1,
+        ),
+      )
+
+      step : (e : Entry) → held_in linked.entries e ≡ put (held_in fs.entries) to (Some (File kind file)) e
+      step e = table_step fs.entries (entries.Link to kind file) link_legal e
+
+      still : held_in linked.entries from ≡ Some (File kind file)
+      still = step from ∙ put_other (held_in fs.entries) to from (Some (File kind file)) (λ same. legal.0 (sym same)) ∙ legal.1
+
+      named_still : IsNamed (held_in linked.entries) a
+      named_still = (
+        named.0.0,
+        ap (λ held. at_path held (parent_path a.path)) (λ i e. step e i)
+            ∙ keeps_path (held_in fs.entries) to (File kind file) none_there (parent_path a.path) (Some (Directory 0)) a.directory named.0.1,
+      )
+
+      same_end : table_after linked.entries (entries.Delete from (File kind file)) ≡ table_after fs.entries
+          (entries.Move from to (File kind file) old)
+      same_end =
+          same_map entry_total entry_exact _ _ (λ q. both q)
+          ∙ ap (λ o. option_map_or (λ held. insert (remove fs.entries from) to held) o fs.entries) (sym legal.1)
+        where
+          both : (q : Entry) → get (remove (insert fs.entries to (File kind file)) from) q
+              ≡ get (insert (remove fs.entries from) to (File kind file)) q
+          both q =
+              get-remove entry_total (insert fs.entries to (File kind file)) from q
+              ∙ ap (cond (is_eq (entry_cmp q from)) None) (get-insert entry_total fs.entries to (File kind file) q)
+              ∙ swapped (is_eq (entry_cmp q from)) (is_eq (entry_cmp q to)) refl refl
+              ∙ ap (cond (is_eq (entry_cmp q to)) (Some (File kind file))) (sym (get-remove entry_total fs.entries from q))
+              ∙ sym (get-insert entry_total (remove fs.entries from) to (File kind file) q)
+            where
+              swapped : (f t : Bool) → is_eq (entry_cmp q from) ≡ f → is_eq (entry_cmp q to) ≡ t
+                  → cond f None (cond t (Some (File kind file)) (get fs.entries q))
+                  ≡ cond t (Some (File kind file)) (cond f None (get fs.entries q))
+              swapped true true x y = absurd (legal.0 (sym (same_key q from x) ∙ same_key q to y))
+              swapped true false x y = refl
+              swapped false t x y = refl
+
+      halves_leave : Leaves version m (micro.LinkDirEntry b kind file old true ∷ micro.DeleteDirEntry a (File kind file) ∷ [])
+          (moved (File kind file) old)
+      halves_leave = record {
+        legal = (
+          record {
+            named = named.1;
+            entry = link_legal;
+            fitting = (given, (from, legal.1), legal.2, λ whole. absurd (false≢true (sym whole)));
+          },
+          (
+            record {
+              named = named_still;
+              entry = (still, λ d is. absurd (no_directory kind file d is));
+              fitting = tt;
+            },
+            tt,
+          ),
+        );
+        made = ap (λ t. record m { entries = t }) same_end;
+      }
+
+      file_leaves : Leaves version m (move_micros version a b (File kind file) old) (moved (File kind file) old)
+      file_leaves = by (comes_in_halves version a b)
+        where
+          by : (halved : Bool)
+              → Leaves version m (cond halved
+              (micro.LinkDirEntry b kind file old true ∷ micro.DeleteDirEntry a (File kind file) ∷ [])
+              (micro.MoveDirEntry a b (File kind file) old ∷ [])) (moved (File kind file) old)
+          by true = halves_leave
+          by false = whole_leaves (File kind file) old legal may
+
+    moved_leaves : (node : Node) (old : Option Node) → IsLegalEntryOp (held_in fs.entries) (entries.Move from to node old)
+        → trace.MayReplace version node old → trace.IsGiven fs node
+        → Leaves version m (move_micros version a b node old) (moved node old)
+    moved_leaves (Directory d) old legal may given = whole_leaves (Directory d) old legal may
+    moved_leaves (File kind file) old legal may given = file_leaves kind file old legal may given
+
+    renamed_by : (same : Bool) (node : Node) (old : Option Node)
+        → IsLegalEntryOp (held_in fs.entries) (if same then entries.Other else entries.Move from to node old)
+        → trace.MayReplace version node old → trace.IsGiven fs node
+        → Leaves version m (if same then [] else move_micros version a b node old)
+        (record m { entries = table_after fs.entries (if same then entries.Other else entries.Move from to node old) })
+    renamed_by true node old legal may given = nothing_leaves version m
+    renamed_by false node old legal may given = moved_leaves node old legal may given
 
 -- ---- one operation
 
@@ -335,7 +335,7 @@ target_low : (version : Version) (target : List ℕ) → is_target target ≡ tr
 target_low version target h =
     let parts = and_parts (nat_lt 0 (length target) && nat_le (length target) TARGET_BYTES) (is_without_nul target) h in
     let long = leb-true (length target) TARGET_BYTES (and_parts (nat_lt 0 (length target)) (nat_le (length target) TARGET_BYTES) parts.0).1
-        in
+    in
     by (is_fourth version) long
   where
     by : (fourth : Bool) → length target ≤ TARGET_BYTES → length target ≤ (if fourth then LARGE_FILE_BYTES else FILE_BYTES)

@@ -115,12 +115,12 @@ module _ (ops : List MicroOp) (makings : List ℕ) (are : AreMakings ops makings
 
 -- what a set leaves of a directory's owner, group and permissions, from those that it was made with
 module _ (parts : Parts) (h : AreParts parts) (directory : ℕ) (places : List ℕ) (known : directory < length parts.tables.directories.items)
-    where
-  pub directory_of_left : (made : Rights) → made ≡ get_or parts.tables.directories.items directory made
-      → directory_left directory made parts.micros.ops places ≡ directory_in parts places directory
-  directory_of_left made read =
-      let low = subst (λ all. directory < length all) h.whole.atlas.directories known in
-      ap (λ r. directory_left directory r parts.micros.ops places)
-      (get_or_read parts.tables.directories.items directory made known read no_rights
-      ∙ ap (λ all. get_or all directory no_rights) h.whole.atlas.directories)
-      ∙ left_directory parts.trace parts.micros.ops places directory low
+  where
+    pub directory_of_left : (made : Rights) → made ≡ get_or parts.tables.directories.items directory made
+        → directory_left directory made parts.micros.ops places ≡ directory_in parts places directory
+    directory_of_left made read =
+        let low = subst (λ all. directory < length all) h.whole.atlas.directories known in
+        ap (λ r. directory_left directory r parts.micros.ops places)
+        (get_or_read parts.tables.directories.items directory made known read no_rights
+        ∙ ap (λ all. get_or all directory no_rights) h.whole.atlas.directories)
+        ∙ left_directory parts.trace parts.micros.ops places directory low

@@ -18,7 +18,7 @@ returns c =
     subst (λ es. option_map (λ (e : Path × Record). e.1.content) (slice_get es place) ≡ Some content) c.records.ensures.value
     c.content-content.ensures in
     let read = read_at (λ (e : Path × Record). e.1.content) t.records place no_record content (c.requires.starts.each c.args.file low) lent
-        in
+    in
     start_before t c.args.ops.now c.args.starts.now c.requires.starts c.args.file (get_or t.records place no_record)
     c.in_ok-bytes.bytes.items
     c.of.result low refl (c.in_ok-bytes.ensures ∙ ap (λ v. unwrap_or v []) (sym read)) c.of.ensures

@@ -13,7 +13,7 @@ loop-place-preserved c =
     let path = c.in_ok-path_of.field-0 in
     let low : k < length records = omega arith in
     let named : (get_or records k no_record).0 ≡ path =
-        read_at (λ (e : Path × Record). e.0) records k no_record path low c.in_ok-path_of.ensures in
+    read_at (λ (e : Path × Record). e.0) records k no_record path low c.in_ok-path_of.ensures in
     c.in_ok-push.ensures.items
     ∙ (λ i. c.loop-place.invariant i ++ sym named i ∷ [])
     ∙ sym (map-append (λ (e : Path × Record). e.0) (take k records) (get_or records k no_record ∷ []))

@@ -40,7 +40,7 @@ returns-in_ok-bytes-in-File c =
     let low : file < length all =
     subst (λ (node : Node). IsKnown (length c.args.tables.now.directories.items) (length all) (Some node)) c.in-File.is c.requires.known in
     let has = c.owner_left-owner.ensures ∙ ap (λ os. owner_left file (get_or os file no_rights) ops places) c.deref-in-File-4.ensures.value
-        in
+    in
     subst (λ (node : Node). IfOk c.record_with-in-File.result
     (λ made. made ≡ fresh_record c.args.number (record_of (state_of (start_state t) ops places) node)))
     (sym c.in-File.is)

@@ -10,13 +10,13 @@ returns c =
     let a = c.args in
     let fields = recipe_fields a.recipe.now in
     let line : List ℕ → List ℕ = λ array.
-      codes "{\"state\":"
-      ++ (decimal a.number
-      ++ (codes ","
-      ++ (fields
-      ++ (codes ",\"says\":"
-      ++ (decimal a.says
-      ++ (codes ",\"same\":" ++ (decimal a.first ++ (codes ",\"profiles\":" ++ (array ++ codes "}\n")))))))))
+    codes "{\"state\":"
+    ++ (decimal a.number
+    ++ (codes ","
+    ++ (fields
+    ++ (codes ",\"says\":"
+    ++ (decimal a.says
+    ++ (codes ",\"same\":" ++ (decimal a.first ++ (codes ",\"profiles\":" ++ (array ++ codes "}\n")))))))))
     in
     let array : List ℕ = c.array-array.result.now in
     let same : array ≡ array_of a.profiles = c.array-array.ensures in

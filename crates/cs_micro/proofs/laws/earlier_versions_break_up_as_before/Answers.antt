@@ -15,9 +15,9 @@ returns c =
     let block = block_before t.version c.requires in
     let ops = map operation_before t.operations in
     let same_ops = early_ops t.version c.requires fs t.operations given.tree given.legal.legal
-        ∙ ap (λ b. before.micro_operations_of b ops) block in
+    ∙ ap (λ b. before.micro_operations_of b ops) block in
     let same_syncs = early_syncs t.version c.requires fs t.operations given.tree given.legal.legal
-        ∙ ap (λ b. before_syncs.sync_points_of b ops) block
+    ∙ ap (λ b. before_syncs.sync_points_of b ops) block
     in
     let same_starts = starts_before t.files t.links in
     λ i. record { ops = same_ops i; syncs = same_syncs i; starts = same_starts i; version = version_before t.version }

@@ -24,7 +24,7 @@ returns-then-not-is_before-clause-name c =
     let end = c.range_after-first.result.1 in
     let place = c.loop-place.place in
     let range = subst (λ (all : List Entry). AreAfterName all d last first end) c.entries-entries.ensures c.range_after-first.ensures.names
-        in
+    in
     let within = subst (λ (all : List Entry). end ≤ length all) c.entries-entries.ensures c.range_after-first.ensures.within in
     let below = c.loop-place-test.true in
     let named : (entry_at es place).name ≡ (get_or c.entries-entries.result.now place c.index-entries-place.result).name =
@@ -45,7 +45,7 @@ returns-in-Some-clause-name c =
     let end = c.range_after-first.result.1 in
     let place = c.loop-place.place in
     let range = subst (λ (all : List Entry). AreAfterName all d last first end) c.entries-entries.ensures c.range_after-first.ensures.names
-        in
+    in
     let within = subst (λ (all : List Entry). end ≤ length all) c.entries-entries.ensures c.range_after-first.ensures.within in
     let below = c.loop-place-test.true in
     let named : (entry_at es place).name ≡ (get_or c.entries-entries.result.now place c.index-entries-place.result).name =
@@ -68,7 +68,7 @@ returns-in-Some-clause-number c =
     let end = c.range_after-first.result.1 in
     let place = c.loop-place.place in
     let range = subst (λ (all : List Entry). AreAfterName all d last first end) c.entries-entries.ensures c.range_after-first.ensures.names
-        in
+    in
     let within = subst (λ (all : List Entry). end ≤ length all) c.entries-entries.ensures c.range_after-first.ensures.within in
     let below = c.loop-place-test.true in
     let named : (entry_at es place).name ≡ (get_or c.entries-entries.result.now place c.index-entries-place.result).name =
@@ -89,7 +89,7 @@ returns-clause-name c =
     let first = c.range_after-first.result.0 in
     let end = c.range_after-first.result.1 in
     let range = subst (λ (all : List Entry). AreAfterName all d last first end) c.entries-entries.ensures c.range_after-first.ensures.names
-        in
+    in
     let within = subst (λ (all : List Entry). end ≤ length all) c.entries-entries.ensures c.range_after-first.ensures.within in
     none_left es (atlas s c.requires).ascending (number_of_place s) d last bound first end range within c.loop-place.place
     c.loop-place.invariant c.loop-place-test.false

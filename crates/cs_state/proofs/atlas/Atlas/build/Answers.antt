@@ -35,7 +35,7 @@ pub count_members-moved-requires : goal.count_members-moved-requires
 count_members-moved-requires c =
     let parts = arc_value c.self.inside.parts in
     let moves = c.deref-4.ensures.value ∙ ap (λ (p : Parts). p.shares.paths.moves.items) c.deref-3.ensures
-        ∙ c.self.invariant.shares.paths.moves in
+    ∙ c.self.invariant.shares.paths.moves in
     let members = c.in_ok-members.members.items in
     let micros = c.self.invariant.whole.broken ∙ ap micros_in c.self.view_is in
     let allowed =
@@ -51,7 +51,7 @@ pub own_of-requires-clause-moved : goal.own_of-requires-clause-moved
 own_of-requires-clause-moved c =
     let parts = arc_value c.self.inside.parts in
     let moves = c.deref-4.ensures.value ∙ ap (λ (p : Parts). p.shares.paths.moves.items) c.deref-3.ensures
-        ∙ c.self.invariant.shares.paths.moves in
+    ∙ c.self.invariant.shares.paths.moves in
     let members = c.in_ok-members.members.items in
     let micros = c.self.invariant.whole.broken ∙ ap micros_in c.self.view_is in
     let allowed =
