@@ -1,7 +1,6 @@
 -- The micro-operations of legal operations are legal.
 use Rattle.std.proofs.Common.{◌≡◌, ◌≢◌, ℕ, zero, suc, ◌+◌, ◌-◌, ◌<◌, ◌≤◌, ◌==◌, ◌&&◌, nat_lt, Bool, true, false, List, [], ◌∷◌}
-use Rattle.std.proofs.Common.{◌++◌, Option, None, Some, cond, fold, max, length, refl, sym, ap, ◌∙◌, subst}
-use Rattle.std.proofs.Common.{arith, ⊎_elim, ◌⊎◌, inl, inr, length-append, length-set, eq-eqb}
+use Rattle.std.proofs.Common.{◌++◌, Option, None, Some, cond, fold, max, length, refl, sym, ap, ◌∙◌, subst, arith, ⊎_elim, ◌⊎◌, inl, inr, length-append, length-set, eq-eqb}
 use Rattle.std.proofs.lemmas.Bool.{and_parts, false≢true, leb-true}
 use Rattle.std.proofs.lemmas.List.{length-map}
 use Rattle.std.proofs.lemmas.List.Sums.{fold-append}
@@ -145,7 +144,8 @@ module _ (version : Version) (fs : FileSystem) (a b : DirEntry) (named : IsNamed
       named_still = (
         named.0.0,
         ap (λ held. at_path held (parent_path a.path)) (λ i e. step e i)
-            ∙ keeps_path (held_in fs.entries) to (File kind file) none_there (parent_path a.path) (Some (Directory 0)) a.directory named.0.1,
+            ∙ keeps_path (held_in fs.entries) to (File kind file) none_there (parent_path a.path) (Some (Directory 0)) a.directory
+            named.0.1,
       )
 
       same_end : table_after linked.entries (entries.Delete from (File kind file)) ≡ table_after fs.entries
