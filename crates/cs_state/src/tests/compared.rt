@@ -1,5 +1,6 @@
 //! Every state of a trace, as it is shown, against the plain store of its set.
 use crate::Atlas;
+use cs_apm::laws::rules_are_sentences;
 use cs_apm::{build, order_of};
 use cs_micro::break_up;
 use cs_names::Name;
@@ -7,6 +8,9 @@ use cs_trace::{Trace, read_trace};
 use cs_tree_model::{Kind, TreeRead};
 use std::alloc::{AllocError, Global};
 use std::process::Abort;
+
+/// The most micro-operations of a trace whose sets are all tried.
+const MOST: usize = 12;
 
 fn text_of(alloc: Global, lines: &[&str]) -> Result<String, AllocError> {
     let mut text = String::new(alloc);
@@ -75,7 +79,7 @@ fn push_listing<T: TreeRead>(
 /// What is at all numbers, one line each, and at one more that nothing has.
 fn shown<T: TreeRead>(alloc: Global, tree: &T) -> Result<String, AllocError> {
     let mut text = format!(in alloc; "{} {}\n", tree.count(), tree.last_number())?;
-    for number in 0..tree.last_number() + 2 {
+    for number in 0..tree.last_number().saturating_add(2) {
         push_record(&mut text, alloc, tree, number)?;
         let parent = tree.parent_of(number).unwrap_or(999);
         let name = tree.name_of(number).map_or("-", |name| name.as_str());
@@ -87,10 +91,10 @@ fn shown<T: TreeRead>(alloc: Global, tree: &T) -> Result<String, AllocError> {
     Ok(text)
 }
 
-/// The places whose bits the number has.
-fn places_of(alloc: Global, bits: u32, count: usize) -> Result<Vec<u32>, AllocError> {
+/// The places whose bits the number has, of those of the first micro-operations.
+fn places_of(alloc: Global, bits: u32) -> Result<Vec<u32>, AllocError> {
     let mut places = Vec::new(alloc);
-    for place in 0..count as u32 {
+    for place in 0..MOST as u32 {
         if (bits >> place) % 2 == 1 {
             places.push(place)?;
         }
@@ -98,17 +102,18 @@ fn places_of(alloc: Global, bits: u32, count: usize) -> Result<Vec<u32>, AllocEr
     Ok(places)
 }
 
-/// Each state of the trace of these lines is its plain store. There are at least so many, and at
-/// most 12 micro-operations.
+/// Each state of the trace of these lines is its plain store. There are at least so many, of the
+/// first micro-operations.
 pub fn states_are_plain(rt: &impl Abort, alloc: Global, lines: &[&str], least: usize) {
     let trace = trace_of(rt, alloc, lines);
     let micros = break_up(alloc, &trace).expect(rt, "micro-operations");
     let atlas = Atlas::of(alloc, trace, micros).expect(rt, "memory");
     let order = order_of(alloc, atlas.micros()).expect(rt, "memory");
-    let count = atlas.micros().ops().len().min(12);
-    let mut states = 0;
+    rules_are_sentences(atlas.micros());
+    let count = atlas.micros().ops().len().min(MOST);
+    let mut states = 0usize;
     for bits in 0..1u32 << count {
-        let places = places_of(alloc, bits, count).expect(rt, "memory");
+        let places = places_of(alloc, bits).expect(rt, "memory");
         if order.is_allowed(&places) {
             let state = atlas.build(alloc, &places).expect(rt, "memory");
             let plain = build(alloc, atlas.micros(), atlas.trace(), &places).expect(rt, "memory");
@@ -118,7 +123,7 @@ pub fn states_are_plain(rt: &impl Abort, alloc: Global, lines: &[&str], least: u
                 state.as_str() == plain.as_str(),
                 "{bits}\n{state}\n{plain}"
             );
-            states += 1;
+            states = states.saturating_add(1);
         }
     }
     assert!(rt; least <= states);
