@@ -32,9 +32,12 @@ EVERY_SECONDS = 60.0
 
 
 class Campaign:
-    """Sessions, one after another, and what was found."""
+    """A campaign: its sessions are tried one after another, and its book has what was found.
+    printed is when the last line was printed."""
 
     def __init__(self, options: CampaignOptions) -> None:
+        """Makes the directory RESULTS if it isn't there, and reads the book of an earlier run in
+        it: Refused as by read_book."""
         self.options = options
         self.results = Path(options.results)
         self.results.mkdir(parents=True, exist_ok=True)
@@ -45,7 +48,9 @@ class Campaign:
 
     def run(self) -> None:
         """Tries the seeds that are left, in their order, up to the last one or until the time is
-        over. A session that has begun is finished."""
+        over; a session that has begun is finished. The folder `work` is made empty, and removed at
+        the end, also after a stop. The book isn't saved for a seed during which a stop came: the
+        next run tries it again."""
         begun, last = time.monotonic(), self.options.seeds[1]
         shutil.rmtree(self.work, ignore_errors=True)
         self.work.mkdir()
@@ -58,7 +63,9 @@ class Campaign:
             shutil.rmtree(self.work, ignore_errors=True)
 
     def try_seed(self, seed: int) -> None:
-        """Records and checks the session of a seed, adds what is new to the book, and saves it."""
+        """Records and checks the session of a seed, adds what is new to the book, and saves it. A
+        session that can't be recorded, or whose check gives no whole verdict, is among the book's
+        faults and counts as tried. What an incomplete check found counts too."""
         fault = self.sessions.record(seed)
         checked = Checked(fault=fault) if fault else self.sessions.check(self.sessions.trace)
         if checked.fault:
@@ -72,13 +79,15 @@ class Campaign:
             self.print_line(f'seed {seed}: {verdict_line(self.book)}')
 
     def print_line(self, line: str) -> None:
-        """Prints a line on standard error, and notes when."""
+        """Prints a line on standard error, and notes when: a line about progress comes only if
+        nothing was printed for EVERY_SECONDS."""
         print_line(NAME, printable(line))
         self.printed = time.monotonic()
 
     def add_failure(self, seed: int, failure: Failure) -> None:
-        """Keeps the shortest session of a new failure; counts one that is known, and keeps this
-        session in the place of the kept one if it fails with fewer acknowledged lines."""
+        """Counts a failure of the session that was recorded last. Keeps this session, cut to the
+        shortest part that fails so, if the failure is new, or if that part has fewer acknowledged
+        lines than the kept one. Prints a line if it keeps the session."""
         key = failure_key(failure)
         shrinking = Shrinking(self.sessions, key)
         known = self.book.entries.get(key)
@@ -95,8 +104,10 @@ class Campaign:
             self.print_line(f'seed {seed}: shorter: {length_text(known)}: {failure.cause}')
 
     def keep(self, entry: KnownFailure, seed: int, shrinking: Shrinking, length: int) -> None:
-        """Keeps the session of a seed, up to so many acknowledged lines, as the shortest one of a
-        failure: writes its files, and what they are into the entry."""
+        """Keeps the session of a seed, up to so many acknowledged lines (0: all of it), as the
+        shortest one of a failure: writes its trace and its page over those that are there, and
+        notes it in the entry. The entry's failure becomes that of the cut session, if the check
+        still finds it."""
         entry.kept_seed, entry.says, entry.shortest = seed, len(shrinking.says), length
         kept = shrinking.keep(length, self.results / entry.trace, self.results / entry.page)
         entry.failure = kept or entry.failure
@@ -104,7 +115,8 @@ class Campaign:
 
 def run_campaign(arguments: List[str]) -> int:
     """Runs a campaign, prints its report, and returns the status, also after a stop. Refused input
-    is a line and the status BAD_INPUT; an OSError is raised."""
+    is a line and the status BAD_INPUT. A wrong word, --help and --version end the program
+    (SystemExit). Any other error is raised, without a report: what was saved stays."""
     try:
         options = read_options(arguments)
         if options.html is not None:
@@ -125,7 +137,8 @@ def run_campaign(arguments: List[str]) -> int:
 
 
 def report_campaign(options: CampaignOptions, book: Book) -> None:
-    """Prints what was found, and writes the page if one is asked for."""
+    """Prints what was found on standard output, and writes the page if --html names one. OSError if
+    either can't be written."""
     with standard_output():
         print('\n'.join(report_lines(options, book)))
     if options.html is not None:
@@ -134,15 +147,16 @@ def report_campaign(options: CampaignOptions, book: Book) -> None:
 
 
 def status_of(book: Book) -> int:
-    """The exit status: 1 if something fails, 3 if a session could not be tried, else 0."""
+    """The exit status: SOME_FAIL if there is any failure, else NO_VERDICT if a session has no
+    verdict, else 0. What earlier runs found counts too."""
     if book.entries:
         return SOME_FAIL
     return NO_VERDICT if book.faults else 0
 
 
 def main(arguments: Optional[List[str]] = None) -> int:
-    """Runs crashfs-campaign with these words, or those of its command line, and returns its
-    status."""
+    """Runs crashfs-campaign with these words, or those of its command line, and returns its status.
+    An error of its own is a line, and the status NO_VERDICT."""
     words = sys.argv[1:] if arguments is None else arguments
     print_utf8()
     try:
