@@ -34,7 +34,8 @@ NEEDED = {'serve_bench': ['serve_bench', 'crashfs'], 'memory': ['crashfs'], 'sta
 
 
 def parsed_words(given: Optional[List[str]]) -> argparse.Namespace:
-    """The words after `measure`; wrong ones end the program with status 2."""
+    """The words after `measure`, but for `disks` and `stores`, which parse their own; wrong ones
+    end the program with status 2. Whether a benchmark has a name isn't looked at here."""
     words = argparse.ArgumentParser(
         prog='measure', description=__doc__, formatter_class=argparse.RawDescriptionHelpFormatter
     )
@@ -48,7 +49,8 @@ def parsed_words(given: Optional[List[str]]) -> argparse.Namespace:
 
 
 def measure(programs: Programs, name: str, tally: Tally) -> None:
-    """Prints the rows of one benchmark, or which programs that it needs aren't built."""
+    """Prints the rows of one benchmark, or which programs that it needs aren't built. Its failures
+    are in the tally; the name must be of a benchmark."""
     lacking = [it for it in NEEDED.get(name, [name]) if programs.built(it) is None]
     if lacking:
         tally.add_lacking(name, lacking)
@@ -62,7 +64,8 @@ def measure(programs: Programs, name: str, tally: Tally) -> None:
 
 def main(given: Optional[List[str]] = None) -> int:
     """Runs `measure` with these words, or with those of this process, and returns its status: 1 if
-    a row is past its bound or a program failed, 2 if a name is unknown."""
+    a row is past its bound or a program failed, 2 if a name is unknown: nothing is measured then.
+    The words after `disks` or `stores` are for these commands, which return their own status."""
     given = sys.argv[1:] if given is None else given
     if given[:1] == ['disks']:
         return disks.main(given[1:])

@@ -35,7 +35,8 @@ Task = Tuple[str, int]
 
 
 def parsed_words(given: List[str]) -> argparse.Namespace:
-    """The words after `measure disks`; wrong ones end the program with status 2."""
+    """The words after `measure disks`; wrong ones end the program with status 2. Whether a file
+    system is known isn't looked at here."""
     words = argparse.ArgumentParser(
         prog='measure disks',
         description=__doc__,
@@ -55,20 +56,24 @@ class Measurement:
     a run that was stopped is continued by the same words."""
 
     def __init__(self, words: argparse.Namespace) -> None:
+        """Makes the folder DIR if it isn't there; reads no results yet."""
         self.words = words
         self.names = words.on.split(',')
         self.path = words.dir / RESULTS
         words.dir.mkdir(parents=True, exist_ok=True)
 
     def results(self) -> List[SessionResult]:
-        """The results that the file has of the sessions that are asked for."""
+        """The results in the file of sessions that are asked for, in the file's order; none if
+        there is no file. The file doesn't say how many operations a session had: results with
+        another --operations count too. ValueError if a line isn't whole."""
         wanted = set(self.tasks())
         lines = self.path.read_text('utf-8').splitlines() if self.path.exists() else []
         found = [SessionResult(**json.loads(line)) for line in lines]
         return [one for one in found if (one.filesystem, one.seed) in wanted]
 
     def tasks(self) -> Iterator[Task]:
-        """Each seed that is asked for, on each file system."""
+        """Each seed that is asked for, on each file system that is: all file systems of a seed
+        follow each other."""
         first, count = self.words.first, self.words.sessions
         return ((name, seed) for seed in range(first, first + count) for name in self.names)
 
@@ -78,8 +83,9 @@ class Measurement:
         return [task for task in self.tasks() if task not in done]
 
     def make(self, folder: str) -> None:
-        """Makes the sessions that have no result, and keeps each result as it comes. Images are
-        made in the folder. Refused if one can't be made or mounted."""
+        """Makes the sessions that have no result, several at once, and keeps each result as it
+        comes. Images are made in the folder. Refused if one can't be made or mounted, or a process
+        was killed; the results that were kept stay."""
         tasks = self.missing()
         makers = {one.name: SessionMaker(one, folder) for one in filesystems_of(self.names)}
 
@@ -95,7 +101,8 @@ class Measurement:
         print(file=sys.stderr)
 
     def keep(self, result: SessionResult) -> None:
-        """Adds a result to the file; writes the session's trace beside it if a disk is outside."""
+        """Adds a result to the file. If it has a disk outside the file system's profile, it also
+        writes the session's trace to DIR, as FILESYSTEM-SEED.trace."""
         with self.path.open('a', encoding='utf-8') as file:
             file.write(json.dumps(result.fields()) + '\n')
         if result.outside:
@@ -105,7 +112,8 @@ class Measurement:
 
 
 def refusal(names: List[str]) -> Optional[str]:
-    """Why the file systems of these names can't be measured here; None if they can."""
+    """Why the file systems of these names can't be measured here; None if they can. One that
+    crashfs-check knows but PROFILE_OF doesn't have can't be, either."""
     unknown = [name for name in names if name not in PROFILE_OF]
     if unknown:
         return f'{unknown[0]} is none of {", ".join(PROFILE_OF)}'
@@ -114,7 +122,8 @@ def refusal(names: List[str]) -> Optional[str]:
 
 def main(given: List[str]) -> int:
     """Runs `measure disks` with these words, and returns its status: 1 if a disk is outside its
-    file system's profile, 2 if the sessions can't be made here."""
+    file system's profile, 2 if the sessions can't be made here: no table is printed then. If the
+    file has all results, it needs neither images nor a guard."""
     run = Measurement(parsed_words(given))
     fault = refusal(run.names)
     if fault is not None:
