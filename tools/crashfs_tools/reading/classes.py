@@ -17,9 +17,10 @@ from .place_sets import places_of
 from .tables import change_entries, change_rights, reachable_paths
 from .trace import Reading
 
-# What the start tree has otherwise: what an entry holds, None if nothing, and a directory's rights.
+# What a set changes of the start tree: what an entry holds then, or None if nothing, and the rights
+# of a directory, by its number.
 Names = Dict[Union[Entry, int], Union[Inode, Rights, None]]
-# Each changed file with its content.
+# Each changed file, by its number, with the number of its content.
 Files = Tuple[Tuple[int, int], ...]
 # What is at a path: its kind, and the number of its content or a directory's rights.
 Shown = Tuple[object, ...]

@@ -134,8 +134,8 @@ class Names:
 
     def move(self, old: str, new: str) -> None:
         """Moves what is at a path to another one, which isn't one of the same file; what is there
-        is replaced. Among the paths of a file the new one has the old one's age. In version 4 a
-        move into another directory counts as a record."""
+        is replaced. In the order of a file's paths by age, the new path has the place of the old
+        one. In version 4 a move into another directory counts as a record."""
         source, target = self.entry(old), self.entry(new)
         if self.inode_at(new) is not None:
             self.remove(new)

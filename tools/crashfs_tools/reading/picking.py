@@ -27,7 +27,8 @@ class Usage(Exception):
 
 
 def refuse_options(options: Options) -> None:
-    """Usage for options that don't go together, or a value that is out of range."""
+    """Usage unless the options ask for exactly one of --every, --sample and the families, go
+    together, and have values in their ranges."""
     families = [it for it in ('--every', '--sample') if it in options]
     families += ['--lost'] if {'--lost', '--files'} & options.keys() else []
     if len(families) != 1:
@@ -47,8 +48,8 @@ def refuse_options(options: Options) -> None:
 
 
 def number_of_option(options: Options, option: str, default: int = MOST) -> int:
-    """The number that an option has, or a default if it isn't given; Usage if it is no number, or
-    out of range."""
+    """The number that an option has, or `default` if it isn't given. Usage if it is no number, or
+    not in the option's range, LEAST to LARGEST."""
     if option not in options:
         return default
     text = str(options[option])
@@ -58,13 +59,15 @@ def number_of_option(options: Options, option: str, default: int = MOST) -> int:
 
 
 def is_number(text: str) -> bool:
-    """Whether a text is a number that eight bytes hold."""
+    """Whether a text is a number that eight bytes hold: digits only, at most 20, also with zeros in
+    front."""
     return text.isascii() and text.isdecimal() and len(text) <= 20 and int(text) < 2**64
 
 
 def printed_lines(reading: Reading, options: Options) -> Iterator[str]:
-    """The lines that `picks` prints of a trace. ReadingFault, before the first line, if it is
-    refused."""
+    """The lines that `picks` prints of a trace, for options that refuse_options() has accepted.
+    ReadingFault, before the first line, if there are too many sets, or traces of this version can't
+    have the profile."""
     if '--count' in options:
         yield f'{shown_count(count_sets(Order(reading)))}\n'
         return
@@ -73,15 +76,16 @@ def printed_lines(reading: Reading, options: Options) -> Iterator[str]:
 
 
 def shown_count(count: int) -> str:
-    """A number as `picks --count` prints it: one that eight bytes don't hold is only `more
-    than`."""
+    """A number as `picks --count` prints it: above the largest number of eight bytes it is `more
+    than` and that number."""
     largest = 2**64 - 1
     return str(count) if count <= largest else f'more than {largest}'
 
 
 def sets_of(reading: Reading, options: Options) -> Iterator[List[int]]:
-    """The places of each set that the options ask for, in the order in which they are printed;
-    ReadingFault if they are refused."""
+    """The places of each set that the options ask for, in the order in which they are printed; a
+    set of both families comes twice. ReadingFault if there are too many: of --sample only as the
+    first set is taken."""
     if '--every' in options:
         return every_members(reading, options)
     if '--sample' in options:
@@ -96,7 +100,9 @@ def sets_of(reading: Reading, options: Options) -> Iterator[List[int]]:
 
 
 def every_members(reading: Reading, options: Options) -> Iterator[List[int]]:
-    """The places of each set of --every; ReadingFault if there are more than --most."""
+    """The places of each set of --every. All are found before the first one is returned:
+    ReadingFault if there are more than --most, or if traces of this version can't have the
+    profile."""
     profile = options.get('--profile')
     order = Order(reading) if profile is None else order_in(reading, str(profile))
     is_different = '--different' in options
