@@ -36,7 +36,7 @@ class Mounts(Layout):
 
     def states(self, wanted: Set[int]) -> Iterator[Tuple[int, str]]:
         """Yields a path below the folder for each wanted state, ascending: laid_out() makes it. The
-        server isn't asked: if it lacks a state, laid_out() is Refused."""
+        server isn't asked here: if it lacks a state, laid_out() raises Refused."""
         os.makedirs(self.folder, exist_ok=True)
         for number in sorted(wanted):
             yield number, os.path.join(self.folder, str(number))
