@@ -5,7 +5,7 @@ from __future__ import annotations
 import os
 
 TAIL_BYTES = 1 << 16
-# No recovery has more to say; one that prints for ever must not fill the memory.
+# No recovery has more to say; one that prints without end must not fill the memory.
 MOST_BYTES = 16 << 20
 
 
@@ -20,15 +20,16 @@ class Output:
         self.count = 0
 
     def read(self) -> bool:
-        """Reads a piece of what is printed into `end`; returns False at the end of the pipe.
-        BlockingIOError if nothing is there yet."""
+        """Reads a piece of what is printed; `end` has the last bytes of it afterwards. Returns
+        False at the end of the pipe. BlockingIOError if nothing is there yet."""
         piece = os.read(self.reading, TAIL_BYTES)
         self.count += len(piece)
         self.end = (self.end + piece)[-TAIL_BYTES:]
         return bool(piece)
 
     def read_tail(self) -> bytes:
-        """Reads all that is printed by now, up to a flood; returns the last TAIL_BYTES bytes."""
+        """Reads all that is printed by now, without waiting, but stops at a flood. Returns the last
+        TAIL_BYTES bytes."""
         try:
             while self.count <= MOST_BYTES and self.read():
                 pass
@@ -38,7 +39,7 @@ class Output:
 
     @property
     def is_flood(self) -> bool:
-        """Whether more is printed than any recovery has to say."""
+        """Whether more than MOST_BYTES were read."""
         return self.count > MOST_BYTES
 
     def close_writing(self) -> None:

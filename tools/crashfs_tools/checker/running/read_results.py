@@ -31,7 +31,8 @@ Value = TypeVar('Value')
 
 
 def read_json(path: str) -> AllResults:
-    """The results that a file of --json has. Refused if it can't be read, or isn't such a file."""
+    """The results that a file of --json has, also one of a check that was stopped or still runs.
+    Refused if it can't be read, or isn't such a file."""
     try:
         with open(path, encoding='utf-8', errors='surrogateescape') as file:
             fields = json.load(file)
@@ -47,8 +48,8 @@ def read_json(path: str) -> AllResults:
 
 
 def head_of(fields: Dict[str, Any]) -> Head:
-    """What is checked. Like all functions below, it raises a ValueError or KeyError for fields that
-    no check writes."""
+    """What is checked, from the fields of a whole report. Like all functions below, it raises a
+    ValueError, KeyError or TypeError for fields that no check writes."""
     if integer(fields['crashfs-check']) != FORMAT:
         raise ValueError('another format')
     part, parts = row(fields['shard'], integer, integer)
@@ -73,7 +74,8 @@ def head_of(fields: Dict[str, Any]) -> Head:
 
 
 def results_of(fields: Dict[str, Any]) -> Results:
-    """The results of a window."""
+    """The results of a window from its fields. What reports of older tools don't have is empty: the
+    second runs, the choice, and the seconds."""
     plan = plan_of(fields)
     return Results(
         plan,
@@ -86,8 +88,8 @@ def results_of(fields: Dict[str, Any]) -> Results:
 
 
 def chosen_of(plan: Plan, value: Any) -> Optional[FrozenSet[int]]:
-    """The numbers of the states to try if not all are; None if all are. ValueError for anything
-    else."""
+    """The numbers of the states to try, which must be states of the plan; None if all are tried.
+    ValueError for anything else."""
     chosen = None if value is None else frozenset(map(integer, items(value)))
     if chosen is not None and not all(map(plan.has_state, chosen)):
         raise ValueError('no state of the plan')
@@ -102,8 +104,8 @@ def seconds(value: Any) -> float:
 
 
 def plan_of(fields: Dict[str, Any]) -> Plan:
-    """The plan of a window, whose states have the numbers that their places give. ValueError or
-    KeyError for anything else."""
+    """The plan of a window from its fields. Each state must have the number of its place in the
+    list, and no micro-operation may need a later one. ValueError or KeyError for anything else."""
     operations = [
         MicroOperation(*row(one, integer, text, text, text, integer))
         for one in items(fields['operations'])
@@ -129,7 +131,8 @@ def plan_of(fields: Dict[str, Any]) -> Plan:
 
 
 def set_profiles_of(value: Any, count: int) -> SetProfiles:
-    """The profiles of so many listed states. ValueError for anything else."""
+    """The profiles of each of so many listed states, or of none. ValueError for anything else, such
+    as a wanted profile that isn't among the names."""
     names, of_sets, wanted = row(value, items, items, text)
     names = tuple(map(text, names))
     allowed = tuple(integer(one, (1 << len(names)) - 1) for one in of_sets)
@@ -139,8 +142,8 @@ def set_profiles_of(value: Any, count: int) -> SetProfiles:
 
 
 def all_states_of(value: Any, has_state: Callable[[int], bool]) -> AllStates:
-    """What is known of all crash states; has_state says which numbers a state of the plan has.
-    ValueError for anything else."""
+    """What is known of all crash states; has_state says whether a number is that of a state of the
+    plan, as the drawn ones must be. ValueError for anything else."""
     sets, are_listed, are_read, most, families, drawn = row(
         value, count_or_none, boolean, boolean, integer, integer, items
     )
@@ -157,8 +160,8 @@ def count_or_none(value: Any) -> Optional[int]:
 
 
 def state(value: Any, number: int, count: int) -> State:
-    """A state of a plan that has so many micro-operations; it must have this number. ValueError for
-    anything else."""
+    """A state of a plan that has `count` micro-operations: a list whose number must be `number`,
+    and which has as many places as its family wants. ValueError for anything else."""
     own, family, numbers, says, same = row(value, integer, text, items, integer, integer)
     places = [integer(place, count) for place in numbers]
     wanted = NUMBERS.get(family, len(places) if family == 'pick' else -1)
@@ -176,8 +179,8 @@ def outcome(value: Any) -> Outcome:
 
 
 def by_state(plan: Plan, values: Dict[str, Any], read: Callable[[Any], Value]) -> Dict[int, Value]:
-    """Values by the numbers of states of a plan, each read by a function. ValueError for other
-    keys."""
+    """Values by numbers of states, which must be in the plan; `read` makes each value of what JSON
+    has. ValueError for another key, and what `read` raises."""
     found = {int(number): read(value) for number, value in values.items()}
     if not all(map(plan.has_state, found)):
         raise ValueError('no state of the plan')
@@ -185,8 +188,8 @@ def by_state(plan: Plan, values: Dict[str, Any], read: Callable[[Any], Value]) -
 
 
 def row(values: Any, *reads: Read) -> Tuple[Any, ...]:
-    """The items of a list, each read by the function at its place. ValueError if they aren't as
-    many."""
+    """The items of a list, each read by the function at its place. ValueError if there are more or
+    fewer items than functions."""
     if len(items(values)) != len(reads):
         raise ValueError('a list of another length')
     return tuple(read(value) for read, value in zip(reads, values))
@@ -207,7 +210,8 @@ def integer(value: Any, most: int = MOST) -> int:
 
 
 def text(value: Any) -> str:
-    """A text that can be written: what is no UTF-8 is a ValueError."""
+    """A text that can be written as UTF-8, with bytes that aren't UTF-8 as surrogateescape keeps
+    them. ValueError for anything else."""
     if type(value) is not str:
         raise ValueError('no text')
     value.encode('utf-8', 'surrogateescape')
