@@ -41,7 +41,7 @@ class Reading:
         # The path of each directory if no directory is moved; the root's is empty.
         self.homes: Dict[int, str] = {ROOT: ''}
         # The rights and bytes with which each file is made, without bytes if an operation makes it;
-        # the rights of the start's directories; and the rights that each file and directory has now.
+        # the rights of the start's directories; and the rights that each of both has now.
         self.made_rights: Dict[int, Rights] = {}
         self.made_data: Dict[int, Data] = {}
         self.start_rights: Dict[int, Rights] = {}
