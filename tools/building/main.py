@@ -33,7 +33,9 @@ NO_RT = (
 
 
 def main() -> int:
-    """Runs tools/build with the words of its command line, and returns its status."""
+    """Runs tools/build with the words of its command line, and returns its status: 1 if there is no
+    `rt`, or a crate isn't proved. A wrong word ends the program (SystemExit); fewer than one
+    processor count as one."""
     parser = argparse.ArgumentParser(
         description=DESCRIPTION, formatter_class=argparse.RawDescriptionHelpFormatter
     )
@@ -54,7 +56,8 @@ def main() -> int:
 
 def build_all(processors: int) -> int:
     """Proves the libraries on so many processors, then the program, and returns the status: 0 if
-    all is proved and built."""
+    all is proved and built. After a crate that isn't proved no other is begun, and those that are
+    being proved are finished. What only the temporary copies have is lost then."""
     below, begun = libraries(), time.monotonic()
     work = Work(below, chain_lengths(below), processors)
     with tempfile.TemporaryDirectory(prefix='crashfs-build-') as room:

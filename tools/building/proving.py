@@ -14,7 +14,7 @@ from .sharing import give_library
 
 def is_library_current(top: Path, name: str) -> bool:
     """Whether the library of a crate in a copy is newer than all texts of the crate: `rt` then only
-    needs a second to look."""
+    needs a second to look. False if there is none. The texts of crates below aren't looked at."""
     crate = top / 'crates' / name
     library = crate / 'out' / 'rlib' / 'stamp'
     texts = (it for part in ('src', 'specs', 'proofs') for it in (crate / part).rglob('*'))
@@ -22,7 +22,8 @@ def is_library_current(top: Path, name: str) -> bool:
 
 
 def copy_to(folder: Path) -> Path:
-    """Copies what `rt` reads of the repository into a new folder, and returns that."""
+    """Copies what `rt` reads of the repository, without what it made, into a new folder, and
+    returns that. FileExistsError if the folder has crates already."""
     (folder / 'crates').mkdir(parents=True)
     for name in ('crates.txt', 'HANDLES'):
         shutil.copy2(TOP / name, folder / name)
@@ -32,8 +33,8 @@ def copy_to(folder: Path) -> Path:
 
 
 def report_failure(name: str, check: Check, jobs: int, processors: int) -> None:
-    """Prints what the check of a crate printed that has failed, and why, if the system killed
-    it."""
+    """Prints on standard error what a check that failed has printed. If the system killed it,
+    killed_text follows."""
     sys.stderr.buffer.write(check.output)
     sys.stderr.buffer.flush()
     if check.is_killed:
@@ -41,9 +42,9 @@ def report_failure(name: str, check: Check, jobs: int, processors: int) -> None:
 
 
 def prove_in(copy: Path, work: Work, begun: float) -> None:
-    """Proves one crate after the other in a copy of the repository, until nothing is left, and
-    prints a line for each with the minutes since `begun`. A crate whose library in the repository
-    itself is current is checked there, which takes a second."""
+    """Proves one crate after the other in a copy of the repository, until nothing is left or one
+    isn't proved, and prints a line for each with the minutes since `begun`. A crate whose library
+    in the repository itself is current is checked there, which takes a second."""
     while True:
         chosen = work.next_crate()
         if chosen is None:
@@ -63,8 +64,8 @@ def prove_in(copy: Path, work: Work, begun: float) -> None:
 
 
 def build_program(work: Work, begun: float) -> int:
-    """Builds the program over libraries that are all proved, and returns the status: 0, or 1 if it
-    isn't built."""
+    """Builds the program in the repository itself, over libraries that are all proved, which it
+    copies there first. Returns the status: 0, or 1 if it isn't built, after what `rt` printed."""
     for name, place in work.places.items():
         give_library(place, TOP, name)
     words = ['rt', 'run', '--jobs', '1', '--', '--help']
