@@ -27,7 +27,8 @@ class LastState(ABC):
 
 
 class Replayed(LastState):
-    """By the recorder's own replay, from these lines if the trace is not in a file."""
+    """By the recorder's own replay: of these lines if they are given, as for a trace that is in no
+    file."""
 
     name = "the recorder's replay"
 
@@ -35,8 +36,8 @@ class Replayed(LastState):
         self.lines = lines
 
     def entries(self, trace: str) -> Entries:
-        """The entries at the end of a replay, without the root. ValueError for a trace that
-        `crashfs` would refuse."""
+        """The entries at the end of a replay, without the root. ValueError or TraceError for a
+        trace that `crashfs` would refuse; OSError if its file can't be read."""
         if self.lines is not None:
             tree = replay(self.lines)
         else:
@@ -56,13 +57,14 @@ class ByProgram(LastState):
 
     def entries(self, trace: str) -> Entries:
         """The entries that the program writes of the last state, without the root; ProgramFault if
-        it refuses the trace."""
+        it refuses the trace, as one of version 4."""
         return self.program.tree(trace, self.program.count_states(trace, holes=False) - 1)
 
 
 def lines_on_differences(directory: Scan, last: Entries, reported: Iterable[str]) -> List[str]:
-    """A line for each difference between a directory and the trace's last state, except at and
-    below the paths of which something is reported already."""
+    """A line for each difference between a scanned directory and the trace's last state, in the
+    order of their paths, except at and below the paths of which something is reported already. The
+    directory itself and hard links aren't compared."""
     known = set(reported)
     there = {entry.path: entry for entry in directory.entries}
     lines = []
@@ -80,27 +82,29 @@ def lines_on_differences(directory: Scan, last: Entries, reported: Iterable[str]
 
 
 def as_entry(one: ScannedEntry) -> Entry:
-    """What a scan has of a path, as an entry."""
+    """An entry of a scan in the form of a tree's."""
     if isinstance(one, StartSymlink):
         return symlink_entry(one)
     return Entry(one.owner, one.group, one.mode, one.data)
 
 
 def kind_text(entry: Entry) -> str:
-    """What an entry is, as `a file`."""
+    """What an entry is, in words: `a file`, `a directory` or `a symbolic link`."""
     if entry.link is not None:
         return 'a symbolic link'
     return 'a directory' if entry.is_directory else 'a file'
 
 
 def is_below(path: str, known: Set[str]) -> bool:
-    """Whether a path is one of the known ones, or below one; the root counts for itself only."""
+    """Whether a path is one of the known ones, or below one. A known root counts for no other
+    path."""
     parts = path.split('/')
     return any('/'.join(parts[:count]) in known for count in range(2, len(parts) + 1))
 
 
 def entry_differences(real: Entry, traced: Entry) -> List[str]:
-    """How an entry at the end differs from that of the trace, in words; empty if it doesn't."""
+    """How an entry at the end differs from that of the trace, a sentence for each difference; empty
+    if it doesn't. Of different kinds, or of links, nothing else is compared."""
     if kind_text(real) != kind_text(traced):
         return [f'it is {kind_text(real)} at the end, and {kind_text(traced)} in the trace']
     if real.link != traced.link:
@@ -120,8 +124,9 @@ def entry_differences(real: Entry, traced: Entry) -> List[str]:
 
 
 def lines_on_links(directory: Scan, last: Tree, reported: Iterable[str]) -> List[str]:
-    """A line for each path that is a link to another path in the directory, and not so in the
-    trace's last tree, or the other way."""
+    """A line for each path of both that is another path of a file in one of them only, or of
+    different files: in a scanned directory and in the trace's last tree. Except at and below the
+    paths of which something is reported already."""
     known = set(reported)
     groups: Dict[int, List[str]] = {}
     for path, number in last.files.items():
@@ -140,8 +145,9 @@ def lines_on_links(directory: Scan, last: Tree, reported: Iterable[str]) -> List
 
 
 def lines_on_attributes(before: Scan, now: Scan, troubles: List[Trouble]) -> List[str]:
-    """A line for each path whose extended attributes, or what else a scan only notes, changed
-    during the session, unless it was reported."""
+    """A line for each path whose extended attributes changed during the session, and for what a
+    scan notes at the end and didn't before, but for mode bits. Nothing of a path of which something
+    was reported."""
     reported = {trouble.where for trouble in troubles}
     changed = [
         path
@@ -158,8 +164,8 @@ def lines_on_attributes(before: Scan, now: Scan, troubles: List[Trouble]) -> Lis
 
 
 def lines_on_new_left_out(before: Scan, now: Scan, reported: Iterable[str]) -> List[str]:
-    """A line for each device, or what else no trace has, that is new at the end, unless something
-    was reported of its path."""
+    """A line for each device, or what else no trace has, that is there at the end and wasn't
+    before. Nothing at and below the paths of which something is reported."""
     known = set(reported)
     return [
         f'{path}: at the end it is {why}, which no trace has'
