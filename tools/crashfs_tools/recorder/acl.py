@@ -22,7 +22,7 @@ def rights_by_tag(value: bytes) -> Optional[Dict[int, int]]:
 
 def mode_of_rights(entries: Dict[int, int]) -> int:
     """The mode that a list gives a file: its mask, if it has one, takes the place of the group's
-    rights. Who has no entry has no rights."""
+    rights. An entry that is missing gives no rights."""
     group = entries.get(MASK, entries.get(GROUP, 0))
     return entries.get(OWNER, 0) << 6 | group << 3 | entries.get(OTHERS, 0)
 

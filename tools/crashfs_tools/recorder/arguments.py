@@ -59,9 +59,8 @@ def split_arguments(text: str) -> List[str]:
 
 
 def end_of_text(text: str, place: int) -> int:
-    """The place after the quotation mark that ends a text; `place` is that of its first byte. Its
-    bytes are numbers, so no quotation mark is inside it. Without such a mark it ends where all
-    ends."""
+    """The place after the quotation mark that ends a text, whose first byte is at `place`; the end
+    of all arguments if there is none. Its bytes are numbers, so no such mark is inside it."""
     end = text.find('"', place)
     return len(text) if end < 0 else end + 1
 
@@ -102,7 +101,7 @@ def unpacked_bytes(word: str) -> Optional[bytes]:
 
 def bytes_of_text(word: str) -> Optional[bytes]:
     """The bytes of an argument that is a text, also a packed one. None for one that strace cut or
-    printed as an address, LogError for a text that has no numbers."""
+    printed as an address; LogError for a text whose bytes aren't numbers."""
     if word.startswith(PACKED):
         return unpacked_bytes(word)
     if not word.startswith('"') or word.endswith('...'):

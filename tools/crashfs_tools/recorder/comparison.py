@@ -57,7 +57,7 @@ class ByProgram(LastState):
 
     def entries(self, trace: str) -> Entries:
         """The entries that the program writes of the last state, without the root; ProgramFault if
-        it refuses the trace, as one of version 4."""
+        it refuses the trace."""
         return self.program.tree(trace, self.program.count_states(trace, holes=False) - 1)
 
 
@@ -124,9 +124,9 @@ def entry_differences(real: Entry, traced: Entry) -> List[str]:
 
 
 def lines_on_links(directory: Scan, last: Tree, reported: Iterable[str]) -> List[str]:
-    """A line for each path of both that is another path of a file in one of them only, or of
-    different files: in a scanned directory and in the trace's last tree. Except at and below the
-    paths of which something is reported already."""
+    """A line for each path that both a scanned directory and the trace's last tree have, but as
+    links to different paths, or as a link in only one of them. None at and below the paths of which
+    something is reported already."""
     known = set(reported)
     groups: Dict[int, List[str]] = {}
     for path, number in last.files.items():
