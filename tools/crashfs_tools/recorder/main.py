@@ -43,10 +43,11 @@ BEGINS = 'it begins after an acknowledged line: what was not yet synced then cou
 
 @dataclass
 class RecordedRun:
-    """The results of a run of COMMAND, or of a log from elsewhere: the log; the copies of mapped
-    files, or None without --mapped; COMMAND's status, as Popen has it; the signals that were passed
-    to it; what strace shows for its standard output. left names the processes that could not be
-    ended, and log_fault says why the log was not kept whole: both are empty if all is well."""
+    """A run of COMMAND, or a log from elsewhere. copies are those of mapped files, None without
+    --mapped; status is COMMAND's, as Popen has it; stops are the signals that were passed to it;
+    output is what strace shows for its standard output, None of a log. left names the processes
+    that could not be ended, and log_fault says why the log was not kept whole: both are empty if
+    all is well."""
 
     log: Log
     copies: Optional[FileCopies] = None
@@ -98,8 +99,7 @@ def refuse_incomplete_log(log: Log, program: str) -> None:
 
 def filter_for(options: RecordOptions, top: str) -> LogFilter:
     """The filter that keeps the log's lines on a directory, named by the path that the calls have
-    for it, and on the descriptors above 2 of --say-fd; those of the standard streams are always
-    kept."""
+    for it, and on the descriptors of --say-fd; lines on the standard streams are always kept."""
     numbers = [int(number) for number in options.acknowledged if number.isdecimal()]
     return LogFilter(os.fsencode(top), numbers)
 
@@ -164,8 +164,7 @@ def record(options: RecordOptions) -> int:
 
 
 def trace_settings(options: RecordOptions) -> TraceSettings:
-    """How the trace is made, by the options; without --say-each and --trace-version nothing is
-    set."""
+    """The options on how the trace is made. each and version are None if no option names them."""
     return TraceSettings(
         acknowledged=options.acknowledged,
         each=SayEach(options.each) if options.each else None,

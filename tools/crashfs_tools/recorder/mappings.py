@@ -52,9 +52,9 @@ class Memory:
         self.mappings = [mapping for mapping in kept if mapping.length > 0]
 
     def move(self, old: int, old_length: int, new: int, new_length: int, *, keeps: bool) -> None:
-        """Moves what is mapped at the old addresses, or gives it another length, as mremap does;
-        they stay mapped only if `keeps`, or for the old length 0, which makes a second mapping. If
-        several mappings are there, the first is moved, and the others are unmapped."""
+        """Moves what is mapped at the old addresses, or gives it another length, as mremap does. It
+        stays mapped there too if `keeps`, and for the old length 0. Of several mappings there only
+        the first gets the new addresses."""
         moved = [part for part, _ in self.parts_in(old, old_length or 1)]
         if not keeps and old_length:
             self.unmap(old, old_length)

@@ -23,7 +23,7 @@ class CallProgress:
         return self
 
     def print_lines(self) -> None:
-        """Prints a line every few seconds, in the thread."""
+        """Prints a line every few seconds, in the thread, until the `with` ends."""
         while not self.ended.wait(self.seconds):
             print_line(
                 self.program,
