@@ -32,10 +32,10 @@ class OutputStream:
     """A stream that COMMAND writes to.
 
     pieces has the bytes of a line that has no end yet, and moment how many changes the recording
-    had at the newest of them. lines and writes count what was whole: lines, or writes that
-    acknowledge, and the writes that completed some. gaps is how often changes came between two
-    pieces of the newest line, and most_gaps the largest number of any line. is_held means that
-    changes came between the last line, which has no end, and the end."""
+    had at the newest of them. lines counts the texts that were completed, and writes the writes
+    that completed some. gaps is how often changes came between two pieces of the newest line, and
+    most_gaps the largest number of any line. is_held means that changes came between the last line,
+    which has no end, and the end."""
 
     name: str
     is_acknowledged: bool

@@ -18,7 +18,8 @@ NOTE = (
 
 def files_with_path(trace: Trace, top: str) -> List[str]:
     """The paths of the files and symbolic links in a trace whose bytes or target have a directory's
-    path, each once, in the order of the trace. None for the root, whose path is in any other."""
+    path, each once, in the order of the trace. A path that is split between two writes isn't found.
+    Empty for the root, which every path has."""
     if top == '/':
         return []
     # A longer name, as `/store2` for `/store`, is another path.
@@ -28,7 +29,7 @@ def files_with_path(trace: Trace, top: str) -> List[str]:
 
 def bytes_by_file(trace: Trace) -> Iterator[Tuple[str, bytes]]:
     """Yields each piece of bytes that a trace has, after the path of its file at that line; of a
-    symbolic link its target. A path that is in two pieces isn't found by one of them."""
+    symbolic link its target."""
     for line in (*trace.start, *trace.operations):
         if isinstance(line, (StartSymlink, Symlink)):
             yield line.path, os.fsencode(line.link)

@@ -137,8 +137,8 @@ class StraceRun:
     def pass_output(self, child: subprocess.Popen[bytes], source: int) -> None:
         """Copies a pipe to standard output until it ends, or until strace has: a process that
         strace doesn't follow may keep the pipe open. If nobody reads standard output any more, the
-        pipe is still read, so that COMMAND continues. A signal ends the wait, whichever thread
-        takes it."""
+        pipe is still read, so that COMMAND continues; any other fault of it is an OSError. A signal
+        ends the wait, whichever thread takes it, and is passed to COMMAND."""
         waiting, wake = os.pipe2(os.O_NONBLOCK | os.O_CLOEXEC)
         signal.set_wakeup_fd(wake, warn_on_full_buffer=False)
         while True:

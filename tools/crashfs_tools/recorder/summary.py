@@ -50,9 +50,9 @@ class FinalReport:
 def final_report(
     recording: Recording, options: RecordOptions, ending: Optional[str]
 ) -> FinalReport:
-    """What the trace doesn't have, how COMMAND failed (`ending`, None if it didn't), and with that,
-    or unless --no-say is given, likely causes and warnings. compare_directory() adds differences
-    later."""
+    """What the trace doesn't have; how COMMAND failed (`ending`, None if it didn't), with the
+    likely cause; and, unless --no-say is given, why a loss could stay hidden. compare_directory()
+    adds differences later."""
     found = FinalReport()
     troubles = list(recording.troubles)
     found.lines = [f'not in the trace: {trouble}' for trouble in troubles if not trouble.is_note]
