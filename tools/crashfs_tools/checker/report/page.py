@@ -24,7 +24,8 @@ DRAWN = 8
 
 
 def page(report: CheckReport) -> Iterator[str]:
-    """The text of the file of --html, in pieces."""
+    """The text of the file of --html, in pieces. The report's JSON isn't in it, nor are more than
+    DRAWN windows drawn."""
     title = shown_text(report.head.trace)
     yield (
         f'<!DOCTYPE html>\n<html lang="en"><head><meta charset="utf-8">'
@@ -56,12 +57,14 @@ def page(report: CheckReport) -> Iterator[str]:
 
 
 def shown_text(text: str) -> str:
-    """Text that is shown as it is, but for what would control how the rest is shown."""
+    """A text as HTML shows it: escaped, and with visible escapes for characters that would control
+    how the rest is shown."""
     return html.escape(printable(text, '\n\t'))
 
 
 def about_line(report: CheckReport) -> str:
-    """The command, the versions and the date, as HTML."""
+    """The line with the command, the version of the tools, what computed the states, and the time
+    now, as HTML."""
     states = 'states by the Python implementation' if report.head.unproved else 'states by crashfs'
     parts = [
         f'COMMAND: {shlex.join(report.head.command)}',
@@ -74,7 +77,7 @@ def about_line(report: CheckReport) -> str:
 
 def entry_lines(report: CheckReport, group: Group) -> Iterator[str]:
     """An entry as HTML: its cause, what the report says of it, its two lines of the trace, how
-    files differ, and what COMMAND printed."""
+    files differ, and the end of what COMMAND printed."""
     states = ReportText.states_text(group)
     kind = '' if group.accepted is None else ' class="accepted"'
     yield f'<section{kind}><h2>{shown_text(group.cause)}</h2><p>{shown_text(states)}</p>\n<ul>\n'
@@ -91,7 +94,8 @@ def entry_lines(report: CheckReport, group: Group) -> Iterator[str]:
 
 
 def disk_section(report: CheckReport) -> Iterator[str]:
-    """What was seen on real disks, and the failures there that no tried state has."""
+    """A section with what was seen on real disks, and the failures there that no tried state has;
+    nothing without --disks."""
     if report.sightings is None:
         return
     yield '<section><h2>On real disks</h2>\n<ul>\n'
@@ -109,7 +113,7 @@ def disk_section(report: CheckReport) -> Iterator[str]:
 
 def difference_lines(group: Group) -> Iterator[str]:
     """How the files of an entry's example differ from those of the nearest good state, as HTML;
-    nothing if they weren't compared."""
+    nothing if they weren't compared. If they are equal, it says so."""
     difference = group.difference
     if difference is None:
         return
@@ -129,8 +133,8 @@ def difference_lines(group: Group) -> Iterator[str]:
 
 
 def session_lines(report: CheckReport, groups: List[Group]) -> Iterator[str]:
-    """The rows of the session's table; of a session in many windows the lines that are named, and
-    those near them."""
+    """The rows of the session's table, in which the lines that `groups` name are marked. Of a
+    session in several windows only these lines and those near them have rows."""
     named = {line.number for group in groups for line in (group.lost, group.kept) if line}
     near = {number for one in named for number in range(one - NEAR, one + NEAR + 1)}
     for number, line in report.head.lines.items():
@@ -139,7 +143,8 @@ def session_lines(report: CheckReport, groups: List[Group]) -> Iterator[str]:
 
 
 def line_row(line: TraceLine, mark: str) -> str:
-    """A row of a table for a line of the trace; mark is a class of its style, or empty."""
+    """A row of a table for a line of the trace. mark is a class of the page's style for it, or
+    empty."""
     kind = 'sync' if line.word in SYNCS else line.word
     return (
         f'<tr class="{shown_text(kind)} {mark}"><td>{line.number}</td>'
@@ -148,6 +153,7 @@ def line_row(line: TraceLine, mark: str) -> str:
 
 
 def script_data(report: CheckReport) -> str:
-    """The drawings as a value of the page's script, without a `<` that could end the script."""
+    """The first DRAWN drawings as a value of the page's script. It has no `<`, which could end the
+    script."""
     shown = as_json(report.drawings[:DRAWN], **COMPACT)
     return shown.replace('<', '\\u003c')
