@@ -119,7 +119,7 @@ def folder_to_write(path: str) -> str:
 
 def write_whole(path: str, pieces: Iterable[str], mode: int = 0o666) -> None:
     """Replaces a file as a whole, and returns when that is durable; a link stays, and its target is
-    replaced. Its mode is that of the old file, or by the umask, without the bits that `mode` lacks.
+    replaced. The mode is that of the old file, or by the umask, without the bits that `mode` lacks.
     `-` is standard output; it and what is no plain file, as a device or a pipe, are written in
     place.
 

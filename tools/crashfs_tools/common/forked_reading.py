@@ -16,9 +16,10 @@ INTERNAL_ERROR = 70
 class ForkedReading:
     """A command of the second reading that runs, in a fork of this process. It has as much of the
     interface of subprocess.Popen as is used; both outputs are pipes. The words are those of the
-    program `crashfs`. OSError if the system can't fork."""
+    program `crashfs`."""
 
     def __init__(self, words: List[str]) -> None:
+        """Starts the command. OSError if the system can't fork, or has no more pipes."""
         # Imported before the fork, so that later ones have it too.
         from crashfs_tools.reading import archive, main
 
@@ -82,7 +83,7 @@ class ForkedReading:
         return int(self.returncode)
 
     def kill(self) -> None:
-        """Kills it, unless its end was waited for. It must still be waited for."""
+        """Kills it, unless wait() has returned its status. The caller still calls wait()."""
         if self.returncode is None:
             try:
                 os.kill(self.process, signal.SIGKILL)

@@ -133,7 +133,7 @@ class Guard:
                 print_line(self.program, f'{path} could not be removed')
 
     def run_watcher(self, waiting: int, answering: int) -> NoReturn:
-        """The watcher, which never returns. It makes the directory, waits for the end of the first
+        """The watcher, which never returns: it makes the directory, waits for the end of the first
         process, and removes all. It makes the directory itself, so that no kill of the first
         process can come between the directory and the process that removes it."""
         try:

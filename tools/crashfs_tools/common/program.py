@@ -55,6 +55,8 @@ class ProgramFault(Exception):
     error."""
 
     def __init__(self, status: int, error_text: bytes) -> None:
+        """error_text is all that the program printed as an error: its last line becomes the fault's
+        text, but its first one if the command line was wrong, since the usage comes after that."""
         self.text = error_text.decode('utf-8', 'replace').strip()
         lines = self.text.splitlines()
         # A command line parser prints its usage after its first line.
@@ -249,6 +251,7 @@ class ProgramOutput(io.RawIOBase):
     the program would wait forever once that pipe is full; error_text has its last PIECE_BYTES."""
 
     def __init__(self, output: int, errors: int) -> None:
+        """Reads from the descriptors of two pipes, which it doesn't close."""
         super().__init__()
         # The descriptors of the two pipes.
         self.output, self.errors = output, errors

@@ -61,6 +61,8 @@ class Tree:
         version: int = 3,
         profile: str = BLOCKS,
     ) -> None:
+        """A tree that has only the root, with these rights, in a trace of this version, profile and
+        size of blocks."""
         self.entries: Entries = {'/': Entry(owner, group, mode, None)}
         self.files: Dict[str, int] = {'/': 0}
         self.records = 1

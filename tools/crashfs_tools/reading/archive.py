@@ -111,8 +111,8 @@ class ArchiveWriter:
 
 
 class Reader(BytesIO):
-    """A stream for tarfile to read: first `head`, then the bytes of a file from the first to before
-    the second offset of each of `runs`."""
+    """A stream for tarfile to read: first `head`, then the bytes of a file in each of `runs`, from
+    its first offset to before its second one."""
 
     def __init__(self, data: Data, runs: List[Tuple[int, int]], head: bytes = b'') -> None:
         super().__init__(head)

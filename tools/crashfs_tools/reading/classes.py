@@ -28,9 +28,8 @@ Tree = FrozenSet[Tuple[str, Optional[Shown]]]
 
 
 class SetResult(NamedTuple):
-    """What the micro-operations of a set leave: the number of its Names in Classes.names; the
-    changed files with the numbers of their contents, ascending; and how many lines are
-    acknowledged."""
+    """What the micro-operations of a set leave: the number of its Names, see Classes; the changed
+    files with the numbers of their contents, ascending; and how many lines are acknowledged."""
 
     names: int
     files: Files
@@ -38,9 +37,9 @@ class SetResult(NamedTuple):
 
 
 class Classes:
-    """A walk through the sets of a trace's micro-operations that an order allows. `names` has all
-    that sets were found to change of the start's names: the number of Names is their place in it.
-    Later walks use what earlier ones have computed."""
+    """A walk through the sets of a trace's micro-operations that an order allows, which must be one
+    of this trace. `names` has each Names that some set leaves: the number of a Names is its place
+    in this list. Later walks use what earlier ones have computed."""
 
     def __init__(self, reading: Reading, order: Order) -> None:
         self.reading = reading
@@ -123,9 +122,8 @@ class Classes:
         return found._replace(says=found.says + 1)
 
     def names_after(self, names: int, place: int, operation: Micro) -> int:
-        """The number of the Names that a micro-operation makes of those with the number `names`,
-        which stay as they are. It must change entries or a directory's rights, and be the one at
-        `place`."""
+        """The number of the Names that the micro-operation at `place` makes of those with the
+        number `names`, which stay as they are. It must change entries or a directory's rights."""
         key = names, place
         if key not in self._renamed:
             changed = dict(self.names[names])
@@ -175,16 +173,16 @@ class Classes:
         return self.numbers[key]
 
     def is_named(self, names: int, file: int) -> bool:
-        """Whether some entry holds a file, given by its number, by the Names with the number
-        `names`."""
+        """Whether a file has an entry; both the file and the Names to look in are given by their
+        numbers."""
         key = names, file
         if key not in self._named:
             self._named[key] = any(True for _ in self.entries_of(names, file))
         return self._named[key]
 
     def entries_of(self, names: int, file: int) -> Iterator[Entry]:
-        """The entries that hold a file, given by its number, by the Names with the number `names`;
-        in no order."""
+        """The entries that hold a file, in no order; both the file and the Names to look in are
+        given by their numbers."""
         changed = self.names[names]
         yield from (entry for entry in self.start_entries.get(file, []) if entry not in changed)
         for entry, node in changed.items():
@@ -273,7 +271,7 @@ class Classes:
 
 
 def add_place(places: Dict[int, int], file: Optional[int], place: int) -> None:
-    """Adds a place to the set that `places` has for a file, given by its number; None is no file,
-    and an AssertionError."""
+    """Adds a place to the set that `places` has for a file, given by its number. AssertionError if
+    `file` is None, which is no file."""
     assert file is not None
     places[file] = places.get(file, 0) | 1 << place

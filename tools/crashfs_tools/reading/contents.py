@@ -36,8 +36,8 @@ class Contents:
         self._shown: Dict[int, int] = {}
 
     def number_at_start(self, file: int) -> int:
-        """The number of the content with which a file, given by its number, is made. A file that an
-        operation makes is empty."""
+        """The number of the content with which a file, given by its number, is made. One that an
+        operation makes is empty, unless it is a symbolic link."""
         data = self.reading.made_data.get(file, Data(self.reading.block_size))
         blocks = tuple((it, self.block_number(data.blocks[it])) for it in sorted(data.blocks))
         return self.number_of(Content(self.reading.made_rights[file], data.length, blocks))
@@ -86,8 +86,8 @@ class Contents:
     def cut_blocks(
         self, blocks: Tuple[Tuple[int, int], ...], length: int
     ) -> Tuple[Tuple[int, int], ...]:
-        """The blocks of a content without the bytes past a length; a block that is zero then is
-        left out."""
+        """The blocks of a content without the bytes past a length; a block of which only zeros are
+        left is left out."""
         full, rest = divmod(length, self.reading.block_size)
         kept = [(it, number) for it, number in blocks if it < full]
         number = dict(blocks).get(full, ZEROS)
@@ -97,8 +97,8 @@ class Contents:
     def written_blocks(
         self, blocks: Tuple[Tuple[int, int], ...], write: WriteBlock
     ) -> Tuple[Tuple[int, int], ...]:
-        """The blocks of a content after a write to one of them; a block that is zero then is left
-        out."""
+        """The blocks of a content after a write to one of them, which is left out if it has only
+        zeros then."""
         changed = dict(blocks)
         before = self.blocks[changed.pop(write.block, ZEROS)]
         number = self.block_number(overwritten(before, write.at, write.data))

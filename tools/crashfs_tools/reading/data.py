@@ -97,8 +97,8 @@ class Data:
 
 
 def overwritten(block: bytes, at: int, piece: bytes) -> bytes:
-    """A block after bytes were put into it at an offset. Both it and the result are without the
-    zeros at their ends."""
+    """A block after bytes were put into it at an offset. The block comes, and is returned, without
+    the zeros at its end."""
     whole = bytearray(block.ljust(at, b'\0'))
     whole[at : at + len(piece)] = piece
     return bytes(whole).rstrip(b'\0')

@@ -49,24 +49,24 @@ def futures(order: Order) -> List[Dict[int, int]]:
 
 
 def next_futures(order: Order, future: int, lowest: int) -> List[int]:
-    """The futures that follow one at a place, `lowest`, given as a set of one: first the one
-    without the place for good, then the one after it was added. Only the future itself if it lacks
-    the place."""
+    """The futures that follow a future when a place, given by `lowest` as a set of one, is decided:
+    first that of the sets without it, then that of the sets with it. If the future lacks the place,
+    only the future itself."""
     if not future & lowest:
         return [future]
     return [order.later_without(future, lowest), future & ~order.unit(lowest)]
 
 
 def count_sets(order: Order) -> int:
-    """How many sets an order allows, exactly, even if there are more than 2^64. ReadingFault if
-    there are too many futures to count by."""
+    """How many sets an order allows, exactly, even if there are more than 2^64. ReadingFault if one
+    k has more than MOST_FUTURES futures."""
     return sum(futures(order)[-1].values())
 
 
 def drawn_sets(order: Order, wanted: int, seed: int) -> Iterator[int]:
     """Draws `wanted` allowed sets, each time with the same chance for every set, so one may come
-    twice. The same seed gives the same sets. ReadingFault, before the first one is returned, if
-    there are more than MOST_MEMBERS sets, or too many futures to count by."""
+    twice. The same seed gives the same sets. ReadingFault, only when the first set is taken, if
+    there are more than MOST_MEMBERS sets, or more than MOST_FUTURES futures of one k."""
     extensions = count_extensions(order)
     total = extensions[0][order.full]
     if total > MOST_MEMBERS:

@@ -7,8 +7,8 @@ from typing import Optional
 
 class ReadingFault(Exception):
     """What the second reading refuses. Its text is what the program prints for the same fault.
-    `line` is the number of the trace's line, or None if it is the fault of no line; `why` explains
-    a fault of a line, and is else empty."""
+    `line` is the number of the trace's line, or None if no line of a trace is at fault; `why`
+    explains the fault of a line, and is else empty."""
 
     def __init__(self, text: str, line: Optional[int] = None, why: str = '') -> None:
         super().__init__(text)

@@ -64,7 +64,8 @@ class Line:
     fields: Fields
 
     def paths(self) -> Iterator[str]:
-        """The paths that the line has."""
+        """The paths that the line has, in the order of PATHS; none for a header, a sync or a
+        say."""
         return (self.fields[key] for key in PATHS if key in self.fields)
 
     @property
@@ -87,7 +88,8 @@ class Line:
 
     @property
     def length(self) -> int:
-        """The length of a start file, with the zeros that are in no part."""
+        """The length of a start file: that of its bytes, or, if it is written in parts, the one
+        that it gives."""
         return int(self.fields['length']) if 'parts' in self.fields else len(self.data)
 
 

@@ -15,7 +15,7 @@ class Micro:
     handled: the files, symbolic links and directories that it makes, links, moves, removes or
     replaces. file: the number of the file whose size, bytes or rights it changes, with a path that
     the file had then. directory: the number of the directory whose rights it changes. line: the
-    number of its line in the trace, 0 until that is read."""
+    number of its line in the trace, 0 until Reading.read_line() sets it."""
 
     paths: Tuple[str, ...] = ()
     entries: Tuple[Entry, ...] = ()
@@ -122,7 +122,7 @@ class MoveEntry(Micro):
 
 class LinkEntry(Micro):
     """A file or symbolic link gets one more entry. half is 1 if this is the first half of a rename,
-    else 0: only that may replace something."""
+    else 0. Only a first half may replace something: `replaced` is that, or None."""
 
     def __init__(
         self,

@@ -236,8 +236,9 @@ class Names:
             raise LineFault('NotEmpty', f'{path} has entries')
 
     def refuse_too_large(self, line: Line) -> None:
-        """LineFault (TooLarge) if a line's path has too many names, its say too many bytes, or if
-        the records or a file would pass a limit. The line must be fit otherwise."""
+        """LineFault (TooLarge) if a path of a line has too many names or a say too many bytes, or
+        if the line would make too many records or a file that is too large. All else of the line
+        must fit."""
         if any(path.count('/') > PATH_NAMES for path in line.paths()):
             raise LineFault('TooLarge', f'a path of more than {PATH_NAMES} names')
         if self.records >= RECORDS and (line.word in MAKES_RECORD or self.moves_elsewhere(line)):

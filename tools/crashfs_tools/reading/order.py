@@ -28,9 +28,9 @@ IN_ORDER = ('ordered', 'journal')
 
 
 def marks_of_same_thing(operation: Micro) -> Iterator[Mark]:
-    """The marks of what a micro-operation changes and no two may change out of order: a block, a
-    size (P1), a file's rights (P7), an entry, and a directory that is made or removed or gets
-    rights (P2). An acknowledged line has none."""
+    """The marks of the things that a micro-operation changes, if all changes of such a thing stay
+    in order: a block, a size (P1), a file's rights (P7), an entry, and a directory that is made or
+    removed or gets rights (P2). An acknowledged line has none."""
     if isinstance(operation, WriteBlock):
         yield 'block', operation.file, operation.block
     elif isinstance(operation, ChangeSize):
@@ -80,12 +80,14 @@ def marks_asked(operation: Micro, reading: Reading, profile: str) -> Iterator[Ma
 
 
 class Order:
-    """Which sets of places a profile allows, the trace's own if none is given. Sets are numbers, as
-    in place_sets. needs: for each place the set of those that its micro-operation needs, by any
+    """Which sets of places a profile allows; if none is given, the trace's own. Sets are numbers,
+    as in place_sets. needs: for each place the set of those that its micro-operation needs, by any
     chain. needed_by: the inverse. synced and logged: for each place, and for the end, the set that
-    sync points before it cover, and the set that they wrote to a log. units: sets of places that an
-    allowed set has as a whole or not at all, by their first place; a place that no unit has is one
-    by itself."""
+    sync points before it cover, and the set that they wrote to a log.
+
+    units: by their first places, sets of several places that an allowed set has as a whole or not
+    at all. Only also_under() makes them.
+    """
 
     def __init__(self, reading: Reading, profile: Optional[str] = None) -> None:
         self.count = len(reading.operations)
@@ -133,13 +135,13 @@ class Order:
         return (1 << count) - 1 & ~durable
 
     def later_without(self, future: int, lowest: int) -> int:
-        """What remains of a future if its lowest place is left out for good, and with it all that
-        need it. The place is given as a set of one."""
+        """What remains of a future if its lowest place, given by `lowest` as a set of one, is left
+        out for good, and with it all that need it."""
         return future & ~lowest & ~self.needed_by[lowest.bit_length() - 1]
 
     def unit(self, lowest: int) -> int:
-        """What an allowed set gets together with the lowest place of its future: the unit of that
-        place, or this place only. It is given as a set of one."""
+        """The set of the places that an allowed set gets together with the lowest place of its
+        future, given by `lowest` as a set of one: the unit of this place, or only the place."""
         return self.units.get(lowest.bit_length() - 1, lowest)
 
     def needed_in_both(self, other: Order) -> Order:

@@ -23,12 +23,12 @@ Options = Dict[str, Union[str, bool]]
 
 
 class Usage(Exception):
-    """A command line that is refused."""
+    """A command line that is refused, as a line that says why."""
 
 
 def refuse_options(options: Options) -> None:
-    """Usage unless the options ask for exactly one of --every, --sample and the families, go
-    together, and have values in their ranges."""
+    """Usage unless exactly one of --every, --sample and the families (--lost and --files) is asked
+    for, the options go together, and their values are in range."""
     families = [it for it in ('--every', '--sample') if it in options]
     families += ['--lost'] if {'--lost', '--files'} & options.keys() else []
     if len(families) != 1:
@@ -84,8 +84,8 @@ def shown_count(count: int) -> str:
 
 def sets_of(reading: Reading, options: Options) -> Iterator[List[int]]:
     """The places of each set that the options ask for, in the order in which they are printed; a
-    set of both families comes twice. ReadingFault if there are too many: of --sample only as the
-    first set is taken."""
+    set of both families comes twice. ReadingFault as every_members() and drawn_sets() raise it: the
+    latter only when the first set is taken."""
     if '--every' in options:
         return every_members(reading, options)
     if '--sample' in options:

@@ -89,7 +89,8 @@ def add_families(plan: StateList, has_lost: bool, has_files: bool) -> None:
 
 def read_picks(data: bytes) -> List[List[int]]:
     """The places of each set of a picks file; empty lines are skipped, but counted. ReadingFault
-    for a line that is no array of numbers. Whether the sets are allowed isn't checked here."""
+    for a line that is no array of numbers up to LARGEST_PLACE. Whether the sets are allowed isn't
+    checked here."""
     picks = []
     for number, line in enumerate(data.split(b'\n'), 1):
         if not line:

@@ -37,8 +37,8 @@ class FileSync(SyncPoint):
         return operation.file == self.number
 
     def is_fresh(self, since: List[Micro]) -> bool:
-        """See SyncPoint.is_fresh: whether one of `since` changed the file, or made, linked, moved,
-        removed or replaced a name of it."""
+        """See SyncPoint.is_fresh: whether one of `since` changed, made, linked, moved, removed or
+        replaced the file."""
         return any(
             one.file == self.number or any(is_file(node, self.number) for node in one.handled)
             for one in since
@@ -87,8 +87,8 @@ class RangeSync(DataSync):
 
 
 class DirectorySync(SyncPoint):
-    """An fsync of a directory, by its number: of its rights, and of each change of an entry in it.
-    Of a move from or to another directory it covers both ends."""
+    """An fsync of a directory, by its number: of its rights, and of all that touches an entry in
+    it. A move between two directories is covered by an fsync of either one."""
 
     def covers(self, operation: Micro) -> bool:
         """See SyncPoint.covers: true for a change of the directory's rights or of an entry in it,

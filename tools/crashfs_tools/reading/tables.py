@@ -32,7 +32,7 @@ class EntryTable:
 
 def change_entries(entries: Dict[Entry, Inode], operation: Micro) -> None:
     """Changes a map of entries as a micro-operation does; one that touches no entry does nothing.
-    What is at an entry that it gives is replaced. KeyError if an entry that it removes or moves
+    An entry that it makes replaces what is there. KeyError if an entry that it removes or moves
     isn't in the map."""
     if isinstance(operation, (CreateEntry, LinkEntry)):
         entries[operation.entries[0]] = operation.node
