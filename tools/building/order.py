@@ -121,7 +121,8 @@ class Work:
 
     def end_crate(self, name: str, place: Optional[Path]) -> None:
         """Notes that the check of a crate has ended, and wakes the threads that wait: it is proved
-        in the copy `place`, or it isn't proved (None). Then no other crate is begun."""
+        in the copy `place`, or it isn't proved (None). After one that isn't, no other crate is
+        begun."""
         with self.change:
             del self.jobs[name]
             if place:

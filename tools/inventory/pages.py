@@ -118,8 +118,8 @@ def words_list() -> str:
 
 
 def page_with(page: str, part: str) -> str:
-    """A page with this part between its lines BEGIN and END. ValueError if it doesn't have both
-    once, in this order."""
+    """A page with this part between its marks BEGIN and END, in the place of what is there.
+    ValueError if it doesn't have each mark once, in this order."""
     between = re.compile(f'{re.escape(BEGIN)}.*{re.escape(END)}', re.DOTALL)
     made, count = between.subn(lambda _: f'{BEGIN}\n\n{part}\n\n{END}', page)
     if (count, page.count(BEGIN), page.count(END)) != (1, 1, 1):

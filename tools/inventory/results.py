@@ -27,7 +27,8 @@ def results_part() -> str:
 
 
 def table_lines(rows: List[Row]) -> Iterator[str]:
-    """The lines of the table of all sessions."""
+    """The lines of the table of sessions in Markdown, in the order of the rows: its head, and a
+    line for each."""
     columns = ['Store', 'Session', 'Crash states (sets)', 'Fail']
     columns += [f'`{name}`' for name in PROFILES]
     columns += list(DISKS.values())

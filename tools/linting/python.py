@@ -62,8 +62,8 @@ def black_faults() -> Optional[List[str]]:
 
 
 def mypy_faults() -> Optional[List[str]]:
-    """What mypy finds in all Python but the tests, whose helpers aren't typed; None if it isn't
-    installed."""
+    """What mypy finds in all Python but the tests; None if it isn't installed. The tests aren't
+    typed: unknown_names_in_tests is for them."""
     return faults_of_linter(['mypy'], program_files())
 
 

@@ -116,7 +116,8 @@ def lines_of_programs() -> Iterator[Line]:
 
 
 def names_of_programs() -> Iterator[Line]:
-    """The names that the commands' Python gives to something."""
+    """The names of names_in_python for all modules and commands of tools/, each as the text of a
+    line."""
     for path in programs_to_read():
         for number, name in names_in_python(path.read_text('utf-8')):
             yield Line(name_of(path), number, name)

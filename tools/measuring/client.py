@@ -88,7 +88,7 @@ class Client:
         self.ask(message(TOPEN, struct.pack('<IB', newfid, READ_WRITE)))
 
     def close(self) -> None:
-        """Ends the connection."""
+        """Ends the connection, and with it all fids of this client."""
         self.replies.close()
         self.stream.close()
 

@@ -78,7 +78,8 @@ class Measurement:
         return ((name, seed) for seed in range(first, first + count) for name in self.names)
 
     def missing(self) -> List[Task]:
-        """The tasks whose results the file doesn't have."""
+        """The tasks that are asked for and whose results the file doesn't have, in the order of
+        tasks()."""
         done: Set[Task] = {(one.filesystem, one.seed) for one in self.results()}
         return [task for task in self.tasks() if task not in done]
 

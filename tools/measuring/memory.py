@@ -114,8 +114,8 @@ def add_journal_rows(programs: Programs, tally: Tally) -> None:
 
 
 def add_memory_rows(programs: Programs, tally: Tally) -> None:
-    """Measures and prints all rows of memory; one that can't be measured is a failure, and the next
-    is measured."""
+    """Measures and prints all rows of memory. What can't be measured is a failure, and the next is
+    measured. The program `crashfs` must be built."""
     for add_rows in (add_connection_rows, add_run_rows, add_journal_rows):
         try:
             add_rows(programs, tally)

@@ -32,16 +32,16 @@ class ResultsFile:
         self.path = path
 
     def rows(self) -> List[Row]:
-        """The rows of the file; none if there is no file."""
+        """The rows of the file, in its order; an empty list if there is no file."""
         if not self.path.exists():
             return []
         rows: List[Row] = json.loads(self.path.read_text('utf-8'))
         return rows
 
     def put(self, row: Row) -> None:
-        """Puts a row into the file, in the place of the one with its key, and writes the file
-        again. Rows are in the order of stores.json; those that it doesn't have are kept, and come
-        last."""
+        """Puts a row into the file, in the place of the one with its key. Rows are in the order of
+        stores.json; those that it doesn't have are kept, and come last. The file is written in
+        place: an error meanwhile may leave a part of it."""
         rows = {one['key']: one for one in self.rows()}
         rows[row['key']] = row
         order = {key: place for place, key in enumerate(keys())}
@@ -85,7 +85,7 @@ def sets_of(windows: List[Results]) -> Optional[int]:
 
 
 def profiles_of(windows: List[Results]) -> Dict[str, int]:
-    """How many failing states each profile of the trace allows, by its name; also those that allow
+    """How many failing states each profile of the trace allows, by its name; 0 for one that allows
     none. A state counts for each profile that allows it."""
     counts: Counts[str] = Counter()
     for window in windows:
@@ -116,7 +116,7 @@ def disks_of(fields: Dict[str, Any]) -> Dict[str, Any]:
 
 def first_entry(lines: List[str]) -> Iterator[str]:
     """The lines of a report's first entry, from the report's lines after its first: the cause, and
-    what follows with an indent of 4 or more. None if there are no lines."""
+    what follows with an indent of 4 or more. Nothing if there are no lines."""
     for place, line in enumerate(lines):
         if place and not line.startswith('    '):
             return

@@ -106,6 +106,7 @@ class Check:
     and report, and empty at first."""
 
     def __init__(self, session: Session, words: argparse.Namespace, folder: Path) -> None:
+        """Nothing is made or checked until row() is called."""
         self.session = session
         self.words = words
         self.trace = folder / f'{session.name}.trace'
@@ -171,7 +172,7 @@ class Check:
 
 def output_of(words: List[str]) -> str:
     """Runs a command to its end, and returns what it printed on standard output. Its status doesn't
-    matter: the files that it makes do."""
+    matter, since callers look for the files that it makes. OSError if it can't be started."""
     ran = subprocess.run(words, stdin=subprocess.DEVNULL, stdout=subprocess.PIPE, check=False)
     return ran.stdout.decode('utf-8', 'replace')
 

@@ -39,6 +39,7 @@ class Progress:
     terminal."""
 
     def __init__(self, names: List[str]) -> None:
+        """Notes when the parts begin; shows nothing yet."""
         self.names, self.begin = names, time.monotonic()
         self.running: Dict[str, float] = {}
         self.done = 0
@@ -64,7 +65,8 @@ class Progress:
             print(f'\r\033[K{self.text()[:width]}', end='', file=sys.stderr, flush=True)
 
     def keep_showing(self) -> None:
-        """Shows the line again and again, in a thread, until `is_over`."""
+        """Shows the line again each SECONDS_BETWEEN, until `is_over` is set: to be run in a
+        thread."""
         while not self.is_over.wait(SECONDS_BETWEEN):
             self.show()
 

@@ -77,8 +77,9 @@ def without_passed(printed: str) -> str:
 
 
 def try_tests(crate: Crate) -> Outcome:
-    """Runs the tests of a crate by `rt`, without any proof, and returns their outcome. The status
-    of `rt` doesn't count, only the tests that it names: one that is left to the gate may fail."""
+    """Runs the tests of a crate by `rt`, without any proof, and returns their outcome with its
+    time. The status of `rt` doesn't count, only the tests that it names: one that is left to the
+    gate may fail. OSError if there is no `rt`."""
     begin = time.monotonic()
     ran = subprocess.run(
         ['rt', 'try', '--test', '--seconds', SECONDS],

@@ -65,7 +65,7 @@ class Book:
     faults: List[Tuple[int, str]] = field(default_factory=list)
 
     def save(self) -> None:
-        """Replaces the book's file as a whole, from which another run continues. OSError if that
+        """Replaces the book's file as a whole; another run continues from it. OSError if that
         fails: the old file stays then."""
         fields = {
             'crashfs-campaign': VERSION,
@@ -79,7 +79,7 @@ class Book:
 
 
 def read_book(path: Path, identity: List[object], first_seed: int) -> Book:
-    """The book that the file has of an earlier run; a new one, which begins with first_seed, if
+    """The book that an earlier run left in the file; a new one, which begins with first_seed, if
     there is no file. It continues after the last seed that was tried, or with first_seed if that is
     later. Refused if the file is no book of this VERSION, or of a campaign with another identity;
     OSError if it can't be read."""

@@ -37,7 +37,8 @@ class Campaign:
 
     def __init__(self, options: CampaignOptions) -> None:
         """Makes the directory RESULTS if it isn't there, and reads the book of an earlier run in
-        it: Refused as by read_book."""
+        it, which it continues. Refused as from read_book; OSError if RESULTS can't be made or
+        read."""
         self.options = options
         self.results = Path(options.results)
         self.results.mkdir(parents=True, exist_ok=True)
@@ -48,9 +49,9 @@ class Campaign:
 
     def run(self) -> None:
         """Tries the seeds that are left, in their order, up to the last one or until the time is
-        over; a session that has begun is finished. The folder `work` is made empty, and removed at
-        the end, also after a stop. The book isn't saved for a seed during which a stop came: the
-        next run tries it again."""
+        over; a session that has begun is finished. The folder `work` is emptied at first and
+        removed at the end, also after a stop. The seed during which a stop comes isn't saved as
+        tried, so the next run tries it again."""
         begun, last = time.monotonic(), self.options.seeds[1]
         shutil.rmtree(self.work, ignore_errors=True)
         self.work.mkdir()
@@ -63,9 +64,9 @@ class Campaign:
             shutil.rmtree(self.work, ignore_errors=True)
 
     def try_seed(self, seed: int) -> None:
-        """Records and checks the session of a seed, adds what is new to the book, and saves it. A
+        """Records and checks the session of a seed, adds what is found to the book, and saves it. A
         session that can't be recorded, or whose check gives no whole verdict, is among the book's
-        faults and counts as tried. What an incomplete check found counts too."""
+        faults and counts as tried. The failures that an incomplete check found count too."""
         fault = self.sessions.record(seed)
         checked = Checked(fault=fault) if fault else self.sessions.check(self.sessions.trace)
         if checked.fault:
@@ -79,8 +80,8 @@ class Campaign:
             self.print_line(f'seed {seed}: {verdict_line(self.book)}')
 
     def print_line(self, line: str) -> None:
-        """Prints a line on standard error, and notes when: a line about progress comes only if
-        nothing was printed for EVERY_SECONDS."""
+        """Prints a line on standard error, after the command's name, and notes the time: try_seed
+        prints a line about progress if nothing was printed for EVERY_SECONDS."""
         print_line(NAME, printable(line))
         self.printed = time.monotonic()
 
@@ -106,8 +107,8 @@ class Campaign:
     def keep(self, entry: KnownFailure, seed: int, shrinking: Shrinking, length: int) -> None:
         """Keeps the session of a seed, up to so many acknowledged lines (0: all of it), as the
         shortest one of a failure: writes its trace and its page over those that are there, and
-        notes it in the entry. The entry's failure becomes that of the cut session, if the check
-        still finds it."""
+        notes it in the entry. If the check still finds the failure in the cut session, the entry
+        describes that one, else it stays."""
         entry.kept_seed, entry.says, entry.shortest = seed, len(shrinking.says), length
         kept = shrinking.keep(length, self.results / entry.trace, self.results / entry.page)
         entry.failure = kept or entry.failure

@@ -48,15 +48,17 @@ class Sessions:
     trace is the file of the last recorded session, which the next one replaces."""
 
     def __init__(self, options: CampaignOptions, folder: Path) -> None:
+        """Nothing is made yet, and the folder needn't exist. child is the last command that was
+        started; None before the first."""
         self.options = options
         self.folder = folder
         self.trace = folder / 'session.trace'
         self.child: Optional[subprocess.Popen[str]] = None
 
     def record(self, seed: int) -> str:
-        """Records the session with a seed, in a new store: empty, or a copy of --start. Returns why
-        there is no trace that can be checked; an empty text if there is one. So a trace that can't
-        say all that happened counts as a fault. OSError if --start can't be copied."""
+        """Records SESSION with a seed, in a new store: empty, or a copy of --start. Returns why
+        there is no trace that can be checked; an empty text if there is one. A trace that can't say
+        all that happened counts as none. OSError if --start can't be copied."""
         store = self.folder / 'store'
         shutil.rmtree(store, ignore_errors=True)
         if self.options.start is None:
@@ -68,8 +70,8 @@ class Sessions:
         return '' if status in RECORDED else fault_of('crashfs-record', status, error_text)
 
     def check(self, trace: Path, page: Optional[Path] = None) -> Checked:
-        """Checks a trace with RECOVERY. Returns the failures of the report, and why there is no
-        whole verdict, if so: the report of a check that ended early has what was found before.
+        """Checks a trace with RECOVERY. Returns the failures in its report, and a fault if there is
+        no whole verdict; the report of a check that ended early has what was found until then.
         Writes the report as a page too, if one is named. OSError as from failures_in."""
         report = self.folder / 'report.json'
         if report.exists():

@@ -48,9 +48,9 @@ class Shrinking:
 
     def shortest_length(self, most: Optional[int] = None) -> int:
         """The fewest acknowledged lines, `most` at most if it is given, with which the failure
-        still comes: by binary search, since what a session may leave, a longer one may leave too. 0
-        if it doesn't come with so many lines: it needs more, or what the session does after its
-        last line."""
+        still comes. The search is binary, since what a session may leave, a longer one may leave
+        too. 0 if the failure doesn't come with so many lines: it needs more of them, or what the
+        session does after its last line."""
         low, high = 0, len(self.says) if most is None else min(most, len(self.says))
         if not high or self.failure_of(high) is None:
             return 0
@@ -64,8 +64,8 @@ class Shrinking:
 
     def keep(self, count: int, trace: Path, page: Path) -> Optional[Failure]:
         """Writes the session up to so many acknowledged lines (0: all of it) to the file `trace`,
-        and the report on it to `page`. Returns the failure as it is there; None if it doesn't come
-        any more, and the files are written even so."""
+        and the report on it to `page`. Returns the failure as it is in that report; None if it
+        doesn't come any more: the files are written even so."""
         failure = self.failure_of(count)
         trace.write_bytes(self.cut.read_bytes())
         self.sessions.check(trace, page)
