@@ -55,10 +55,10 @@ def prove_in(copy: Path, work: Work, begun: float) -> None:
             give_library(work.places[library], top, library)
         check = run_check(['rt', 'lib', '--jobs', str(jobs)], top / 'crates' / name)
         work.end_crate(name, top if check.status == 0 else None)
-        said = 'proved' if check.status == 0 else 'NOT PROVED'
+        result = 'proved' if check.status == 0 else 'NOT PROVED'
         minutes = (time.monotonic() - begun) / 60
         count = f'{len(work.places)} of {len(work.below)}'
-        print(f'{minutes:5.1f} min: {name} {said} ({count})', flush=True)
+        print(f'{minutes:5.1f} min: {name} {result} ({count})', flush=True)
         if check.status:
             report_failure(name, check, jobs, work.processors)
 

@@ -81,9 +81,9 @@ class Client:
         self.ask(message(TATTACH, fields))
 
     def open(self, fid: int, newfid: int, name: str) -> None:
-        """Opens a file of a directory, which has the number fid, for reading and writing; the file
-        has the number newfid then. Refused if the server refuses the walk or the open: after a
-        refused open newfid is the file even so, and isn't open."""
+        """Opens for reading and writing the file of this name in the directory of fid: newfid is
+        the file afterwards. Refused if the server refuses the walk or the open; after a refused
+        open newfid is the file even so, but not open."""
         self.ask(message(TWALK, struct.pack('<IIH', fid, newfid, 1) + text_field(name)))
         self.ask(message(TOPEN, struct.pack('<IB', newfid, READ_WRITE)))
 

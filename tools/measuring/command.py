@@ -36,16 +36,16 @@ NEEDED = {'serve_bench': ['serve_bench', 'crashfs'], 'memory': ['crashfs'], 'sta
 def parsed_words(given: Optional[List[str]]) -> argparse.Namespace:
     """The words after `measure`, but for `disks` and `stores`, which parse their own; wrong ones
     end the program with status 2. Whether a benchmark has a name isn't looked at here."""
-    words = argparse.ArgumentParser(
+    parser = argparse.ArgumentParser(
         prog='measure', description=__doc__, formatter_class=argparse.RawDescriptionHelpFormatter
     )
-    words.add_argument(
+    parser.add_argument(
         '--top', type=Path, default=TOP, metavar='DIR', help='the repository (this one)'
     )
-    words.add_argument(
+    parser.add_argument(
         'names', nargs='*', metavar='NAME', help='a benchmark program, `memory` or `states` (all)'
     )
-    return words.parse_args(given)
+    return parser.parse_args(given)
 
 
 def measure(programs: Programs, name: str, tally: Tally) -> None:

@@ -52,9 +52,9 @@ def trace_text(trace: Trace) -> str:
 
 
 def allowed_trees(reading: Reading, profile: str) -> Set[TreeAndCount]:
-    """The trees that the sets which a profile allows leave, each with the number of acknowledged
-    lines in the set; all of them, by the second reading. It walks through all different states, so
-    sessions must be short. ReadingFault if the trace's version doesn't have the profile."""
+    """Each tree that a profile allows a crash to leave, by its digest, with the number of lines
+    that are acknowledged then. The second reading goes through all different states, so sessions
+    must be short. ReadingFault if the trace's version doesn't have the profile."""
     states, found = States(reading), set()
     for places in Classes(reading, order_in(reading, profile)).different():
         tree = entries_of(states.tree(places))
@@ -64,9 +64,9 @@ def allowed_trees(reading: Reading, profile: str) -> Set[TreeAndCount]:
 
 def session_result(name: str, seed: int, trace: Trace, disks: List[Disk]) -> SessionResult:
     """The result of a session on the file system of this name, from the different disks that it
-    left there. A profile allows a disk if one of its sets leaves the disk's tree and has a number
-    of acknowledged lines that the disk may have. Texts are kept only of disks that the file
-    system's own profile doesn't allow. KeyError if PROFILE_OF has no such name."""
+    left there. A profile allows a disk if it allows the disk's tree with one of the numbers of
+    acknowledged lines that the disk may have. Texts are kept only of disks that the file system's
+    own profile doesn't allow. KeyError if PROFILE_OF has no such name."""
     reading = read(trace_text(trace).encode())
     allowed = {profile: allowed_trees(reading, profile) for profile in profile_names(reading)}
     result = SessionResult(name, seed, sum(len(disk.crashes) for disk in disks), len(disks))

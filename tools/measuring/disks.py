@@ -37,18 +37,20 @@ Task = Tuple[str, int]
 def parsed_words(given: List[str]) -> argparse.Namespace:
     """The words after `measure disks`; wrong ones end the program with status 2. Whether a file
     system is known isn't looked at here."""
-    words = argparse.ArgumentParser(
+    parser = argparse.ArgumentParser(
         prog='measure disks',
         description=__doc__,
         formatter_class=argparse.RawDescriptionHelpFormatter,
     )
-    words.add_argument('--on', default=','.join(PROFILE_OF), metavar='LIST', help='file systems')
-    words.add_argument('--first', type=int, default=1, metavar='SEED', help='the first seed (1)')
-    words.add_argument('--sessions', type=int, default=300, metavar='N', help='how many (300)')
-    words.add_argument('--operations', type=int, default=7, metavar='N', help='of each (7)')
-    words.add_argument('--jobs', type=int, default=os.cpu_count() or 1, metavar='N', help='at once')
-    words.add_argument('dir', type=Path, metavar='DIR', help='where results are kept')
-    return words.parse_args(given)
+    parser.add_argument('--on', default=','.join(PROFILE_OF), metavar='LIST', help='file systems')
+    parser.add_argument('--first', type=int, default=1, metavar='SEED', help='the first seed (1)')
+    parser.add_argument('--sessions', type=int, default=300, metavar='N', help='how many (300)')
+    parser.add_argument('--operations', type=int, default=7, metavar='N', help='of each (7)')
+    parser.add_argument(
+        '--jobs', type=int, default=os.cpu_count() or 1, metavar='N', help='at once'
+    )
+    parser.add_argument('dir', type=Path, metavar='DIR', help='where results are kept')
+    return parser.parse_args(given)
 
 
 class Measurement:

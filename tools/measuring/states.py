@@ -40,9 +40,9 @@ class Times(NamedTuple):
 def times_of(
     words: List[str], tried: int = 0, environment: Optional[Dict[str, str]] = None
 ) -> Times:
-    """Runs a command that tries states, and returns its times. How many states there are and how
-    many it tries is read from what it prints; if it doesn't print that, both are `tried`. OSError
-    if its status isn't 0, or if neither is known."""
+    """Runs a command that tries states, and returns its times. How many states there are, and how
+    many it tried, is what it prints; if it prints neither, both are `tried`. OSError if its status
+    isn't 0, or if it prints no numbers and `tried` is 0."""
     began = time.monotonic()
     with subprocess.Popen(
         words, stdout=subprocess.PIPE, stdin=subprocess.DEVNULL, text=True, env=environment
@@ -75,7 +75,7 @@ class Checks:
         """The times of one check with these options. It tries prefixes and holes (`--families`), or
         only prefixes if `--prefixes` is among the options, so that figures can be compared with
         those of earlier versions. `-S` leaves out what this machine's Python loads by itself.
-        OSError if a state fails."""
+        OSError if a state fails, or the check does."""
         families = [] if '--prefixes' in options else ['--families']
         program = [sys.executable, '-S', str(CHECK), '--crashfs', self.program]
         words = [*program, *families, *options, str(TRACE), '--', '/bin/true']

@@ -66,20 +66,20 @@ class Session(NamedTuple):
 def parsed_words(given: List[str]) -> argparse.Namespace:
     """The words after `measure stores`; wrong ones, and a name that no session and no folder has,
     end the program with status 2."""
-    words = argparse.ArgumentParser(
+    parser = argparse.ArgumentParser(
         prog='measure stores',
         description=__doc__,
         formatter_class=argparse.RawDescriptionHelpFormatter,
     )
-    words.add_argument('--record', action='store_true', help='make traces again')
-    words.add_argument('--disks', metavar='LIST', help='file systems, as of crashfs-check')
-    words.add_argument('--jobs', type=int, default=4, metavar='N', help='at once (4)')
-    words.add_argument('--time-limit', metavar='S', help='seconds for the states of each')
-    words.add_argument('names', nargs='*', metavar='NAME', help='FOLDER or FOLDER/SESSION (all)')
-    parsed = words.parse_args(given)
+    parser.add_argument('--record', action='store_true', help='make traces again')
+    parser.add_argument('--disks', metavar='LIST', help='file systems, as of crashfs-check')
+    parser.add_argument('--jobs', type=int, default=4, metavar='N', help='at once (4)')
+    parser.add_argument('--time-limit', metavar='S', help='seconds for the states of each')
+    parser.add_argument('names', nargs='*', metavar='NAME', help='FOLDER or FOLDER/SESSION (all)')
+    parsed = parser.parse_args(given)
     for name in parsed.names:
         if not sessions([name]):
-            words.error(f'{name} is no session of {STORES / "stores.json"}')
+            parser.error(f'{name} is no session of {STORES / "stores.json"}')
     return parsed
 
 

@@ -35,10 +35,10 @@ Items = Dict[str, Item]
 def tracked_files(folder: str) -> List[str]:
     """The paths, from the top, of the files that git knows below a path, or that match a pattern;
     sorted. Empty if there are none; CalledProcessError if git fails."""
-    said = subprocess.run(
+    ran = subprocess.run(
         ['git', 'ls-files', '-z', '--', folder], cwd=TOP, stdout=subprocess.PIPE, check=True
     )
-    return sorted(name for name in said.stdout.decode().split('\0') if name)
+    return sorted(name for name in ran.stdout.decode().split('\0') if name)
 
 
 def item_of_file(path: str) -> Item:

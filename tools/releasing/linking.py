@@ -21,25 +21,23 @@ def kit_folder() -> Path:
     command = shutil.which('rt')
     if command is None:
         raise LinkFault('rt: not found on PATH')
-    said = subprocess.run([command, 'doc'], stdout=subprocess.PIPE, text=True)
-    page = Path(said.stdout.strip().splitlines()[0]) if said.stdout.strip() else None
+    ran = subprocess.run([command, 'doc'], stdout=subprocess.PIPE, text=True)
+    page = Path(ran.stdout.strip().splitlines()[0]) if ran.stdout.strip() else None
     return page.parent if page and page.is_file() else Path(os.path.realpath(command)).parent.parent
 
 
 def kit_version() -> str:
     """The first line that `rt version` prints: the kit, and the checksum of its logic. OSError if
     there is no `rt`, CalledProcessError if it fails."""
-    said = subprocess.run(['rt', 'version'], stdout=subprocess.PIPE, text=True, check=True)
-    return said.stdout.strip().splitlines()[0]
+    ran = subprocess.run(['rt', 'version'], stdout=subprocess.PIPE, text=True, check=True)
+    return ran.stdout.strip().splitlines()[0]
 
 
 def linker_version() -> str:
     """The name and version of the linker, whose own library (libgcc) is linked too. OSError if
     there is no gcc, CalledProcessError if it fails."""
-    said = subprocess.run(
-        ['gcc', '-dumpfullversion'], stdout=subprocess.PIPE, text=True, check=True
-    )
-    return f'gcc {said.stdout.strip()}'
+    ran = subprocess.run(['gcc', '-dumpfullversion'], stdout=subprocess.PIPE, text=True, check=True)
+    return f'gcc {ran.stdout.strip()}'
 
 
 def link_statically(made: Path, program: Path) -> None:

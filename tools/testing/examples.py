@@ -107,11 +107,11 @@ def try_scripts(files: Files, names: List[str]) -> Outcome:
         for name in names:
             shutil.copy(EXAMPLES / f'{name}.script', folder)
         data = [word for name in files for word in ('--data', f'{name}={EXAMPLES / name}')]
-        said = output_of(
+        printed = output_of(
             ['rt', 'try', '--cases', folder, *data, '--', *files.script_command()], CRATE
         )
-    replies = dict(CASE.findall(said))
+    replies = dict(CASE.findall(printed))
     for name in names:
-        count_example(outcome, f'{name}.replies', replies.get(f'{name}.script', said))
+        count_example(outcome, f'{name}.replies', replies.get(f'{name}.script', printed))
     outcome.seconds = time.monotonic() - begin
     return outcome
