@@ -58,7 +58,7 @@ class CrashStates:
     ) -> Report:
         """Records the session, runs the recovery in its crash states, and returns the report. The
         test fails with one failure for each entry that isn't accepted. It also fails if a state has
-        no answer, if the trace isn't complete, or if something is Refused.
+        no answer, if the trace isn't complete, or if record() or check() refuses something.
 
         start is called with the directory before the session begins. ignore, mapped and block are
         options of crashfs_tools.record, all others of crashfs_tools.check; accept takes the place
@@ -113,7 +113,7 @@ def crash_states(request: pytest.FixtureRequest, tmp_path: Path) -> CrashStates:
 @pytest.hookimpl(hookwrapper=True)
 def pytest_runtest_protocol(item: pytest.Item) -> Iterator[None]:
     """After a test has run, reports each further failure that CrashStates kept as a failed test of
-    its own: pytest has one failure for a test."""
+    its own: pytest itself has one failure for a test."""
     yield
     others = item.stash[OTHERS] if OTHERS in item.stash else []
     for number, text in enumerate(others, 2):

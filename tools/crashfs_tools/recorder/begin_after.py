@@ -12,8 +12,8 @@ from .recording import Recording
 
 class LateStart:
     """Begins the trace again after the acknowledged line that is wanted: the line of a number, from
-    1, or the first one that a pattern matches. The recording calls it from then on at each
-    acknowledgement. has_begun is False as long as that line didn't come."""
+    1, or the first one that a pattern matches. To count them it becomes the recording's
+    on_acknowledged. has_begun is False until that line comes."""
 
     def __init__(self, recording: Recording, wanted: str) -> None:
         self.recording, self.wanted = recording, wanted

@@ -82,7 +82,7 @@ def lines_on_differences(directory: Scan, last: Entries, reported: Iterable[str]
 
 
 def as_entry(one: ScannedEntry) -> Entry:
-    """An entry of a scan in the form of a tree's."""
+    """A scanned entry in the form that entries of a tree have, to be compared with one."""
     if isinstance(one, StartSymlink):
         return symlink_entry(one)
     return Entry(one.owner, one.group, one.mode, one.data)

@@ -74,7 +74,7 @@ class LiveFiles:
         self.tree = LiveTree(root)
         self.resolver = Resolver(conditions.top, self.target_at, conditions.target_outside)
         self.processes: Dict[int, Process] = {}
-        # Syncs of writes that had not ended where the writes are, with their calls.
+        # The syncs of writes (O_SYNC) whose calls have not ended yet: call, file, offset, length.
         self.late_syncs: List[Tuple[Call, Node, int, int]] = []
         self.has_copies = False
         self.add_scan(scan)
@@ -127,8 +127,8 @@ class LiveFiles:
             self.recording.report_note(f'the start tree leaves out {why}', path)
 
     def first_process(self) -> Process:
-        """COMMAND's first process, in the directory, with the output streams that it inherits.
-        Other descriptors that are open at its start aren't known."""
+        """COMMAND's first process, in the directory, with the umask of the start and the output
+        streams that it inherits. Other descriptors that are open at its start aren't known."""
         inherited = self.recording.streams.inherited_streams()
         files = {number: OpenFile(None, stream=stream) for number, stream in inherited.items()}
         return Process(Descriptors(files), PathContext(self.conditions.top, self.conditions.umask))
@@ -164,9 +164,9 @@ class LiveFiles:
     def path_argument_at(
         self, process: Process, call: Call, place: int, follows: bool = False
     ) -> Optional[str]:
-        """As path_argument(), of the argument after `place`, where the descriptor of a directory
-        is: a relative path begins there, or at the working directory if strace shows no path of
-        it."""
+        """As path_argument(), for the argument after a directory's descriptor, which is at `place`.
+        A relative path begins at that directory, or at the working directory if strace shows no
+        path of it."""
         base = call.descriptor(place).path or process.paths.directory
         return self.join_path(base, call.argument(place + 1), follows)
 
@@ -190,8 +190,8 @@ class LiveFiles:
     def node_argument_at(
         self, process: Process, call: Call, place: int, follows: bool = True
     ) -> Optional[Node]:
-        """As node_argument(), of the argument after `place`, where the descriptor of a directory
-        is. An empty path means that descriptor's own file."""
+        """As node_argument(), for the argument after a directory's descriptor, which is at `place`.
+        An empty path means that descriptor's own file."""
         file = self.open_file_of_path(process, call.argument(place + 1))
         if call.argument(place + 1) == '""':
             file = process.descriptors.files.get(call.descriptor(place).number)
@@ -330,15 +330,15 @@ class LiveFiles:
 
     def sync_file(self, node: Node) -> None:
         """Adds a sync of a file or directory, with its mode and owner, if the trace has it. Notes
-        that it was synced: a file of O_TMPFILE gets its name later."""
+        that it was synced, since a file of O_TMPFILE may get its name later."""
         node.was_synced, node.has_new_rights = True, False
         if node.traced_path is not None:
             self.recording.add_operation(Fsync(node.traced_path))
 
     def sync_data(self, node: Node) -> None:
         """Syncs a file's size and all its bytes, but not its mode and owner. Of a directory no
-        trace has such a sync: it is written as sync_file() does, and reported if the mode or owner
-        was changed since the last one."""
+        trace has such a sync: it is written as sync_file() does, and reported if its mode or owner
+        was changed since its last sync."""
         if not node.is_directory:
             node.was_synced = True
             if node.traced_path is not None:

@@ -115,9 +115,9 @@ def load_log(path: str, line_filter: LogFilter) -> Log:
 
 
 def start_conditions(options: RecordOptions) -> StartConditions:
-    """What COMMAND starts with. For a log from elsewhere the umask is assumed to be 022, the
-    directory to be that of --log-dir, and no symbolic link to be outside it; the owner and group of
-    new files are this process's in any case."""
+    """What COMMAND starts with. For a log from elsewhere the umask is taken to be 022 and the
+    directory's path that of --log-dir, if it is given; targets of symbolic links outside it aren't
+    known. The owner and group of new files are this process's in any case."""
     is_here = options.from_log is None
     umask = os.umask(0)
     os.umask(umask)
@@ -144,8 +144,8 @@ def target_on_disk(path: str) -> Optional[str]:
 
 def record(options: RecordOptions) -> int:
     """Records a session, writes the trace, prints the summary, and returns the status. Refused,
-    LogError or an OSError come before the trace is written; of later errors a line is printed, and
-    the status is NOT_WHOLE."""
+    LogError, Stopped or an OSError come before the trace is written. Of a later error, a signal
+    among them, a line is printed, and the status is NOT_WHOLE."""
     prepare_options(options)
     Crashfs.find(options.crashfs)
     before = scan_directory(options.directory, options.ignored, options.version or NEWEST)

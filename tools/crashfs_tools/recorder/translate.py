@@ -71,8 +71,8 @@ class Translator:
 
     def translate_calls(self) -> None:
         """Translates all calls in the order of their operations, each as the recording's current
-        call. It takes the bytes from the calls, since the trace has them then. LogError as
-        arguments.py raises it."""
+        call. It drops the arguments of writes from the calls, since the trace has the bytes then.
+        LogError as arguments.py raises it."""
         if SOCKETS in self.recording.streams.acknowledged:
             self.recording.streams.with_lines = connections_with_lines(self.log.calls)
         ordered = call_order.calls_in_order(self.log.calls)

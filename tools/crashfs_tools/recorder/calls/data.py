@@ -111,9 +111,9 @@ def write_to_descriptor(
     missing: str = NOT_IN_LOG,
 ) -> None:
     """Writes the bytes that the call wrote, as many as its result, to the descriptor that is the
-    argument `target`: at an offset, or at that of the open file (None). data None are bytes that
-    aren't known, as `missing` says: that is reported of a stream that acknowledges something, and a
-    file's bytes aren't followed any more. Nothing if the descriptor isn't followed."""
+    argument `target`: at an offset, or at that of the open file (None). data is None if the bytes
+    aren't known, and `missing` says why: a stream that acknowledges something is reported then, and
+    a file's bytes aren't followed any more. Nothing if the descriptor isn't followed."""
     stream = files.stream_of(process, call, target)
     if stream is not None:
         if data is not None:
@@ -254,8 +254,8 @@ def on_ioctl(files: LiveFiles, process: Process, call: Call) -> None:
 
 
 def on_io_uring(files: LiveFiles, process: Process, call: Call) -> None:
-    """Reports that what is done by io_uring, or by aio, is not in the log: once, of the whole
-    directory."""
+    """Reports, of the whole directory, that what is done by io_uring, or by aio, is not in the
+    log."""
     files.recording.report(f'{call.name}: what is done by it is not in the log', '/')
 
 

@@ -34,9 +34,9 @@ def on_fchmodat(files: LiveFiles, process: Process, call: Call) -> None:
 
 
 def set_mode(files: LiveFiles, node: Optional[Node], word: str) -> None:
-    # Some programs pass the kind of the file too, which the kernel ignores.
     """Gives a file or directory the mode in an argument; in the trace too, if that has another one
     there. Bits beyond 777 are only noted. Nothing for None, which isn't followed."""
+    # Some programs pass the kind of the file too, which the kernel ignores.
     mode = octal(word) & 0o7777
     if node is not None:
         node.mode = mode & PERMISSIONS
@@ -73,9 +73,9 @@ def on_fchownat(files: LiveFiles, process: Process, call: Call) -> None:
 
 
 def set_owner(files: LiveFiles, node: Optional[Node], user: str, group: str) -> None:
-    """Gives a file or directory the owner and group of a call, in the trace, if that has others
-    there; -1 leaves what is there. Nothing if the trace doesn't have it, and for None. The names of
-    the numbers are those of this system."""
+    """Gives a file or directory in the trace the owner and group of a call, if it has others there;
+    a number of -1 leaves what it has. Nothing for None, nor if the trace doesn't have it. The names
+    are those of the numbers on this system."""
     path = path_in_trace(node)
     if node is None or path is None:
         return

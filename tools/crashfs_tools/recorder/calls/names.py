@@ -206,8 +206,9 @@ def replace_name(files: LiveFiles, node: Node, path: str) -> None:
 
 
 def rename_directory(files: LiveFiles, node: Node, source: str, target: str) -> None:
-    """Renames a directory in the trace, after the live tree. If the trace lacks it, or can't have
-    that, it is reported, and what is done below the directory is left out from then on."""
+    """Renames in the trace a directory that was moved in the live tree already. If the trace lacks
+    it, or can't have that, it is reported, and what is done below the directory is left out from
+    then on."""
     if source in node.traced_paths and files.recording.raise_version_for(
         renamed_directory_reason(source)
     ):

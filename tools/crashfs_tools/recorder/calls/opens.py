@@ -160,7 +160,7 @@ def on_dup(files: LiveFiles, process: Process, call: Call) -> None:
 
 def on_fcntl(files: LiveFiles, process: Process, call: Call) -> None:
     """Duplicates a descriptor, or sets whether exec closes it and whether its writes append. Other
-    commands are left out."""
+    commands change nothing here."""
     number, command = call.descriptor().number, call.argument(1)
     if command.startswith('F_DUPFD'):
         duplicate_descriptor(files, process, call, 'CLOEXEC' in command)

@@ -29,7 +29,8 @@ def on_fdatasync(files: LiveFiles, process: Process, call: Call) -> None:
 
 
 def on_sync(files: LiveFiles, process: Process, call: Call) -> None:
-    """Syncs all files and directories."""
+    """Syncs all files and directories of the trace. One of O_TMPFILE that has no name yet isn't
+    noted as synced."""
     files.recording.add_operation(Sync())
 
 
@@ -87,8 +88,8 @@ def on_mprotect(files: LiveFiles, process: Process, call: Call) -> None:
 
 
 def report_mapped(files: LiveFiles, process: Process, address: int, length: int) -> None:
-    """Reports the files that the trace has and that are mapped in a range of addresses, which may
-    be written now. Nothing if copies show what is stored there."""
+    """Reports the files of the trace that are mapped in a range of addresses, which the caller
+    knows to be writable. Nothing if copies show what is stored there."""
     if files.has_copies:
         return
     for part, _ in process.memory.parts_in(address, length):
