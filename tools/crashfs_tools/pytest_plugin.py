@@ -121,7 +121,7 @@ def pytest_runtest_protocol(item: pytest.Item) -> Iterator[None]:
 
 
 def failure_report(item: pytest.Item, number: int, text: str) -> pytest.TestReport:
-    """The report of a further failure of a test, as of a failed test of the same file and line. Its
+    """The report of a further failure of a test, as if another test at its place had failed. Its
     name is that of the test with the number after it, as `test_store (2)`."""
     try:
         fail(text)

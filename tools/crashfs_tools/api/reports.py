@@ -124,20 +124,20 @@ class Report:
         self._write(path, json_pieces)
 
     def write_junit(self, path: PathLike) -> None:
-        """Writes the report as JUnit XML; an OSError as of write_json()."""
+        """Writes the report as JUnit XML. It raises what write_json() does."""
         from crashfs_tools.checker.report.junit import junit_lines
 
         self._write(path, junit_lines)
 
     def write_tap(self, path: PathLike) -> None:
-        """Writes the report in the Test Anything Protocol; an OSError as of write_json()."""
+        """Writes the report in the Test Anything Protocol. It raises what write_json() does."""
         from crashfs_tools.checker.report.tap import tap_lines
 
         self._write(path, tap_lines)
 
     def write_html(self, path: PathLike) -> None:
-        """Writes the report as a page for a browser, without the drawing that --html has; an
-        OSError as of write_json()."""
+        """Writes the report as a page for a browser, without the drawing that --html has. It raises
+        what write_json() does."""
         from crashfs_tools.checker.report.page import page
 
         self._write(path, page)

@@ -111,7 +111,7 @@ def bytes_of_text(word: str) -> Optional[bytes]:
 
 def path_of_text(word: str) -> Optional[str]:
     """The path in an argument; bytes that are not UTF-8 become surrogates, as in os.fsdecode. None
-    and LogError as of bytes_of_text()."""
+    if strace cut it or printed an address; LogError as in bytes_of_text()."""
     raw = bytes_of_text(word)
     return None if raw is None else raw.decode('utf-8', 'surrogateescape')
 

@@ -54,8 +54,8 @@ CLASSES = {
 
 
 def regex_of(glob: str) -> str:
-    """A pattern, without `!` and without a slash at its ends, as a regular expression; ValueError
-    as of read_piece()."""
+    """A pattern, without `!` and without a slash at its ends, as a regular expression. It raises
+    what read_piece() does."""
     found, place = '', 0
     while place < len(glob):
         regex, place = read_piece(glob, place)

@@ -157,8 +157,8 @@ class LiveFiles:
     def path_argument(
         self, process: Process, call: Call, place: int, follows: bool = False
     ) -> Optional[str]:
-        """The path, as of relative_path(), in the argument at a place; a relative one begins at the
-        working directory. None also if strace cut it."""
+        """The path in the argument at a place, as relative_path() returns it; a relative one begins
+        at the working directory. None also if strace cut it."""
         return self.join_path(process.paths.directory, call.argument(place), follows)
 
     def path_argument_at(
@@ -171,8 +171,8 @@ class LiveFiles:
         return self.join_path(base, call.argument(place + 1), follows)
 
     def join_path(self, base: str, word: str, follows: bool = False) -> Optional[str]:
-        """The path, as of relative_path(), in an argument; a relative one begins at the directory
-        `base`. None also if strace cut it."""
+        """The path in an argument, as relative_path() returns it; a relative one begins at the
+        directory `base`. None also if strace cut it."""
         path = arguments.path_of_text(word)
         return None if path is None else self.relative_path(os.path.join(base, path), follows)
 
@@ -181,7 +181,8 @@ class LiveFiles:
     ) -> Optional[Node]:
         """The file, directory or symbolic link of the path in the argument at a place; a link at
         its end is followed unless `follows` is False. A path such as /proc/self/fd/3 means that
-        descriptor's file. None if nothing is known there, and as of relative_path()."""
+        descriptor's file. None if nothing is known there, or the path is outside the directory or
+        ignored."""
         file = self.open_file_of_path(process, call.argument(place))
         if file is not None:
             return file.node

@@ -34,7 +34,8 @@ def create_log(path: str) -> TextIO:
 
 class LogStream:
     """strace writes to `pipe`; the lines are kept in the file `keep`, too, if one is named.
-    keep_fault says why not all could be kept, log_error why the log is none."""
+    keep_fault says why not all lines could be kept, log_error why the log isn't strace's; each is
+    None if nothing is wrong."""
 
     def __init__(
         self,

@@ -23,9 +23,10 @@ def copies_by_call(
     calls: List[Call], ordered: List[Call], copies: FileCopies
 ) -> Dict[int, List[FileCopy]]:
     """The copies that come with each call, by its id: what they show was stored before that call.
-    It is the last call of the stopped thread; if other threads ran, it is the first, in the trace,
-    of the calls since the copy before at which COMMAND is stopped. `calls` are in the log's order,
-    `ordered` in the trace's. Copies without files, and that at the end, come with no call."""
+    The call is the last one of the stopped thread; if other threads ran, it is the first, in the
+    trace, of the calls since the copy before at which COMMAND is stopped. `calls` are in the log's
+    order, `ordered` in the trace's. Copies without files, and that at the end, come with no
+    call."""
     ends = [call.end for call in calls]
     places = {id(call): place for place, call in enumerate(ordered)}
     latest: Dict[int, Call] = {}

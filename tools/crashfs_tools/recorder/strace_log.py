@@ -194,6 +194,6 @@ def arguments_of(name: str, text: str) -> List[str]:
 
 
 def read_log(lines: Iterable[str], line_filter: Optional[LogFilter] = None) -> Log:
-    """A new LogReader's log of these lines, without those that the filter finds needless; LogError
-    as of read()."""
+    """A new LogReader's log of these lines, without those that the filter finds needless. It raises
+    what read() does."""
     return LogReader(line_filter).read(lines)

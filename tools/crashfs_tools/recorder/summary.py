@@ -128,7 +128,7 @@ def acknowledgement_faults(recording: Recording) -> List[str]:
 
 
 def held_line_faults(stream: OutputStream) -> List[str]:
-    """A line if one of the stream's was begun long before it was complete, as it may have
+    """A line if one of the stream's lines was begun long before it was complete, as it may have
     acknowledged something meanwhile; else empty. One change between two writes of a line is usual:
     a program prints what it does, and then that it is done."""
     if stream.is_held:

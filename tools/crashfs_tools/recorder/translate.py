@@ -118,8 +118,9 @@ class Translator:
             self.report_cut_change(call)
 
     def report_cut_change(self, call: Call) -> None:
-        """Reports a change that its thread's end cut: the log doesn't show whether it was made.
-        Nothing for any other call, and for one on no stream or path of the directory."""
+        """Reports a change that its thread's end cut, if its first argument is a descriptor of a
+        stream or in the directory: the log doesn't show whether it was made. A change that is only
+        by a path, as rename, isn't reported."""
         if not call_order.is_change(call):
             return
         process = self.process_of(call.process, call.end)
@@ -196,8 +197,9 @@ class Translator:
         return True
 
     def process_of(self, number: int, moment: int) -> Process:
-        """The process with this number, which calls at the line `moment`. A new one is made from
-        its parent: a child may call before its parent's fork has returned."""
+        """The process with this number, which calls at the line `moment`. One that isn't known is
+        made: COMMAND's first process, or a child from its parent, since it may call before its
+        parent's fork has returned."""
         known = self.files.processes
         if number not in known:
             if number == self.log.first:
