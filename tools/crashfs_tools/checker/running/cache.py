@@ -34,6 +34,8 @@ class OutcomeCache:
     the file's name. hits counts outcomes of earlier checks that were used, each once."""
 
     def __init__(self, folder: str, name: str) -> None:
+        """Reads the file. One that isn't there, or that read_checked() doesn't accept, counts as
+        empty."""
         self.path = os.path.join(folder, f'outcomes-{name}.json')
         self.earlier: Dict[str, List[str]] = read_checked(self.path)
         self.used: Dict[str, List[str]] = {}

@@ -14,6 +14,7 @@ class Output:
     can be polled. end has the last bytes, and count is how many there were."""
 
     def __init__(self) -> None:
+        """Opens the pipe: call close() in any case."""
         self.reading, self.writing = os.pipe2(os.O_CLOEXEC)
         os.set_blocking(self.reading, False)
         self.end = b''
@@ -49,6 +50,6 @@ class Output:
             self.writing = -1
 
     def close(self) -> None:
-        """Closes both ends."""
+        """Closes the pipe, both ends if the one for writing is still open."""
         self.close_writing()
         os.close(self.reading)

@@ -25,6 +25,7 @@ class Progress:
     def __init__(
         self, stream: Optional[TextIO] = sys.stderr, clock: Callable[[], float] = time.monotonic
     ) -> None:
+        """The first line is shown when the pause between two lines has passed once."""
         self.stream = stream
         self.clock = clock
         self.reported = clock()

@@ -153,7 +153,7 @@ def all_states_of(value: Any, has_state: Callable[[int], bool]) -> AllStates:
 
 
 def count_or_none(value: Any) -> Optional[int]:
-    """A whole number of any size, or None. ValueError for anything else."""
+    """A whole number from 0 on, of any size, or None. ValueError for anything else."""
     if value is not None and (type(value) is not int or value < 0):
         raise ValueError('no number')
     return value

@@ -42,7 +42,7 @@ class Head:
         return self.digest, self.command, self.shard
 
     def fields(self) -> Dict[str, Any]:
-        """What the JSON has of it, which read_results reads."""
+        """What a file of --json has of the head, by its keys: head_of() reads it."""
         return {
             'crashfs-check': FORMAT,
             'trace': self.trace,
@@ -147,7 +147,9 @@ class Results:
         return self.plan.operations, self.plan.listed, self.plan.needs.masks
 
     def fields(self) -> Dict[str, Any]:
-        """What the JSON has of the window, which read_results reads."""
+        """What a file of --json has of a window, by its keys: results_of() reads it. The seconds of
+        a state are 0 unless only some of the crash states are tried: only then a report shows
+        them."""
         return {
             'first': self.plan.first,
             'all_states': self.plan.all_states and list(self.plan.all_states),

@@ -133,7 +133,8 @@ class Checker:
 
     @cached_property
     def poll(self) -> select.poll:
-        """Waits for the check's end, and for what else is registered."""
+        """A poll object that has the pipe `life`, if there is one. Each run adds what it waits for,
+        and takes it away again."""
         poll = select.poll()
         if self.life is not None:
             poll.register(self.life, select.POLLIN)
@@ -266,6 +267,7 @@ class Waiting:
     without descriptors of processes (before Linux 5.3) is asked again and again."""
 
     def __init__(self, poll: select.poll, process: int, output: Output) -> None:
+        """Adds the process and its output to the poll object: call close() in any case."""
         self.poll, self.process, self.output = poll, process, output
         self.descriptor = opened_process(process)
         self.registered = {output.reading}
@@ -275,8 +277,8 @@ class Waiting:
             poll.register(one, select.POLLIN)
 
     def wait(self, seconds: float) -> Set[Optional[int]]:
-        """Waits at most so many seconds; returns the descriptors that are ready, maybe none. What
-        is printed is read meanwhile."""
+        """Waits at most so many seconds. Returns the descriptors that are ready, also those that
+        the poll object had already; maybe none. What is printed is read meanwhile."""
         if self.descriptor is None:
             seconds = min(seconds, LOOK_SECONDS)
         ready: Set[Optional[int]] = {one for one, _ in self.poll.poll(seconds * 1000)}
@@ -297,7 +299,7 @@ class Waiting:
         self.poll.unregister(one)
 
     def close(self) -> None:
-        """Leaves the poll object as it was."""
+        """Takes from the poll object what was added, and closes the descriptor of the process."""
         for one in list(self.registered):
             self.unregister(one)
         if self.descriptor is not None:

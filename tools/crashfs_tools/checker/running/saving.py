@@ -16,6 +16,7 @@ class Saver:
         seconds: float,
         clock: Callable[[], float] = time.monotonic,
     ) -> None:
+        """Counts the first `seconds` from here on, by the clock."""
         self.write = write
         self.seconds = seconds
         self.clock = clock

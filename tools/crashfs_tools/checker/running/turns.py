@@ -33,8 +33,9 @@ def states_tried_for(results: Results, sets: Iterable[int]) -> Set[int]:
 def family_turns(plan: Plan) -> Iterator[List[int]]:
     """The sets of eight turns, those first that find most: prefixes that end at an acknowledged
     line; each micro-operation with what it needs; whole operations that are lost; holes that end at
-    an acknowledged line; picks; prefixes; some blocks of torn writes that are lost; holes. A turn
-    may have sets of an earlier one, or sets that the plan doesn't list."""
+    an acknowledged line; picks; prefixes; some blocks of torn writes that are lost; holes, the last
+    one first. No turn has the holes that lose a block of a torn write. A turn may have sets of an
+    earlier one, or sets that the plan doesn't list."""
     says = {place + 1 for place, one in enumerate(plan.operations) if one.kind == 'say'}
     prefixes = {
         one.numbers[0]: plan.kept[one.number] for one in plan.listed if one.family == 'prefix'

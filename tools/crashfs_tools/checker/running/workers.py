@@ -92,6 +92,7 @@ class StateWorkers:
         on_outcome: OnOutcome,
         fail_fast: bool = False,
     ) -> None:
+        """Opens the pipe `life`, which end() closes. No process is started yet."""
         self.checker = checker
         self.layout = layout
         self.jobs = jobs

@@ -58,6 +58,7 @@ class KeptTree:
     if an earlier one couldn't be removed."""
 
     def __init__(self, directory: str) -> None:
+        """Makes nothing yet. The first change_to() removes what is at the directory's path."""
         self.directory = directory
         self.mounts = MountTable()
         # Whether the directory has the last tree, but for what COMMAND changed.

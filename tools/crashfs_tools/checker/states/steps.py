@@ -110,6 +110,7 @@ class Steps:
     which paths are links to one file, only `tree` knows."""
 
     def __init__(self, session: Session) -> None:
+        """Begins at the first step, with the tree in which the trace begins."""
         self.session = session
         self.begin = 0
         self.says = 0
@@ -117,9 +118,9 @@ class Steps:
         self.start = self.tree.entries.copy()
 
     def end_within(self, size: int) -> int:
-        """The latest step before which a part from `begin` on may end to have at most `size`
-        micro-operations. The part has at least one step, even if that is larger, and includes syncs
-        that follow its last micro-operation."""
+        """The last step that a part from `begin` on may end before, with at most `size`
+        micro-operations. The part has at least one step, even if that is larger, and the syncs
+        after its last micro-operation."""
         places = self.session.places
         end = bisect.bisect_right(places, places[self.begin] + size) - 1
         return min(max(end, self.begin + 1), len(self.session.steps))

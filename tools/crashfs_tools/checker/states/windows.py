@@ -53,8 +53,8 @@ class PlannedWindow:
 
 
 class Windows:
-    """The windows of one session, each of at most `largest` micro-operations, or of one step that
-    has more. cut_off grows while the windows are made."""
+    """The windows of one session, each of at most `largest` micro-operations, which is never more
+    than LARGEST, or of one step that has more. cut_off grows while the windows are made."""
 
     def __init__(self, planner: Planner, session: Session, largest: int = LARGEST) -> None:
         self.planner = planner
