@@ -148,8 +148,8 @@ def rest_lines(counts: StateCounts) -> Iterator[str]:
 
 
 def time_text(counts: StateCounts, states: int, at_least: str = '') -> str:
-    """How long so many states take, after a comma; an empty text if it isn't known how long one
-    takes."""
+    """How long a number of states would take, after a comma, with `at_least` before the time; an
+    empty text if it isn't known how long one takes."""
     seconds = counts.seconds * states
     return f', and would take {at_least}about {duration_text(seconds)}' if seconds else ''
 

@@ -19,13 +19,14 @@ MEASURED = 100
 
 
 class Progress:
-    """Shows how many states of a part of a check were tried. Between two lines there is at least
-    the same time, also if a new part begins. Without a stream nothing is shown."""
+    """Shows how many states of a part of a check were tried: on a terminal in one line that
+    changes, else in a new line every EVERY_SECONDS, also if parts are shorter than that. Without a
+    stream nothing is shown."""
 
     def __init__(
         self, stream: Optional[TextIO] = sys.stderr, clock: Callable[[], float] = time.monotonic
     ) -> None:
-        """The first line is shown when the pause between two lines has passed once."""
+        """On no terminal, the first line comes EVERY_SECONDS after this."""
         self.stream = stream
         self.clock = clock
         self.reported = clock()
@@ -33,7 +34,7 @@ class Progress:
         self.begin_part(0)
 
     def begin_part(self, total: int, name: str = '') -> None:
-        """Begins a part of so many states, of which none is counted yet. Its lines begin with its
+        """Begins a part of `total` states, of which none is counted yet. Its lines begin with its
         name, which may be empty."""
         self.total = total
         self.name = name
@@ -92,7 +93,7 @@ class Pace:
         self.begin(0)
 
     def begin(self, total: int) -> None:
-        """Begins to measure, from no state on: so many will be tried."""
+        """Begins to measure, with no state counted: `total` states will be tried."""
         self.total = total
         self.tried = 0
         self.begun = self.clock()

@@ -131,7 +131,7 @@ def plan_of(fields: Dict[str, Any]) -> Plan:
 
 
 def set_profiles_of(value: Any, count: int) -> SetProfiles:
-    """The profiles of each of so many listed states, or of none. ValueError for anything else, such
+    """The profiles of each of `count` listed states, or of none. ValueError for anything else, such
     as a wanted profile that isn't among the names."""
     names, of_sets, wanted = row(value, items, items, text)
     names = tuple(map(text, names))

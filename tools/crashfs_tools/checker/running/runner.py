@@ -66,7 +66,7 @@ class AcknowledgedLines:
         self.sizes = [0, *accumulate(len(text.encode('utf-8')) + 1 for text in texts)]
 
     def path(self, count: int) -> str:
-        """The path of this process's file, which has the first so many lines until the next call.
+        """The path of this process's file, which has the first `count` lines until the next call.
         OSError if it must be changed, but COMMAND has removed it or put a symbolic link in its
         place."""
         file = os.path.join(self.folder, f'says-{os.getpid()}')
@@ -146,7 +146,7 @@ class Checker:
         return MountTable()
 
     def run(self, state: int, says: int, directory: str) -> Outcome:
-        """Runs the recovery in a state's directory with the first so many acknowledged lines, ends
+        """Runs the recovery in a state's directory with the first `says` acknowledged lines, ends
         what it leaves running, and unmounts what it leaves mounted. No answer if it is late, prints
         too much or leaves a mount that stays; nor if it left a process that can't be ended, also in
         later states while that runs. Refused or an OSError if it can't be started, CheckEnded if
@@ -183,8 +183,8 @@ class Checker:
             output.close()
 
     def end_left(self, before: Set[int], seconds: float = 0) -> Dict[int, str]:
-        """Kills the children that weren't there before, and waits at most so many seconds for them.
-        Sets `left` to those that still run, with the names of their programs, and returns it."""
+        """Kills the children that weren't there before, and waits at most `seconds` for them. Sets
+        `left` to those that still run, with the names of their programs, and returns it."""
         self.end_bearers()
         self.left = descendants.end_children(before, seconds)
         return self.left
@@ -277,8 +277,8 @@ class Waiting:
             poll.register(one, select.POLLIN)
 
     def wait(self, seconds: float) -> Set[Optional[int]]:
-        """Waits at most so many seconds. Returns the descriptors that are ready, also those that
-        the poll object had already; maybe none. What is printed is read meanwhile."""
+        """Waits at most `seconds`. Returns the descriptors that are ready, also those that the poll
+        object had already; maybe none. What is printed is read meanwhile."""
         if self.descriptor is None:
             seconds = min(seconds, LOOK_SECONDS)
         ready: Set[Optional[int]] = {one for one, _ in self.poll.poll(seconds * 1000)}

@@ -23,8 +23,8 @@ class Saver:
         self.saved = clock()
 
     def save_if_due(self) -> None:
-        """Calls `write` if the last call, or the Saver's beginning, was so many seconds ago or
-        more. A call that failed counts."""
+        """Calls `write` if `seconds` have passed since the last call, or since the Saver was made.
+        A call that failed counts."""
         if self.clock() - self.saved < self.seconds:
             return
         try:

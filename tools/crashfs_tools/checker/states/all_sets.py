@@ -40,8 +40,8 @@ class AllSets(Protocol):
         than `most` states."""
 
     def drawn_sets(self, count: int, seed: int) -> Optional[List[int]]:
-        """So many sets, drawn at random: a set may come several times. They are the same ones for
-        each seed. None if the sets are too many to count."""
+        """`count` sets, drawn at random, each time from all: a set may come several times. The same
+        seed draws the same ones. None if the sets are too many to count."""
 
 
 def all_sets(program: Crashfs, environment: Dict[str, str], read: ReadSets) -> AllSets:
@@ -90,7 +90,8 @@ class ProgramSets:
         return self.read.different_sets(most)
 
     def drawn_sets(self, count: int, seed: int) -> Optional[List[int]]:
-        """Asks `picks --sample`, or the second reading if the program doesn't know that option."""
+        """Asks `picks --sample`, or the second reading if the program doesn't know that option:
+        are_read doesn't show this."""
         try:
             return self.printed_sets(['--sample', str(count), '--seed', str(seed)])
         except ProgramFault as fault:
@@ -165,7 +166,7 @@ class ReadSets:
         return Needs([mask | 1 << place for place, mask in enumerate(self.plan.order.needs)])
 
     def has_pending(self, count: int) -> bool:
-        """Whether a micro-operation among the first so many isn't durable yet when the next one
+        """Whether one of the first `count` micro-operations isn't durable yet when the next one
         comes. Acknowledged lines don't count."""
         return self.plan.order.pending(count) & ~self.plan.trees.says != 0
 

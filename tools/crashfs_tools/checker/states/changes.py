@@ -31,7 +31,7 @@ class Changes(NamedTuple):
 def read_changes(members: Iterator[Member]) -> Iterator[Changes]:
     """Yields the changes of each state, in the order of the archive. A state's list of missing
     paths, a file NUMBER.missing at the archive's top, comes first, and then its entries.
-    ArchiveFault if an entry comes before its list."""
+    ArchiveFault if an entry comes before its list, ValueError if a NUMBER is no number."""
     changes: Optional[Changes] = None
     for whole, entry in members:
         top, _, path = whole.partition('/')

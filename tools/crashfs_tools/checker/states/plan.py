@@ -58,9 +58,9 @@ class State(NamedTuple):
 
 
 class Offsets(NamedTuple):
-    """What of a session comes before a plan: so many states, micro-operations and acknowledged
-    lines. lines has the session's line of each line of the plan's trace, or is empty if they are
-    the same."""
+    """How many states, micro-operations and acknowledged lines of a session come before a plan.
+    lines has the session's line of each line of the plan's trace, or is empty if they are the
+    same."""
 
     states: int = 0
     operations: int = 0

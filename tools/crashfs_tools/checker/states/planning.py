@@ -231,9 +231,9 @@ def sets_of_all_states(sets: AllSets, read: ReadSets, most: int) -> Optional[Lis
 
 
 def picks_in_parts(picks: List[int], room: int, operations: int) -> List[List[int]]:
-    """Divides picks into the parts of a plan of so many micro-operations. The first part has at
-    most `room` of them, none if that is 0 or less; each other part as many as the prefixes leave
-    room for."""
+    """Divides picks into the parts of a plan that has `operations` micro-operations. The first part
+    gets at most `room` picks, none if that is 0 or less; each other part as many as fit after its
+    prefixes."""
     size = limits.STATES - 1 - operations
     first, rest = picks[: max(0, room)], picks[max(0, room) :]
     return [first, *(rest[at : at + size] for at in range(0, len(rest), size))]
