@@ -24,8 +24,9 @@ DRAWN = 8
 
 
 def page(report: CheckReport) -> Iterator[str]:
-    """The text of the file of --html, in pieces. The report's JSON isn't in it, nor are more than
-    DRAWN windows drawn."""
+    """The text of the file of --html, in pieces. It has the entries and the states of the first
+    crash only: nothing of second crashes, of what was cut off, or of all advised syncs at once. Of
+    a session in many windows it draws DRAWN."""
     title = shown_text(report.head.trace)
     yield (
         f'<!DOCTYPE html>\n<html lang="en"><head><meta charset="utf-8">'

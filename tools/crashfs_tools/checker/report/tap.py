@@ -52,7 +52,7 @@ def tap_lines(report: CheckReport) -> Iterator[str]:
 
 
 def entry_point(text: ReportText, group: Group) -> TestPoint:
-    """The test of an entry: it fails, but if the entry is accepted, it is skipped."""
+    """The test of an entry: skipped if the entry is accepted, else one that failed."""
     if group.accepted is not None:
         return TestPoint(group.cause, reason=accepted_text(group.accepted))
     example = f'state {group.example.number} of {text.head.trace}'

@@ -111,7 +111,7 @@ def open_folder(path: str) -> str:
 
 
 def read_checked(path: str) -> Dict[str, Any]:
-    """The values that write_checked() wrote to a file. None of them if there is no file, it isn't
+    """The values that write_checked() wrote to a file. An empty map if there is no file, it isn't
     whole, or another user owns it or may write it."""
     try:
         with open(os.open(path, os.O_RDONLY | os.O_NOFOLLOW | os.O_CLOEXEC), 'rb') as file:

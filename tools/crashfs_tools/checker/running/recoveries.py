@@ -115,8 +115,8 @@ class FunctionRecovery:
 
     def call(self) -> int:
         """Calls the function, and returns the exit status: 0 whatever the function returns, FAILED
-        if it raises. Of SystemExit the number is the status. The last line that is printed is the
-        cause."""
+        if it raises, and the number of a SystemExit. The last line that is printed is the cause,
+        such as that of cause_of()."""
         lines = [line.rstrip('\n') for line in sys.stdin]
         try:
             self.function(os.getcwd(), lines)

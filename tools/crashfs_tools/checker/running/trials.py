@@ -72,8 +72,8 @@ class Trials:
         return Trials(replace(self.workplace, program=program), planned, keeps_trees=True)
 
     def new_checker(self) -> Checker:
-        """A checker for COMMAND, or for the function that takes its place, without a pipe that
-        shows it the check's end."""
+        """A checker for COMMAND, or for the function that takes its place. Its `life` isn't set:
+        StateWorkers sets it in each process."""
         recovery: StateRecovery = CommandRecovery(self.options.command)
         if self.options.function is not None:
             recovery = FunctionRecovery(self.options.function)

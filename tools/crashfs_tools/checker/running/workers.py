@@ -125,7 +125,8 @@ class StateWorkers:
 
     def read_outcomes(self, worker: Worker) -> bool:
         """Waits for lines of a process, and takes them; returns False at the end of its pipe. A
-        fault among them is raised, and the lines after it are lost."""
+        fault among them is raised, and the lines after it are lost. BlockingIOError as in
+        Worker.new_lines()."""
         lines = worker.new_lines()
         for line in lines or []:
             self.take_line(line)

@@ -203,8 +203,8 @@ class Plan:
 
     def profile_names_of(self, state: State) -> List[str]:
         """The names of the profiles under which a crash may leave the tree and the acknowledged
-        lines of a state, by its own set or by that of an equal listed state. None if the profiles
-        aren't known."""
+        lines of a state, by its own set or by that of an equal listed state. No names if the
+        profiles aren't known."""
         bits = self._profiles.get(state.trial, 0)
         return [name for place, name in enumerate(self.profiles.names) if bits >> place & 1]
 

@@ -96,7 +96,7 @@ def parts_of_operation(operation: Operation, tree: Tree) -> Iterator[Operation]:
 def lengths_before_write(tree: Tree, path: str, end: int) -> Iterator[int]:
     """The sizes, in order, that a write up to the offset `end` gives a file before it changes
     blocks: in version 4 first the end of its last page, if the write grows it past that; then
-    `end`. None if the file doesn't grow."""
+    `end`. No sizes if the file doesn't grow."""
     size = len(tree.entries[path].data or b'')
     if tree.version >= 4 and grows_past_page(size, end):
         yield page_end(size)
