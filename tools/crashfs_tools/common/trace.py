@@ -99,7 +99,7 @@ class Rmdir:
 
 @dataclass(frozen=True)
 class Rename:
-    """A name becomes another, and replaces what has that."""
+    """What is at a path gets another path, and replaces what is there."""
 
     source: str
     target: str
@@ -254,7 +254,7 @@ BLANKS = ' \t\r\n'
 
 @dataclass
 class Trace:
-    """A whole trace. One of version 1 has no profile: its directory operations are in the order of
+    """A whole trace. One of version 1 has no profile: its directory operations are ordered as in
     `blocks`. notes has the notes of operations, by their places from 0; only lines of version 3 and
     later have them. What an operation needs isn't checked here."""
 
@@ -290,9 +290,9 @@ class Trace:
         return values
 
     def operation_values(self, place: int, operation: Operation) -> Dict[str, Any]:
-        """The keys and values of the line of the operation at a place, from 0. A version that has
-        no fdatasync has, in its place, a sync of the bytes of the whole file; versions before 3
-        leave notes out."""
+        """The keys and values of the line of the operation at a place, from 0. In versions without
+        fdatasync, that is written as a sync of the bytes of the whole file; versions before 3 leave
+        notes out."""
         if self.version < SINCE[Fdatasync] and isinstance(operation, Fdatasync):
             operation = FsyncRange(operation.path, 0, limits.FILE_BYTES)
         values = {'op': KIND_OF[type(operation)], **values_of(operation, self.version)}

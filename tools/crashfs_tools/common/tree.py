@@ -105,7 +105,8 @@ class Tree:
 
     def fault(self, operation: Operation) -> Optional[str]:
         """Why the trace can't have this operation here, in words, or None if it can. Nothing is
-        changed. A say or a sync is always possible: the bytes of a say aren't counted."""
+        changed. A say or a sync is always possible: the bytes of a say aren't counted. That the
+        root can't be removed or renamed isn't noticed: callers see to it."""
         if isinstance(operation, (Creat, Mkdir, Symlink)):
             return self.new_fault(operation.path)
         if isinstance(operation, Rename):
@@ -271,7 +272,7 @@ class Tree:
 
     def apply_write(self, operation: Write) -> int:
         """Writes bytes, and returns how many micro-operations that is in all versions; 0 if there
-        are none. One more of version 4 is counted by itself."""
+        are none. The one that only version 4 has is counted in steps_of_version_4."""
         entry = self.entries[operation.path]
         size = len(entry.data or b'')
         if not operation.data:
@@ -283,7 +284,7 @@ class Tree:
 
     def apply_truncate(self, operation: Truncate) -> int:
         """Sets a length, and returns how many micro-operations that is in all versions; 0 if the
-        file has it. The zeros of version 4 are counted by themselves."""
+        file has it. The zeros that only version 4 has are counted in steps_of_version_4."""
         entry, length = self.entries[operation.path], operation.length
         size = len(entry.data or b'')
         entry.resize(length)

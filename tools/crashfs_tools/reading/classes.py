@@ -121,12 +121,12 @@ class Classes:
         assert isinstance(operation, Acknowledgement)
         return found._replace(says=found.says + 1)
 
-    def names_after(self, names: int, place: int, operation: Micro) -> int:
-        """The number of the Names that the micro-operation at `place` makes of those with the
-        number `names`, which stay as they are. It must change entries or a directory's rights."""
-        key = names, place
+    def names_after(self, number: int, place: int, operation: Micro) -> int:
+        """The number of the Names that the micro-operation at `place` makes of those with this
+        number, which stay as they are. It must change entries or a directory's rights."""
+        key = number, place
         if key not in self._renamed:
-            changed = dict(self.names[names])
+            changed = dict(self.names[number])
             self.change_names(changed, operation)
             self.change_directories(changed, operation)
             self._renamed[key] = self.number_of_names(changed)
@@ -172,18 +172,17 @@ class Classes:
             self.names.append(names)
         return self.numbers[key]
 
-    def is_named(self, names: int, file: int) -> bool:
-        """Whether a file has an entry; both the file and the Names to look in are given by their
-        numbers."""
-        key = names, file
+    def is_named(self, number: int, file: int) -> bool:
+        """Whether a file, given by its number, has an entry by the Names with this number."""
+        key = number, file
         if key not in self._named:
-            self._named[key] = any(True for _ in self.entries_of(names, file))
+            self._named[key] = any(True for _ in self.entries_of(number, file))
         return self._named[key]
 
-    def entries_of(self, names: int, file: int) -> Iterator[Entry]:
-        """The entries that hold a file, in no order; both the file and the Names to look in are
-        given by their numbers."""
-        changed = self.names[names]
+    def entries_of(self, number: int, file: int) -> Iterator[Entry]:
+        """The entries that hold a file, given by its number, by the Names with this number; in no
+        order."""
+        changed = self.names[number]
         yield from (entry for entry in self.start_entries.get(file, []) if entry not in changed)
         for entry, node in changed.items():
             if isinstance(entry, tuple) and isinstance(node, Inode):

@@ -39,7 +39,9 @@ class Contents:
         """The number of the content with which a file, given by its number, is made. One that an
         operation makes is empty, unless it is a symbolic link."""
         data = self.reading.made_data.get(file, Data(self.reading.block_size))
-        blocks = tuple((it, self.block_number(data.blocks[it])) for it in sorted(data.blocks))
+        blocks = tuple(
+            (block, self.block_number(data.blocks[block])) for block in sorted(data.blocks)
+        )
         return self.number_of(Content(self.reading.made_rights[file], data.length, blocks))
 
     def number_of(self, content: Content) -> int:
@@ -89,7 +91,7 @@ class Contents:
         """The blocks of a content without the bytes past a length; a block of which only zeros are
         left is left out."""
         full, rest = divmod(length, self.reading.block_size)
-        kept = [(it, number) for it, number in blocks if it < full]
+        kept = [(block, number) for block, number in blocks if block < full]
         number = dict(blocks).get(full, ZEROS)
         last = self.block_number(self.blocks[number][:rest].rstrip(b'\0'))
         return (*kept, (full, last)) if last != ZEROS else tuple(kept)
@@ -110,8 +112,8 @@ class Contents:
         """The number of a content, given by its number, without the bytes past its size, which no
         reader sees."""
         if content not in self._shown:
-            it = self.contents[content]
+            whole = self.contents[content]
             self._shown[content] = self.number_of(
-                it._replace(blocks=self.cut_blocks(it.blocks, it.size))
+                whole._replace(blocks=self.cut_blocks(whole.blocks, whole.size))
             )
         return self._shown[content]

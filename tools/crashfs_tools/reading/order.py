@@ -265,7 +265,9 @@ class Profiles:
     profile, which divides renames in halves or doesn't."""
 
     def __init__(self, reading: Reading) -> None:
-        self.orders: Dict[str, Order] = {it: Order(reading, it) for it in profile_names(reading)}
+        self.orders: Dict[str, Order] = {
+            name: Order(reading, name) for name in profile_names(reading)
+        }
         self.halves = half_places(reading.operations)
 
     def names(self, places: int) -> List[str]:

@@ -29,7 +29,7 @@ class Usage(Exception):
 def refuse_options(options: Options) -> None:
     """Usage unless exactly one of --every, --sample and the families (--lost and --files) is asked
     for, the options go together, and their values are in range."""
-    families = [it for it in ('--every', '--sample') if it in options]
+    families = [option for option in ('--every', '--sample') if option in options]
     families += ['--lost'] if {'--lost', '--files'} & options.keys() else []
     if len(families) != 1:
         raise Usage('one of --every, --sample, --lost and --files is needed')
@@ -96,7 +96,7 @@ def sets_of(reading: Reading, options: Options) -> Iterator[List[int]]:
     families = [lost_sets(plan)] if '--lost' in options else []
     families += [file_sets(plan)] if '--files' in options else []
     # A set of both families is printed twice.
-    return (it for family in families for it in different_places(family))
+    return (places for family in families for places in different_places(family))
 
 
 def every_members(reading: Reading, options: Options) -> Iterator[List[int]]:
