@@ -12,10 +12,11 @@ from .recording import Recording
 
 class LateStart:
     """Begins the trace again after the acknowledged line that is wanted: the line of a number, from
-    1, or the first one that a pattern matches. To count them it becomes the recording's
-    on_acknowledged. has_begun is False until that line comes."""
+    1, or the first one that a pattern matches. has_begun is False until that line comes."""
 
     def __init__(self, recording: Recording, wanted: str) -> None:
+        """Becomes the recording's on_acknowledged, to count its lines. `wanted` is a number if it
+        has only digits, else a pattern of fnmatch."""
         self.recording, self.wanted = recording, wanted
         self.count = 0
         self.has_begun = False

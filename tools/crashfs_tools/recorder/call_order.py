@@ -97,10 +97,11 @@ def moment_of(call: Call) -> Moment:
 
 
 class ChangeIndex:
-    """The changes of a log, in its order. Most are one line, and are found by a binary search;
-    those that take longer are all looked at."""
+    """The changes of a log. Most are one line, and are found by a binary search; those that take
+    longer are all looked at."""
 
     def __init__(self, changes: List[Call]) -> None:
+        """The changes are given in the order of the log's lines, which the search needs."""
         self.long = [call for call in changes if call.begin != call.end]
         self.short = [call for call in changes if call.begin == call.end]
         self.lines = [call.begin for call in self.short]

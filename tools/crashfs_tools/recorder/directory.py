@@ -66,6 +66,8 @@ class Scanner:
     names, and unseen how many of its names were not found yet."""
 
     def __init__(self, top: str, ignored: Ignored, version: int) -> None:
+        """Reads the owner, group and mode of the directory itself; its entries are read by
+        scan_all(). OSError if it isn't there."""
         self.top, self.ignored, self.version = top, ignored, version
         status = os.stat(top)
         self.found = Scan(

@@ -119,10 +119,12 @@ def regex_of_item(glob: str, item: re.Match[str]) -> str:
 
 class Ignore:
     """All patterns. The last that matches a path decides, and what is below an ignored directory is
-    ignored, too. top is the directory on the disk, to see which paths are files; without it,
-    patterns of directories match all paths. ValueError for a pattern that has no meaning."""
+    ignored, too."""
 
     def __init__(self, globs: List[str], top: Optional[str] = None) -> None:
+        """Reads the patterns; ValueError for one that never matches in git. top is the directory on
+        the disk, to see which paths are files; without it, patterns of directories match all
+        paths."""
         self.rules = [Rule.of_glob(glob) for glob in globs]
         self.top = top
         self.known: dict[str, bool] = {}

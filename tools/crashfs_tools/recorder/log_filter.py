@@ -43,6 +43,8 @@ class LogFilter:
     are read. The same number counts for all processes."""
 
     def __init__(self, top: bytes, descriptors: Iterable[int] = ()) -> None:
+        """top is the directory's path as the calls have it. These descriptors, and the standard
+        ones, are needed from the beginning."""
         self.top = ''.join(f'\\x{byte:02x}' for byte in top.rstrip(b'/') or b'/')
         self.descriptors: Set[int] = {0, 1, 2, *descriptors}
         self.has_mapped = False

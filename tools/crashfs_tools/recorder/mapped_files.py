@@ -84,6 +84,7 @@ class MappedFiles:
     descriptor. last has their bytes in the newest copy of each."""
 
     def __init__(self, top: str, ignored: Ignored) -> None:
+        """Opens nothing yet. top is the directory's path as the calls have it."""
         self.top, self.ignored = top, ignored
         self.copies = FileCopies()
         self.inodes: Dict[Tuple[int, int], int] = {}
@@ -135,8 +136,8 @@ class MappedFiles:
         self.copies.taken.append(FileCopy(line, process, is_alone, changed, shared))
 
     def mapped_by(self, processes: Iterable[int]) -> Set[int]:
-        """The numbers of the files that these processes may have mapped. They are rather too many:
-        a file counts by its inode, whatever its device, and all files do if a process doesn't show
+        """The numbers of the files that these processes may have mapped. There may be too many: a
+        file counts by its inode, whatever its device, and all files do if a process doesn't show
         what it has mapped."""
         mapped: Set[str] = set()
         for process in processes:

@@ -22,6 +22,7 @@ class PipeLines:
     """Reads a pipe line by line. With `gathers` it sleeps after a read that found little."""
 
     def __init__(self, descriptor: int, gathers: bool = False) -> None:
+        """Reads nothing yet. The descriptor isn't closed here, also at its end."""
         self.descriptor = descriptor
         self.gathers = gathers
         self.ready: Deque[str] = deque()

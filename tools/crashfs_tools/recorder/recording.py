@@ -102,6 +102,7 @@ class Recording:
     was begun again by --begin-after."""
 
     def __init__(self, header: Header, settings: TraceSettings) -> None:
+        """Begins a trace that has only the header, and the streams that the settings ask for."""
         self.settings = settings
         self.begin_trace(header)
         self.streams = OutputStreams(settings.acknowledged, settings.each)

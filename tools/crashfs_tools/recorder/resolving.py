@@ -16,6 +16,7 @@ class Resolver:
     paths there; outside those of all others, by their whole paths."""
 
     def __init__(self, top: str, inside: TargetOf, outside: TargetOf) -> None:
+        """top is the whole path of the directory, in which no symbolic link is."""
         self.top = top
         self.inside, self.outside = inside, outside
         self.known: dict[str, Optional[str]] = {}

@@ -92,6 +92,7 @@ class LogReader:
     Lines that a filter finds needless are left out."""
 
     def __init__(self, line_filter: Optional[LogFilter] = None) -> None:
+        """Begins an empty log. Without a filter all lines are read."""
         self.log = Log()
         self.filter = line_filter
         self.waiting: Dict[str, InterruptedCall] = {}

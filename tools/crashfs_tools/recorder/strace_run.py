@@ -89,6 +89,8 @@ class StraceRun:
     def __init__(
         self, line: List[str], options: RecordOptions, stream: LogStream, guard: Guard
     ) -> None:
+        """Starts nothing yet. `line` are the words that start strace, stream reads its log, and
+        guard has the environment that COMMAND and all its processes get."""
         self.line, self.options, self.stream, self.guard = line, options, stream, guard
         self.stops: List[int] = []
         self.first_stop = 0.0

@@ -43,6 +43,8 @@ class Translator:
     Without --mapped there are no copies."""
 
     def __init__(self, files: LiveFiles, log: Log, copies: Optional[FileCopies] = None) -> None:
+        """Notes the forks of the log, and translates nothing yet. copies is None without
+        --mapped."""
         self.files = files
         self.recording = files.recording
         self.log = log

@@ -1,4 +1,5 @@
-"""Calls that read, write and truncate. Each `on_NAME` translates a call NAME that has returned."""
+"""Calls that read, write and truncate. Each `on_NAME` translates a call NAME that has returned; one
+on a file that isn't followed changes nothing."""
 
 from __future__ import annotations
 

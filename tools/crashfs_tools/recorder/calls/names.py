@@ -1,5 +1,5 @@
 """Calls that make, rename and remove names. Each `on_NAME` translates a call NAME that has
-returned."""
+returned. Names outside the directory, and ignored ones, aren't followed."""
 
 from __future__ import annotations
 

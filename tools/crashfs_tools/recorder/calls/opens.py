@@ -1,4 +1,5 @@
-"""Calls that open, close and duplicate. Each `on_NAME` translates a call NAME that has returned."""
+"""Calls that open, close and duplicate. Each `on_NAME` translates a call NAME that has returned;
+descriptors of files elsewhere aren't followed."""
 
 from __future__ import annotations
 

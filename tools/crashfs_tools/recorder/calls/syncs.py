@@ -1,4 +1,5 @@
-"""Calls that sync, and that map files. Each `on_NAME` translates a call NAME that has returned."""
+"""Calls that sync, and that map files. Each `on_NAME` translates a call NAME that has returned; one
+on a file that isn't followed changes nothing."""
 
 from __future__ import annotations
 
