@@ -41,7 +41,7 @@ def crates_below(uses: Dict[str, List[str]], name: str) -> Set[str]:
 
 def libraries() -> Dict[str, List[str]]:
     """Each crate of ours that the program uses, directly or not, with those of ours that it uses
-    directly, in no order. The program isn't among them."""
+    directly; in no particular order. The program isn't among them."""
     uses = uses_by_crate((TOP / 'crates.txt').read_text())
     own = {name: [it for it in its if it in uses] for name, its in uses.items()}
     return {name: own[name] for name in crates_below(own, PROGRAM)}

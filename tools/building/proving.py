@@ -65,7 +65,8 @@ def prove_in(copy: Path, work: Work, begun: float) -> None:
 
 def build_program(work: Work, begun: float) -> int:
     """Builds the program in the repository itself, over libraries that are all proved, which it
-    copies there first. Returns the status: 0, or 1 if it isn't built, after what `rt` printed."""
+    copies there first. Returns the status: 0, or 1 if it isn't built; what `rt` printed is printed
+    then."""
     for name, place in work.places.items():
         give_library(place, TOP, name)
     words = ['rt', 'run', '--jobs', '1', '--', '--help']

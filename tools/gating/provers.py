@@ -28,8 +28,7 @@ class Prover:
 
 def kind_of_work(words: List[str], folder: str) -> str:
     """What a prover with these arguments works on in this folder: `tests`, `programs`, `edits` or
-    `proof`, one of KINDS of the times. An edit is tried in a copy of its crate, which isn't below a
-    folder `crates`."""
+    `proof`. An edit is tried in a copy of its crate, which isn't below a folder `crates`."""
     if '--test' in words:
         return 'tests'
     if '--crate-checked' in words:
@@ -78,8 +77,8 @@ def prover_of(process: Path) -> Optional[Prover]:
 
 
 def ancestors(number: int, parents: Dict[int, int]) -> Iterator[int]:
-    """A process, the one that started it, and so on upwards, as far as `parents` has them. It has
-    the parent of each process by number."""
+    """A process, the one that started it, and so on upwards. `parents` has the parent of each known
+    process by number: the first that it doesn't have isn't among them."""
     while number in parents:
         yield number
         number = parents[number]

@@ -27,8 +27,8 @@ def made_files() -> Dict[Path, str]:
 
 
 def older_files(made: Optional[Dict[Path, str]] = None) -> List[Path]:
-    """Which of these files, given with their texts, are missing or have another text, in their
-    order. By default all files that are made from the sources."""
+    """The files of `made` that are missing, or that have another text than it gives them; in its
+    order. By default it has all files that are made from the sources."""
     return [
         path
         for path, text in (made_files() if made is None else made).items()

@@ -14,8 +14,8 @@ from .programs import Programs, start_program
 
 
 def processor_halves() -> Tuple[List[int], List[int]]:
-    """The processors for servers, then those for clients: half of this process's each. Of an odd
-    number the clients have one more; a single one is for both."""
+    """The processors for servers, then those for clients: half of those that this process may use
+    each. Of an odd number the clients have one more; a single one is for both."""
     cpus = sorted(os.sched_getaffinity(0))
     half = len(cpus) // 2
     return cpus[:half] or cpus, cpus[half:]

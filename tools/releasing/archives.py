@@ -98,7 +98,8 @@ def write_tarball(path: Path, items: Items, seconds: int) -> None:
 
 def write_below(folder: Path, items: Items, seconds: int) -> None:
     """Writes items below a folder of the disk, each with that time, and makes the folders that they
-    need, which keep the time of now. OSError if a link is there already; a file is replaced."""
+    need, whose times aren't set. A file that is there is replaced; OSError if a link is there
+    already."""
     for name, item in items.items():
         path = folder / name
         path.parent.mkdir(parents=True, exist_ok=True)

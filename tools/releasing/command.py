@@ -112,7 +112,7 @@ def write_release(provenance: Provenance, objects: Path, into: Path) -> None:
 
 
 def make_parser() -> argparse.ArgumentParser:
-    """The parser of the command line; what it accepts needn't exist."""
+    """The parser of the command line. It doesn't look whether the files that are named exist."""
     parser = argparse.ArgumentParser(
         prog='release', description=ABOUT, formatter_class=argparse.RawDescriptionHelpFormatter
     )

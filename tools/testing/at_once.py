@@ -47,7 +47,7 @@ class Progress:
         self.is_over = threading.Event()
 
     def text(self) -> str:
-        """The line: how many parts are done, since when, and which run now."""
+        """The line: how many parts are done, after how many seconds, and which run now."""
         running = ', '.join(sorted(self.running))
         seconds = time.monotonic() - self.begin
         return f'{self.done} of {len(self.names)} done after {seconds:.0f} s; running: {running}'

@@ -20,7 +20,7 @@ COLUMNS = 100
 
 def verdict_line(book: Book) -> str:
     """The first line of the report: how many sessions were tried, how many different failures they
-    have, and how many sessions have no verdict, unless it is none."""
+    have, and how many of them have no verdict, if there are such."""
     entries = len(book.entries)
     verdict = 'none fails' if not entries else f'{entries} different failures'
     if entries == 1:
@@ -41,8 +41,8 @@ def length_text(entry: KnownFailure) -> str:
 
 
 def state_command(options: CampaignOptions, entry: KnownFailure) -> str:
-    """The command, quoted for a shell, that lays out the failing state of the kept trace which is
-    the failure's example."""
+    """The command, quoted for a shell, that lays out the failure's example: a failing state of the
+    kept trace."""
     trace = os.path.join(options.results, entry.trace)
     words = ['crashfs-check', *options.check, '--state', str(entry.failure.example), trace, '--']
     return shlex.join([*words, *options.recovery])
