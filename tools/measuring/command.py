@@ -35,7 +35,7 @@ NEEDED = {'serve_bench': ['serve_bench', 'crashfs'], 'memory': ['crashfs'], 'sta
 
 def parsed_words(given: Optional[List[str]]) -> argparse.Namespace:
     """The words after `measure`, but for `disks` and `stores`, which parse their own; wrong ones
-    end the program with status 2. Whether a benchmark has a name isn't looked at here."""
+    end the program with status 2. Only main() looks whether the names are of benchmarks."""
     parser = argparse.ArgumentParser(
         prog='measure', description=__doc__, formatter_class=argparse.RawDescriptionHelpFormatter
     )

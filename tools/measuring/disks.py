@@ -35,8 +35,8 @@ Task = Tuple[str, int]
 
 
 def parsed_words(given: List[str]) -> argparse.Namespace:
-    """The words after `measure disks`; wrong ones end the program with status 2. Whether a file
-    system is known isn't looked at here."""
+    """The words after `measure disks`; wrong ones end the program with status 2. Only refusal()
+    looks whether the file systems are known."""
     parser = argparse.ArgumentParser(
         prog='measure disks',
         description=__doc__,

@@ -93,7 +93,7 @@ def sessions(names: List[str]) -> List[Session]:
 
 def version_of(package: str) -> str:
     """The version of an installed Debian package, without what Debian adds: `1.23` for `1:1.23-4`
-    or `1.23+dfsg1-4`. Empty if it is not installed."""
+    or `1.23+dfsg1-4`. Empty if it is not installed; OSError if there is no dpkg-query."""
     words = ['dpkg-query', '-W', '-f', '${Status} ${Version}', package]
     ran = subprocess.run(words, stdout=subprocess.PIPE, stderr=subprocess.DEVNULL, check=False)
     status, _, version = ran.stdout.decode().rpartition(' ')
@@ -114,8 +114,8 @@ class Check:
 
     def row(self) -> Dict[str, Any]:
         """Makes the session's trace, checks it, and returns its row, with the version of its
-        package. With a time limit the disks have a second check, and the row has only the disks of
-        that. NoResult if a package is missing, or there is no trace or no report."""
+        package. With a time limit the disks have a second check, and what the row says of disks is
+        from that. NoResult if a package is missing, or there is no trace or no report."""
         missing = self.session.missing_packages()
         if missing:
             raise NoResult(f'not installed: {", ".join(missing)}')
