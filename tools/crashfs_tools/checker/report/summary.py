@@ -156,7 +156,8 @@ def time_text(counts: StateCounts, states: int, at_least: str = '') -> str:
 
 def drawn_text(counts: StateCounts) -> str:
     """How many of the sets that were drawn at random fail; if none does, which share of all sets
-    may fail at most, with the probability CONFIDENCE. At least one must have been tried."""
+    may fail at most, with the probability CONFIDENCE. At least one must have been tried. Sets
+    without an answer count as drawn and as not failing."""
     drawn, fail = len(counts.drawn), sum(counts.drawn)
     if fail:
         return f'{fail:,} of {drawn:,} drawn at random {fails(fail)}'

@@ -117,8 +117,8 @@ class Planner:
 
     def with_profiles(self, plan: Plan, read: ReadSets, every: AllStates) -> Plan:
         """The plan with `every` as its all_states, and with the profiles of its sets: those that
-        the program printed, or else those by the second reading. Refused if the trace has no
-        profile that --in names."""
+        the program printed, whose names must be in the order of the second reading's, or else those
+        by the second reading. Refused if the trace has no profile that --in names."""
         names, of_sets = tuple(read.orders), plan.profiles.of_sets
         if not of_sets:
             of_sets = tuple(read.profile_bits_of(plan.kept[one.number] for one in plan.listed))
