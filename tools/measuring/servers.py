@@ -74,8 +74,8 @@ def serve_words(programs: Programs, address: str, connections: int) -> List[str]
 
 
 def resident_bytes(server: subprocess.Popen[str]) -> int:
-    """How many bytes a server has in memory: VmRSS of proc(5). 0 if it has ended; OSError if it was
-    waited for, too."""
+    """How many bytes a server has in memory: VmRSS of proc(5). If it has ended: 0, or OSError if it
+    was waited for, too."""
     for line in Path(f'/proc/{server.pid}/status').read_text().splitlines():
         if line.startswith('VmRSS:'):
             return int(line.split()[1]) * 1024

@@ -16,8 +16,9 @@ class LinkFault(Exception):
 
 
 def kit_folder() -> Path:
-    """The toolchain's folder: that of the page which `rt doc` names, or, if it names none that is
-    there, the one above that of `rt`. LinkFault if there is no `rt` on PATH."""
+    """The toolchain's folder: that of the page which `rt doc` names, or, if there is no such page,
+    the one above the folder that has `rt` itself, links followed. LinkFault if there is no `rt` on
+    PATH."""
     command = shutil.which('rt')
     if command is None:
         raise LinkFault('rt: not found on PATH')
