@@ -69,8 +69,8 @@ def path_of(path: Optional[PathLike]) -> Optional[str]:
 
 
 def set_recovery(options: Options, recovery: Union[RecoveryOf, Sequence[str]]) -> None:
-    """Sets COMMAND in the options to a list of words, or to a text, which is one program; or their
-    function to a recovery that gets its directory as a Path. Refused for a function with the
+    """Writes a recovery into the options: a list of words, or a text that is one program, as
+    COMMAND; a function as one that gets its directory as a Path. Refused for a function with the
     options nested or cache, which need a command."""
     if isinstance(recovery, Sequence):
         options.command = [recovery] if isinstance(recovery, str) else list(recovery)

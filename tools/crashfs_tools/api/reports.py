@@ -117,8 +117,8 @@ class Report:
 
     def write_json(self, path: PathLike) -> None:
         """Writes the entries for other tools, in the format of --json. The outcomes of the states,
-        which that file has as `windows`, aren't kept: --merge and --resume don't take it. An
-        OSError if it can't be written: then the file is as it was."""
+        which that file has as `windows`, aren't kept: --merge and --resume refuse it. An OSError if
+        it can't be written: then the file is as it was."""
         from crashfs_tools.checker.report.json_report import json_pieces
 
         self._write(path, json_pieces)

@@ -38,8 +38,8 @@ class Descriptor:
 
 
 def split_arguments(text: str) -> List[str]:
-    """The arguments of a call, from the text between its brackets: it is split at the commas that
-    are in no brackets or text of their own. An empty text is one empty argument."""
+    """The arguments of a call, from the text between its brackets: it is split at the commas
+    outside of inner brackets and texts. An empty text is one empty argument."""
     words, depth, last = [], 0, 0
     match = SIGN.search(text)
     while match:

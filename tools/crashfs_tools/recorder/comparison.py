@@ -104,7 +104,8 @@ def is_below(path: str, known: Set[str]) -> bool:
 
 def entry_differences(real: Entry, traced: Entry) -> List[str]:
     """How an entry at the end differs from that of the trace, a sentence for each difference; empty
-    if it doesn't. Of different kinds, or of links, nothing else is compared."""
+    if it doesn't. Of different kinds, and of links to different targets, nothing else is
+    compared."""
     if kind_text(real) != kind_text(traced):
         return [f'it is {kind_text(real)} at the end, and {kind_text(traced)} in the trace']
     if real.link != traced.link:
@@ -146,8 +147,8 @@ def lines_on_links(directory: Scan, last: Tree, reported: Iterable[str]) -> List
 
 def lines_on_attributes(before: Scan, now: Scan, troubles: List[Trouble]) -> List[str]:
     """A line for each path whose extended attributes changed during the session, and for what a
-    scan notes at the end and didn't before, but for mode bits. Nothing of a path of which something
-    was reported."""
+    scan notes at the end and didn't before, but for mode bits. None of a path of which something
+    was reported or noted."""
     reported = {trouble.where for trouble in troubles}
     changed = [
         path

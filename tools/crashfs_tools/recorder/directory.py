@@ -22,9 +22,9 @@ NEWEST = 4
 
 @dataclass
 class Scan:
-    """The entries of a directory, each after its own directory. links gives the first path of a
-    file that has several; left_out and noted have (path, why), and noted changes no verdict;
-    attributes has the extended ones of each path that has some."""
+    """The entries of a directory, each after its own directory. links gives, for each further path
+    of a file, its first one; left_out and noted have (path, why), and what is noted changes no
+    verdict; attributes has the extended ones of each path that has some."""
 
     header: Header
     entries: List[ScannedEntry] = field(default_factory=list)

@@ -66,7 +66,7 @@ def regex_of(glob: str) -> str:
 def read_piece(glob: str, place: int) -> Tuple[str, int]:
     """What begins at a place of a pattern, as a regular expression, and the place after it. `?` and
     sets match no slash; a backslash makes the next letter an ordinary one. ValueError for a
-    backslash at the end, and as read_set raises it."""
+    backslash at the end; it also raises what read_set() does."""
     if glob[place] == '*':
         return read_stars(glob, place)
     if glob[place] == '[':

@@ -150,7 +150,7 @@ class LiveFiles:
     def relative_path(self, path: str, follows: bool = False) -> Optional[str]:
         """The path below the directory, as the trace has it, that a whole path leads to. None if
         that is outside the directory or ignored, or if the path goes through too many symbolic
-        links. One at its end is followed only if `follows`."""
+        links. A link at its end is followed only if `follows`."""
         below = self.resolver.path_below(self.resolver.resolve(path, follows))
         return None if below is None or self.ignored(below) else below
 
@@ -271,7 +271,7 @@ class LiveFiles:
             node.traced_paths.add(path)
 
     def write_by_call(self, node: Node, offset: int, data: bytes, floats: object = None) -> None:
-        """Writes bytes of the current call; of no bytes it does nothing. floats is what gave them
+        """Writes the current call's bytes; without bytes it does nothing. floats is what gave them
         their place, as in Change. Reports that two calls changed the file at once, if their order
         decides its bytes."""
         if not data:
@@ -295,7 +295,7 @@ class LiveFiles:
 
     def zero_by_call(self, node: Node, begin: int, end: int) -> None:
         """Writes zeros to a range, as the current call does. If the range ends past FILE_BYTES,
-        only pages that have data are written, and a new length is set by itself."""
+        only pages that have data are written, and a new length is set separately."""
         if node.data is None or end <= limits.FILE_BYTES:
             self.write_by_call(node, begin, bytes(max(0, end - begin)))
             return

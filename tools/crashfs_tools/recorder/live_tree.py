@@ -138,7 +138,7 @@ class LiveTree:
         return None if path is None else self.nodes.get(path)
 
     def add_name(self, path: str, node: Node) -> None:
-        """Gives a node a name, which it may have in addition to others."""
+        """Gives a node a name, which must be free; it may have others."""
         self.nodes[path] = node
         node.names.add(path)
 

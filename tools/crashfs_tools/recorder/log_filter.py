@@ -50,9 +50,9 @@ class LogFilter:
         self.has_mapped = False
 
     def is_needless(self, line: str) -> bool:
-        """Whether a line, of a whole call or of the beginning of one, needs no reading: it is on a
-        descriptor that isn't needed, or on memory before a file of the directory was mapped. Any
-        other line is read."""
+        """Whether a line, of a whole call or of the beginning of one, needs no reading: the call is
+        on a descriptor that isn't needed, or on mappings while no file of the directory is mapped.
+        Any other line is read."""
         match = HEAD.match(line)
         if match is None:
             return False
@@ -81,9 +81,9 @@ class LogFilter:
                 self.descriptors.add(int(result[1]))
 
     def makes_needed_descriptor(self, line: str, shown: Optional[str]) -> bool:
-        """Whether the descriptor that a line's call made may be of the directory or of a stream: by
-        what strace shows for it, which may be nothing, or by a path that means another
-        descriptor."""
+        """Whether the descriptor that a line's call made may be of the directory or of a stream. It
+        may if strace shows nothing for it, or a path of the directory, or if the line has a path
+        such as /dev/fd/3."""
         if shown is None or self.top in shown:
             return True
         return any(path in line for path in OF_DESCRIPTORS)

@@ -144,8 +144,8 @@ def target_on_disk(path: str) -> Optional[str]:
 
 def record(options: RecordOptions) -> int:
     """Records a session, writes the trace, prints the summary, and returns the status. Refused,
-    LogError, Stopped or an OSError come before the trace is written. Of a later error, a signal
-    among them, a line is printed, and the status is NOT_WHOLE."""
+    LogError, Stopped or an OSError come before the trace is written. If an error or a signal comes
+    later, a line is printed, and the status is NOT_WHOLE."""
     prepare_options(options)
     Crashfs.find(options.crashfs)
     before = scan_directory(options.directory, options.ignored, options.version or NEWEST)

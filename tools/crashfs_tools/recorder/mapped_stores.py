@@ -49,8 +49,8 @@ def copies_by_call(
 def add_stores(files: LiveFiles, node: Node, data: Bytes, is_sure: bool) -> None:
     """Adds the stores that a copy of a mapped file shows: a write, for each page that differs, of
     what differs in it. is_sure says that no other process or thread can have made them; else that
-    is reported. A copy of another length is reported only. Nothing if the file's bytes aren't
-    followed."""
+    is reported. A copy whose length isn't the file's is only reported. Nothing if the file's bytes
+    aren't followed."""
     if node.data is None:
         return
     if len(data) != node.size:

@@ -137,7 +137,7 @@ class OutputStreams:
 
     def add_connection(self, text: Optional[str]) -> None:
         """Makes a connection that COMMAND accepted a stream, if --say-fd asks for connections.
-        `text` is what strace shows for it; a connection of None is left out."""
+        `text` is what strace shows for it; if it shows nothing (None), it is left out."""
         if SOCKETS in self.acknowledged and text is not None:
             each = SayEach.LINE if text in self.with_lines else SayEach.WRITE
             self.by_text[text] = OutputStream('a socket', True, self.each or each)

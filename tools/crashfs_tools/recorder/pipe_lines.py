@@ -22,7 +22,7 @@ class PipeLines:
     """Reads a pipe line by line. With `gathers` it sleeps after a read that found little."""
 
     def __init__(self, descriptor: int, gathers: bool = False) -> None:
-        """Reads nothing yet. The descriptor isn't closed here, also at its end."""
+        """Reads nothing yet. The caller closes the descriptor."""
         self.descriptor = descriptor
         self.gathers = gathers
         self.ready: Deque[str] = deque()
@@ -32,7 +32,7 @@ class PipeLines:
 
     def next_line(self, seconds: Optional[float] = None) -> Optional[str]:
         """The next line, with its end; the last one may have none. None at the pipe's end, or if no
-        bytes come within so many seconds; without these it waits."""
+        bytes come within so many seconds; if these are None, it waits without a limit."""
         while not self.ready and not self.has_ended:
             if seconds is not None:
                 if not select.select([self.descriptor], [], [], seconds)[0]:

@@ -41,8 +41,8 @@ class Descriptors:
     closed_by_exec: Set[int] = field(default_factory=set)
 
     def set_file(self, number: int, file: Optional[OpenFile], closed_by_exec: bool) -> None:
-        """Gives a descriptor that a call made its file, in the place of an older one. None is a
-        file outside the directory: the descriptor isn't followed."""
+        """Sets the file of a descriptor that a call made, in the place of an older one. A file that
+        is None is outside the directory: the descriptor isn't followed."""
         self.close(number)
         if file is not None:
             self.files[number] = file
@@ -74,7 +74,7 @@ class PathContext:
     umask: int
 
     def copy(self) -> PathContext:
-        """The same directory and umask, to be changed without those of others."""
+        """A copy of the directory and umask, which changes by itself."""
         return PathContext(self.directory, self.umask)
 
 

@@ -138,14 +138,14 @@ class Recording:
         return True
 
     def report(self, what: str, where: str, is_note: bool = False) -> None:
-        """Adds a trouble: what the trace doesn't have, and the path or stream of which that is so.
-        It notes the last line that the trace has now, or none if no call is translated; of a known
-        trouble it adds only that line. is_note: it changes no verdict on a crash state."""
+        """Adds a trouble: what the trace doesn't have, and of which path or stream. It notes the
+        last line that the trace has now, or none if no call is translated; of a known trouble it
+        adds only that line. is_note: it changes no verdict on a crash state."""
         line = self.trace.line_of_operation(len(self.trace.operations)) - 1
         self.troubles.add(what, where, None if self.call is None else line, is_note)
 
     def report_note(self, what: str, where: str) -> None:
-        """As report(), of what no trace has and what can't make a crash state good or bad."""
+        """As report(), for what no trace has and what can't make a crash state good or bad."""
         self.report(what, where, is_note=True)
 
     def raise_version_for(self, reason: str) -> bool:

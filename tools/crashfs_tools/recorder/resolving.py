@@ -16,7 +16,7 @@ class Resolver:
     paths there; outside those of all others, by their whole paths."""
 
     def __init__(self, top: str, inside: TargetOf, outside: TargetOf) -> None:
-        """top is the whole path of the directory, in which no symbolic link is."""
+        """top is the whole path of the directory, without symbolic links in it."""
         self.top = top
         self.inside, self.outside = inside, outside
         self.known: dict[str, Optional[str]] = {}
@@ -30,9 +30,9 @@ class Resolver:
         return path[len(prefix) :] if path.startswith(prefix + '/') else None
 
     def resolve(self, path: str, follows: bool) -> Optional[str]:
-        """The whole path that a whole path leads to, without symbolic links and `..`; nothing need
-        be there. None if it goes through more than MOST_LINKS links. `follows`, or a slash at its
-        end, says that a link at its end is followed."""
+        """The whole path that a whole path leads to, without symbolic links and `..`; it need not
+        exist. None if it goes through more than MOST_LINKS links. `follows`, or a slash at its end,
+        says that a link at its end is followed."""
         follows = follows or path.endswith('/')
         here, left = '/', names_in_reverse(path)
         # The directory's own path has none.

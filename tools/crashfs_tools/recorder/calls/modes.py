@@ -110,8 +110,8 @@ def on_attribute(files: LiveFiles, process: Process, call: Call) -> None:
 
 
 def attribute_node(files: LiveFiles, process: Process, call: Call) -> Optional[Node]:
-    """The file whose extended attributes a call changes, by a descriptor (f..) or a path, where l..
-    means a symbolic link itself. None if it isn't followed."""
+    """The file whose extended attributes a call changes, by a descriptor (fsetxattr) or a path;
+    lsetxattr and lremovexattr mean a symbolic link itself. None if it isn't followed."""
     if not call.name.startswith('f'):
         return files.node_argument(process, call, 0, not call.name.startswith('l'))
     file = files.open_file(process, call)

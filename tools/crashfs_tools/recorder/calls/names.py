@@ -182,8 +182,8 @@ def exchange_names(files: LiveFiles, source: str, target: str) -> None:
 
 
 def rename_file(files: LiveFiles, source: str, target: str, node: Node) -> None:
-    """Moves a file or directory within the recorded directory, also in the place of what has the
-    name; in the trace too, if that has it. If the trace lacks it, that is reported."""
+    """Moves a file or directory within the recorded directory, in the trace too if that has it.
+    What has the target's name is replaced. If the trace lacks the file, that is reported."""
     if target in files.tree.nodes:
         replace_name(files, files.tree.remove_name(target), target)
     files.tree.move_node(source, target)

@@ -39,7 +39,7 @@ def on_openat2(files: LiveFiles, process: Process, call: Call) -> None:
 
 
 def on_creat(files: LiveFiles, process: Process, call: Call) -> None:
-    """Opens a path as open does with CREAT_FLAGS: makes the file, or cuts it to no bytes."""
+    """Opens a path as open does with CREAT_FLAGS: makes the file, or truncates it."""
     word, mode = call.argument(0), call.argument(1)
     path = files.path_argument(process, call, 0, follows=True)
     open_path(files, process, call, word=word, path=path, flags=CREAT_FLAGS, mode=mode)
@@ -60,10 +60,10 @@ def open_path(
     flags: str,
     mode: str,
 ) -> None:
-    """Follows the descriptor that an open returned, if it is of the directory: by the path that
-    strace shows for it, else by `path`, which is None for one elsewhere. `word` is the argument
-    that has the path: if it means an open file or stream, as /dev/stdout does, that is opened
-    again. flags and mode are as the call has them."""
+    """Sets the file of the descriptor that an open returned: by the path that strace shows for it,
+    else by `path`, which is None for one elsewhere (not followed). `word` is the argument that has
+    the path: if it means an open file or stream, as /dev/stdout does, that is opened again. flags
+    and mode are as the call has them."""
     known = files.open_file_of_path(process, word)
     if known is not None and known.node is None:
         process.descriptors.set_file(
@@ -82,8 +82,8 @@ def open_path(
 
 
 def reopen_file(files: LiveFiles, known: OpenFile, flags: str) -> Optional[Node]:
-    """The file of a descriptor that is opened again, cut to no bytes with O_TRUNC; it may have no
-    name any more."""
+    """The file of a descriptor that is opened again, truncated with O_TRUNC; it may have no name
+    any more."""
     node = known.node
     if node is not None and 'O_TRUNC' in flags and node.size:
         files.set_length(node, 0)
@@ -93,9 +93,9 @@ def reopen_file(files: LiveFiles, known: OpenFile, flags: str) -> Optional[Node]
 def node_to_open(
     files: LiveFiles, process: Process, path: Optional[str], flags: str, mode: str
 ) -> Optional[Node]:
-    """The file that an open returns, made or cut to no bytes as its flags say; with O_TMPFILE one
-    without a name. None if the path is elsewhere (None), or nothing is known there, which is
-    reported unless O_PATH is among the flags."""
+    """The file that an open returns, made or truncated as its flags say; with O_TMPFILE one without
+    a name. None if the path is elsewhere (None), or nothing is known there, which is reported
+    unless O_PATH is among the flags."""
     if path is None:
         return None
     if 'O_PATH' in flags:

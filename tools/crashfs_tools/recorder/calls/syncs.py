@@ -57,7 +57,7 @@ def on_sync_file_range(files: LiveFiles, process: Process, call: Call) -> None:
 
 
 def on_mmap(files: LiveFiles, process: Process, call: Call) -> None:
-    """Unmaps what was mapped at the addresses, and follows a shared mapping of a followed file; a
+    """Unmaps what was mapped at the addresses, and notes a shared mapping of a followed file; a
     private one changes no file. One for writing is reported, unless copies show the stores."""
     length = in_whole_pages(integer(call.argument(1)))
     process.memory.unmap(call.result, length)

@@ -76,8 +76,8 @@ def mark_builtin_call(
 ) -> None:
     """What Python calls at each call and return, in each thread. For a call of a built-in function
     of WATCHED, from another line than that thread's last one, it calls `access` with the program's
-    lines. The parameters `last` and `access` keep their defaults, from before a program that
-    changes os."""
+    lines. `last` and `access` are parameters so that a program which changes os doesn't change
+    them."""
     if event == 'c_call' and called.__name__ in WATCHED:
         place = frame.f_code, frame.f_lineno
         if getattr(last, 'place', None) != place:
