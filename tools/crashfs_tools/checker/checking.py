@@ -37,11 +37,12 @@ ANOTHER = '--resume: that is a report of another check'
 
 
 class Interrupted(Exception):
-    """A fault, its cause, that came when states were tried already: the report has these."""
+    """An exception, its cause, ended a check after states were tried: the report has these."""
 
 
 class CheckResult(NamedTuple):
-    """The report, the mode of a file of it, and what ended the check early, if anything did."""
+    """The report, the mode of a file of it, and the exception to raise after it is printed: a
+    Stopped, an Interrupted, or None if neither ended the check."""
 
     report: CheckReport
     mode: int
@@ -57,8 +58,8 @@ class Window(NamedTuple):
 
 class Check:
     """A check of one trace. run() goes through its windows; `last` is the one that it is at, None
-    before the first, and is_over says whether the last one was tried whole. has_states says whether
-    the report has the outcome of each state."""
+    before the first, and is_over says whether all states of the session's last one were tried.
+    has_states says whether the report has the outcome of each state."""
 
     def __init__(self, trace: CheckedTrace, has_states: bool = False) -> None:
         """Reads the files of --accept and --resume, if they are given. Refused if one can't be
@@ -282,7 +283,8 @@ class Check:
 
     @cached_property
     def nested(self) -> Nested:
-        """What tries recoveries: one for all windows, since it counts those that it has tried."""
+        """The object that tries recoveries: one for all windows, since it counts how many are left
+        to try."""
         from crashfs_tools.checker.findings.nested import Nested
 
         return Nested(self.options.nested)

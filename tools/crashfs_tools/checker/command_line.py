@@ -92,7 +92,8 @@ def seconds(text: str) -> float:
 
 
 def add_state_options(parser: argparse.ArgumentParser) -> None:
-    """Adds the options that say which states are tried."""
+    """Adds the options that say which states of the trace are tried; --window is for tests, and not
+    shown."""
     parser.add_argument(
         '--every',
         metavar='N',
@@ -197,7 +198,7 @@ def add_output_options(parser: argparse.ArgumentParser) -> None:
 
 
 def add_program_options(parser: argparse.ArgumentParser) -> None:
-    """Adds the options that say what is run: COMMAND's time, and the program that computes the
+    """Adds the options that say how long COMMAND may take, and which program computes the
     states."""
     parser.add_argument(
         '--timeout',
@@ -220,7 +221,8 @@ def add_program_options(parser: argparse.ArgumentParser) -> None:
 
 
 def add_other_ways(parser: argparse.ArgumentParser) -> None:
-    """Adds the options by which states come from elsewhere: a server, disks, other reports."""
+    """Adds the options by which states come from a server, from disks, or from the reports of
+    earlier checks."""
     parser.add_argument(
         '--serve',
         metavar='ADDR',

@@ -27,7 +27,7 @@ Points = FrozenSet[Tuple[int, str]]
 
 class SyncedCopy(NamedTuple):
     """A copy of the trace with some syncs: its plan, and the keys of its states, which are empty if
-    not all crash states are tried."""
+    not all crash states are listed."""
 
     planned: Planned
     keys: Set[object]
@@ -71,10 +71,10 @@ class AdviceTrials:
         self.equal_of_all = self.equal if has_all else None
 
     def run(self) -> None:
-        """Makes a copy with its syncs for each of the first COVERED groups that is advised some,
-        and tries the first TRIED copies. Sets the results of the groups, and the union of the
-        findings. A group whose states earlier copies can't leave is covered, and gets no copy.
-        Refused if the program refuses a copy."""
+        """Makes a copy with the group's syncs for each of the first COVERED groups, and tries the
+        first TRIED copies. Sets the results of the groups, and the union of the findings. A group
+        that earlier copies cover, or that is advised no sync, gets no copy. Refused if the program
+        refuses a copy."""
         copies: List[SyncedCopy] = []
         tried = 0
         for group in self.findings.groups[:COVERED]:
@@ -111,8 +111,8 @@ class AdviceTrials:
 
     def try_union(self) -> Union:
         """Tries all advised syncs at once, also those of groups that weren't tried, and returns
-        them with how many states fail. Without any sync, and for the syncs of a single group that
-        was tried, the numbers are known."""
+        them with how many states fail. Nothing is tried if there are no syncs, or only those of a
+        single group that was tried."""
         advised = [group for group in self.findings.groups if group.advice.syncs]
         points = points_of(advised)
         if not points:

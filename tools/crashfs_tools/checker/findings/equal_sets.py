@@ -18,6 +18,7 @@ class EqualSets:
     that was tried."""
 
     def __init__(self, planned: Planned, findings: Findings) -> None:
+        """Reads the plan's trace by the second reading, and finds what each tried state leaves."""
         self.plan = findings.plan
         with open(planned.trace, 'rb') as file:
             self.trees = States(read(file.read()))

@@ -213,6 +213,8 @@ class Findings:
         before: Dict[int, Outcome],
         ignored: Optional[Outcome] = None,
     ) -> None:
+        """Makes the groups of the failing states, and sets their advice and what the results have
+        of second runs."""
         self.head = head
         self.ignored = ignored
         self.results = results

@@ -97,6 +97,7 @@ class Pairs:
         outcome."""
 
         def compare(number: int) -> Comparison:
+            """How the state of a number compares; NOT_TRIED if it has no outcome."""
             other = self.outcomes.get(number)
             if other is None:
                 return Comparison.NOT_TRIED

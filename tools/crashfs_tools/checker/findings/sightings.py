@@ -17,7 +17,8 @@ OUTSIDE, UNTRIED, UNKNOWN = 'outside the model', 'not tried', 'not found'
 
 
 class Explanation(NamedTuple):
-    """Why no tried state has a disk's tree: where it was found, and among how many states."""
+    """Why no tried state has a disk's tree: `where` is OUTSIDE, UNTRIED or UNKNOWN. `searched` is
+    how many states were looked through for an UNKNOWN one, else 0."""
 
     where: str
     searched: int = 0

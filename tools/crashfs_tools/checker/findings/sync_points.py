@@ -58,7 +58,7 @@ def end_of_path(path: str, between: range, lines: Dict[int, TraceLine]) -> Optio
 
 
 def is_synced(path: str, lines: Dict[int, TraceLine]) -> bool:
-    """Whether the session ever syncs a path, or everything."""
+    """Whether the session ever syncs a path, or everything at once."""
     return any(
         line.word in SYNCS and (line.path == path or line.word == 'sync') for line in lines.values()
     )

@@ -20,7 +20,7 @@ SHOWN_BYTES = 8
 
 def find_differences(trials: Trials, findings: Findings) -> None:
     """Compares the examples of the largest groups with their nearest good states, and sets the
-    groups' differences, of SHOWN_LINES at most. A group without such a state gets none."""
+    groups' differences, at most SHOWN_LINES lines each. A group without such a state gets none."""
     for group in findings.groups[:ENTRIES]:
         good = nearest_good(findings, group)
         if good is not None:
