@@ -133,9 +133,9 @@ class Guard:
                 print_line(self.program, f'{path} could not be removed')
 
     def run_watcher(self, waiting: int, answering: int) -> NoReturn:
-        """The watcher, which never returns: it makes the directory, waits for the end of the first
-        process, and removes all. It makes the directory itself, so that no kill of the first
-        process can come between the directory and the process that removes it."""
+        """The watcher, which never returns: it makes the directory, waits until the first process
+        leaves the guard or ends, and removes all. It makes the directory itself, so that no kill of
+        the first process can come between the directory and the process that removes it."""
         try:
             # The first process may be gone before it reads the answer: that is no signal.
             for number in (*STOPS, signal.SIGPIPE):

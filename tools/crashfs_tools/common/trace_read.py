@@ -105,8 +105,8 @@ def read_header(fields: Dict[str, Any]) -> Trace:
 
 
 def profiles_of(version: int) -> Tuple[str, ...]:
-    """The profiles that a header of a version may have; version 1 has none, which isn't looked at
-    here."""
+    """The profiles that a header of a version may have. Version 1, whose header has none, isn't
+    asked for."""
     return (*PROFILES, JOURNAL) if version >= 4 else PROFILES
 
 
@@ -128,8 +128,8 @@ def read_line(trace: Trace, fields: Dict[str, Any]) -> None:
 
 
 def type_of_line(fields: Dict[str, Any]) -> Type[Any]:
-    """The class of a start line or an operation, from its fields. KeyError for an unknown
-    operation; an unknown start line is taken for a file."""
+    """The class of a start line or an operation, from its fields. Directories and files are both
+    Start, and so is a start line of an unknown kind; an unknown operation is a KeyError."""
     if 'start' in fields:
         return STARTS.get(fields['start'], Start)
     return KINDS[fields['op']]

@@ -82,8 +82,8 @@ def make_entry(path: str, data: Union[bytes, SparseBytes, None]) -> None:
 
 
 def make_symlink(path: str, made: Union[Symlink, StartSymlink], owners: Owners) -> None:
-    """Makes a symbolic link with its owner and group. They are set only if the new link has others:
-    each change of them is one that the session didn't make."""
+    """Makes a symbolic link, and sets its owner and group, unless it has them already: a call that
+    changes them is one that the session didn't make."""
     os.symlink(made.link, path)
     rights = owners.users.number(made.owner), owners.groups.number(made.group)
     status = os.lstat(path)
@@ -157,8 +157,8 @@ class Replay:
         self.set_rights(made)
 
     def set_rights(self, made: Union[Creat, Mkdir]) -> None:
-        """Sets the owner, group and mode of what was made, but only those that it doesn't have
-        already: each change is one that the session didn't make."""
+        """Sets the owner, group and mode of what was made, unless it has them already: a call that
+        changes them is one that the session didn't make."""
         user = self.owners.users.number(made.owner)
         group = self.owners.groups.number(made.group)
         status = os.lstat(self.path(made.path))

@@ -113,8 +113,8 @@ class Digests:
         return rights, size
 
     def shrinks(self, number: int, places: int) -> bool:
-        """Whether one of the changes of a file, given by its number, makes it shorter. If not, no
-        subset of them does."""
+        """Whether one of `places`, all changes of a file that is given by its number, makes the
+        file shorter. If not, no subset of them does."""
         size = self.made(number).length
         for place in places_of(places):
             operation = self.reading.operations[place]

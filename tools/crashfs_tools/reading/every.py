@@ -94,8 +94,9 @@ def count_extensions(order: Order) -> List[Dict[int, int]]:
 
 
 def set_at(order: Order, extensions: List[Dict[int, int]], number: int) -> int:
-    """The allowed set that has `number` sets before it in the order of every_set(); it must be less
-    than the count of all. `extensions` are those of count_extensions() for the same order."""
+    """The allowed set that has `number` sets before it in the order of every_set(). The number must
+    be less than that of all allowed sets; `extensions` are those of count_extensions() for the same
+    order."""
     places, future = 0, order.full
     for place in range(order.count):
         lowest = 1 << place

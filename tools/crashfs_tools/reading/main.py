@@ -82,8 +82,9 @@ def read_options(words: List[str]) -> Options:
 
 
 def print_output(command: str, options: Options) -> None:
-    """Prints what a command asks for. ReadingFault if its input has a fault, or is too large for
-    what is asked. Usage if --state or --states of `tar` is no number or list."""
+    """Prints what a command asks for. ReadingFault if an input file has a fault, if its states or
+    sets are too many, or if there is no such state. Usage if --state or --states of `tar` is no
+    number or list."""
     if '--help' in options:
         print(HELP)
         return
