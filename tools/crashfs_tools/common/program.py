@@ -146,9 +146,9 @@ class Crashfs:
         return out.decode('utf-8', 'surrogateescape')
 
     def start(self, words: List[str], environment: Optional[Dict[str, str]]) -> RunningProgram:
-        """Starts a command, with pipes as its two outputs and no input. The second reading is a
-        fork of this process, and takes no environment. ProgramFault if the program can't be
-        started."""
+        """Starts a command, with pipes as its two outputs and no input. ProgramFault if the program
+        can't be started. The second reading is a fork of this process instead, which takes no
+        environment: OSError if it can't be forked."""
         if os.path.realpath(self.path) == READING:
             return ForkedReading(words)
         try:
