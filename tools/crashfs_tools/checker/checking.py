@@ -90,8 +90,9 @@ class Check:
     def run(self) -> CheckResult:
         """Checks window after window, and returns the report, also if the check ends early. `end`
         of the result is then None for --fail-fast and the time limit, a Stopped for a signal, and
-        an Interrupted, whose cause is the fault, for any other exception. But a fault that comes
-        before the states of the first window are tried is raised."""
+        an Interrupted, whose cause is the fault, for any other exception. A fault is raised itself
+        if it comes before the states of the first window are tried, or while the report is
+        completed."""
         end: Optional[Exception] = None
         try:
             with time_limit(self.options.time_limit):
@@ -161,9 +162,9 @@ class Check:
 
     def try_window(self, trials: Trials) -> bool:
         """Tries the states of a window, and returns whether each that was chosen has an outcome.
-        After an exception meanwhile, `last` and the report have what was found. Refused before
-        that, with no window more in the report, if --resume has another window here or, at the
-        first window, if --cache can't be used or COMMAND fails in the start tree or the end
+        After an exception meanwhile, `last` and the report have what was found. Before that,
+        without the window in the report, it is Refused if --resume has another window here or, at
+        the first one, if --cache can't be used or COMMAND fails in the start tree or the end
         tree."""
         before, planned = self.last, trials.planned
         known = known_states(before.trials.plan, planned.plan) if before else {}

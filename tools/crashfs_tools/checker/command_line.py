@@ -67,8 +67,8 @@ def job_count(text: str) -> int:
 
 
 def state(text: str) -> Tuple[int, Optional[int]]:
-    """Of `N` the number of a state, and None; of `N/M` also M, the number of a state of its
-    recovery. ArgumentTypeError for any other text."""
+    """N and None for the text `N`, which names a state; N and M for `N/M`, which names state M of
+    the recovery of state N. ArgumentTypeError for any other text."""
     first, slash, second = text.partition('/')
     if not (first.isdecimal() and (second.isdecimal() if slash else True)):
         raise argparse.ArgumentTypeError(f'{text} is neither N nor N/M')

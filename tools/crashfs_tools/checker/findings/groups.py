@@ -227,8 +227,8 @@ class Findings:
         self.set_reruns()
 
     def own_outcomes(self) -> List[Outcome]:
-        """The outcomes of the states that the window before doesn't have. Each of several equal
-        states has its own; a state without an outcome has none."""
+        """The outcomes of the states that the window before doesn't have, one for each state, also
+        for equal ones. States without an outcome are left out."""
         return [
             self.by_state[state.number]
             for state in self.results.own

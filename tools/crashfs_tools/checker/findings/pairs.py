@@ -167,5 +167,5 @@ class Pairs:
 
 
 def is_failing_alike(number: Optional[int], compare: Compare) -> bool:
-    """Whether there is a state of this number (it isn't None), and it fails alike."""
+    """Whether a number is that of a state that fails alike. False for None, which is no state."""
     return number is not None and compare(number) is Comparison.FAILS_ALIKE

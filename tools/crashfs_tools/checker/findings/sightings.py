@@ -25,7 +25,7 @@ class Explanation(NamedTuple):
 
     @property
     def text(self) -> str:
-        """The explanation as a report has it, in words that don't name the tree."""
+        """The explanation as a report has it, such as `no crash state has this tree`."""
         if self.where == OUTSIDE:
             return 'no crash state has this tree'
         if self.where == UNTRIED:

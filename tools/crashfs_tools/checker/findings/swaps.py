@@ -182,7 +182,7 @@ def is_overwriting(trials: Trials, findings: Findings, group: Group) -> bool:
 
 
 def has_replaced_bytes(before: SparseBytes, after: SparseBytes) -> bool:
-    """Whether bytes of a file that aren't zeros have others in their place after a change. Bytes
+    """Whether a change of a file puts other bytes in the place of some that aren't zeros. Bytes
     past the new end don't count."""
     for number, page in before.data_pages():
         new = after.read(number * PAGE_BYTES, PAGE_BYTES)
