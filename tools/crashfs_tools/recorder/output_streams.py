@@ -62,7 +62,8 @@ class OutputStream:
 
     def complete_lines(self, data: bytes, moment: int) -> List[bytes]:
         """The lines that a write completes, without line feeds and carriage returns at their ends;
-        the rest waits in pieces for the next write. Counts the gaps of a line in pieces."""
+        the rest waits in pieces for the next write. A write of no bytes begins a line, too. Counts
+        the gaps of a line in pieces."""
         if not self.pieces:
             self.gaps = 0
         elif moment != self.moment:

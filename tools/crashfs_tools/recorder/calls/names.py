@@ -111,8 +111,9 @@ def on_renameat(files: LiveFiles, process: Process, call: Call) -> None:
 
 def rename_path(files: LiveFiles, source: Optional[str], target: Optional[str], flags: str) -> None:
     """Renames a file or directory. A path that is None is outside the directory, or ignored: what
-    comes from there isn't known, and what goes there is removed. A rename of the recorded directory
-    itself, or onto it, is only reported. Between two names of one file nothing happens."""
+    comes from there isn't known, and what goes there is removed, also in an exchange. A rename of
+    the recorded directory itself, or onto it, is only reported. Between two names of one file
+    nothing happens."""
     if source is None and target is None:
         return
     if '/' in (source, target):

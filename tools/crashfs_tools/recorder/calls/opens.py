@@ -139,9 +139,9 @@ def on_close_range(files: LiveFiles, process: Process, call: Call) -> None:
 def duplicate_descriptor(
     files: LiveFiles, process: Process, call: Call, closed_by_exec: bool
 ) -> None:
-    """Makes the result a duplicate of the descriptor, for the same open file or stream. If --say-fd
-    names one of the two, the stream acknowledges something by both. If the descriptor isn't
-    followed, neither is the result."""
+    """Makes the result a duplicate of the descriptor, for the same open file or stream; nothing if
+    both are one number. If --say-fd names one of the two, the stream acknowledges something by
+    both. If the descriptor isn't followed, neither is the result."""
     old, streams = call.descriptor(), files.recording.streams
     if old.number == call.result:
         return
