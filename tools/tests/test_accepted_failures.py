@@ -121,6 +121,25 @@ class Reports(InFolder):
         self.assertEqual(ran.returncode, 1)
         self.assertIn(': 6 fail: 6 first; 6 more fail, accepted\n', ran.stdout)
 
+    def test_a_state_of_several_accepted_entries_counts_once(self) -> None:
+        """State 1 is of one entry. The other states are of three entries, and some of two."""
+        known = [
+            {'cause': 'lost a', 'lost': lost, 'kept': kept, 'why': 'a reason'}
+            for lost, kept in [
+                ('rename /config.new to /config', 'say'),
+                ('rename /config.new to /config', 'write /config.new'),
+                ('creat /config.new', 'say'),
+            ]
+        ]
+        path = self.write('known.json', json.dumps(known))
+        recover = self.write('some.sh', SOME_STATES, 0o755)
+        trace = str(CONFIG / 'config.trace')
+        words = '--accept', path, '--tap', 'r.tap', trace, '--', recover
+        ran = self.run_tool('crashfs-check', '--unproved', *words)
+        self.assertIn(' (58 sets): 1 fails: 1 lost a; 6 more fail, accepted\n', ran.stdout)
+        self.assertEqual(ran.returncode, 1)
+        self.assertEqual(self.read('r.tap').count('\nnot ok '), 1)
+
     def test_a_merged_report_has_them(self) -> None:
         trace, command = str(CONFIG / 'config.trace'), str(CONFIG / 'check.sh')
         for part in ('1', '2'):
@@ -143,6 +162,12 @@ version=$(sed -n 's/^version=//p' config 2>/dev/null)
 test "${version:-0}" -ge "$CRASHFS_SAYS" && exit 0
 test "$CRASHFS_SAYS" = 3 && echo 'second: it is lost' || echo 'first: it is lost'
 exit 1
+"""
+
+# Fails in one state that loses nothing, and in six others.
+SOME_STATES = """\
+#!/bin/sh
+case $CRASHFS_STATE in 20|28|44|47|48|13|1) echo 'lost a'; exit 1;; esac
 """
 
 

@@ -137,11 +137,12 @@ class StateCounts:
 
 def states_of_accepted(groups: List[Group]) -> AcceptedStates:
     """The states of accepted groups that no group has that isn't accepted. A state of several
-    accepted groups counts once for each."""
+    accepted groups counts once, for the first of them."""
     none: FrozenSet[Tuple[int, ...]] = frozenset()
-    others = none.union(*(group.tried for group in groups if group.accepted is None))
+    seen = none.union(*(group.tried for group in groups if group.accepted is None))
     found: Counts[str] = Counter()
     for group in groups:
         if group.accepted is not None:
-            found[group.outcome.word] += len(group.tried - others)
+            found[group.outcome.word] += len(group.tried - seen)
+            seen |= group.tried
     return AcceptedStates(sum(found.values()), found)
