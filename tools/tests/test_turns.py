@@ -10,7 +10,7 @@ from crashfs_tools.checker.options import Shard
 from crashfs_tools.checker.report.summary import shown_share
 from crashfs_tools.checker.running.progress import MEASURED, Pace, Progress, TooSlow
 from crashfs_tools.checker.running.results import Results
-from crashfs_tools.checker.running.runner import GOOD_OUTCOME
+from crashfs_tools.checker.running.runner import BAD, GOOD_OUTCOME, Outcome
 from crashfs_tools.checker.running.trials import Trials, Workplace
 from crashfs_tools.checker.running.turns import family_turns, states_in_turns
 from crashfs_tools.checker.states.plan import Planned
@@ -99,6 +99,17 @@ class Order(Listing):
         trials.try_all(results)
         self.assertEqual(trials.order, states_in_turns(results, are_all=True))
         self.assertGreater(len(trials.order), 2)
+
+    def test_by_fail_fast_a_failure_that_the_cache_has_ends_it(self) -> None:
+        planned = self.planned(MANY)
+        trials = TriedNowhere(planned, 1e9)
+        trials.options.fail_fast = True
+        cache: Any = SimpleNamespace(outcome=lambda key: Outcome(BAD, 'lost'))
+        trials.workplace.cache = cache
+        vars(trials)['state_keys'] = SimpleNamespace(key=lambda number, attempt: number)
+        results = Results(planned.plan)
+        self.assertFalse(trials.try_all(results))
+        self.assertEqual((len(results.outcomes), trials.order), (1, []))
 
 
 class Paces(unittest.TestCase):

@@ -24,7 +24,7 @@ from .cache import OutcomeCache, StateKeys
 from .progress import Pace, Progress, TooSlow
 from .recoveries import CommandRecovery, FunctionRecovery, StateRecovery
 from .results import Results
-from .runner import AcknowledgedLines, Checker, Outcome, do_nothing
+from .runner import BAD, AcknowledgedLines, Checker, Outcome, do_nothing
 from .turns import states_in_turns
 from .workers import OnOutcome, StateWorkers
 
@@ -153,15 +153,17 @@ class Trials:
 
     def try_states(self, turns: Sequence[Set[int]], on_outcome: OnOutcome) -> None:
         """Tries states, turn by turn, with their progress shown, and calls on_outcome with each
-        number and outcome. With --fail-fast each turn ends at its first failure. An exception, such
-        as Stopped, TimeUp or TooSlow, may come in between: on_outcome was called for what was tried
-        before."""
+        number and outcome. With --fail-fast the first failure ends its turn, and no other turn is
+        begun. An exception, such as Stopped, TimeUp or TooSlow, may come in between: on_outcome was
+        called for what was tried before."""
         progress = self.workplace.progress
         progress.begin_part(sum(map(len, turns)), self.planned.part_text())
+        seen: Set[str] = set()
 
         def note(number: int, outcome: Outcome) -> None:
             on_outcome(number, outcome)
             progress.add_outcome(outcome)
+            seen.add(outcome.result)
 
         @lru_cache(None)
         def layout() -> Layout:
@@ -170,6 +172,8 @@ class Trials:
         try:
             for turn in turns:
                 self.find_outcomes(layout, turn, note)
+                if self.options.fail_fast and BAD in seen:
+                    break
         finally:
             progress.end_part()
 
@@ -186,8 +190,9 @@ class Trials:
         attempt: int = 0,
     ) -> None:
         """Gives on_outcome the outcome of each wanted state: from the cache, if that has it, else
-        by a run of COMMAND, whose outcome the cache gets. `layout` is called, once, only if COMMAND
-        runs. Exceptions as in run_workers()."""
+        by a run of COMMAND, whose outcome the cache gets. With --fail-fast it ends at the first
+        failure, also one that the cache has. `layout` is called, once, only if COMMAND runs.
+        Exceptions as in run_workers()."""
         cache, left = self.workplace.cache, set(wanted)
         if cache is None:
             self.run_workers(layout(), left, on_outcome)
@@ -197,6 +202,8 @@ class Trials:
             if known is not None:
                 left.remove(number)
                 on_outcome(number, known)
+                if self.options.fail_fast and known.result == BAD:
+                    return
 
         def keep(number: int, outcome: Outcome) -> None:
             assert cache is not None
