@@ -36,6 +36,19 @@ TROUBLES: List[Tuple[str, List[str], List[str]]] = [
             '1 linkat(3</d/#7>(deleted), "", AT_FDCWD</d>, "f", AT_EMPTY_PATH) = 0',
         ],
     ),
+    *[
+        (
+            '/f: a file of O_TMPFILE that was synced before it had this name',
+            [],
+            [
+                '1 openat(AT_FDCWD</d>, ".", O_RDWR|O_TMPFILE, 0644) = 3</d/#7>(deleted)',
+                '1 write(3</d/#7>(deleted), "ab", 2) = 2',
+                sync,
+                '1 linkat(3</d/#7>(deleted), "", AT_FDCWD</d>, "f", AT_EMPTY_PATH) = 0',
+            ],
+        )
+        for sync in ('1 sync() = 0', '1 syncfs(3</d/#7>(deleted)) = 0')
+    ],
     (
         '/s: fdatasync of a directory whose mode or owner was changed',
         IN_DIRECTORY,

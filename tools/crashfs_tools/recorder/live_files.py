@@ -7,6 +7,7 @@ import os.path
 import re
 from dataclasses import dataclass
 from typing import Dict, List, Optional, Tuple
+from weakref import WeakSet
 
 from crashfs_tools.common import limits
 from crashfs_tools.common.entry import parent_of
@@ -74,6 +75,8 @@ class LiveFiles:
         self.tree = LiveTree(root)
         self.resolver = Resolver(conditions.top, self.target_at, conditions.target_outside)
         self.processes: Dict[int, Process] = {}
+        # The files of O_TMPFILE, as long as something has them.
+        self.temporary: WeakSet[Node] = WeakSet()
         # The syncs of writes (O_SYNC) whose calls have not ended yet: call, file, offset, length.
         self.late_syncs: List[Tuple[Call, Node, int, int]] = []
         self.has_copies = False

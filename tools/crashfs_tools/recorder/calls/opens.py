@@ -104,6 +104,7 @@ def node_to_open(
     if 'O_TMPFILE' in flags:
         made = Node.file(bits)
         made.is_temporary = True
+        files.temporary.add(made)
         return made
     node = files.tree.node_at(path)
     if node is None and 'O_CREAT' in flags:

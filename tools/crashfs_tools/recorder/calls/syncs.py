@@ -30,9 +30,8 @@ def on_fdatasync(files: LiveFiles, process: Process, call: Call) -> None:
 
 
 def on_sync(files: LiveFiles, process: Process, call: Call) -> None:
-    """Syncs all files and directories of the trace. One of O_TMPFILE that has no name yet isn't
-    noted as synced."""
-    files.recording.add_operation(Sync())
+    """Syncs all files and directories."""
+    sync_all(files)
 
 
 def on_syncfs(files: LiveFiles, process: Process, call: Call) -> None:
@@ -40,9 +39,17 @@ def on_syncfs(files: LiveFiles, process: Process, call: Call) -> None:
     not ignored; else it is left out and reported."""
     path = call.descriptor().path
     if path is not None and files.relative_path(path) is not None:
-        files.recording.add_operation(Sync())
+        sync_all(files)
     else:
         files.recording.report('syncfs by a file outside the directory is left out', '/')
+
+
+def sync_all(files: LiveFiles) -> None:
+    """Adds a sync of everything. Notes that files of O_TMPFILE were synced, since the trace has
+    them only once they get their names."""
+    for node in files.temporary:
+        node.was_synced = True
+    files.recording.add_operation(Sync())
 
 
 def on_sync_file_range(files: LiveFiles, process: Process, call: Call) -> None:
