@@ -50,10 +50,12 @@ class OutputStream:
 
     def texts_of(self, data: bytes, moment: int) -> List[bytes]:
         """The texts that a write of these bytes completes, which are counted: its lines, or itself
-        as one line, but nothing for a write of no bytes. moment is how many changes the recording
+        as one line. A write of no bytes changes nothing. moment is how many changes the recording
         had before it."""
+        if not data:
+            return []
         if self.each is SayEach.WRITE:
-            texts = [written_as_line(data)] if data else []
+            texts = [written_as_line(data)]
         else:
             texts = self.complete_lines(data, moment)
         self.lines += len(texts)
@@ -62,8 +64,7 @@ class OutputStream:
 
     def complete_lines(self, data: bytes, moment: int) -> List[bytes]:
         """The lines that a write completes, without line feeds and carriage returns at their ends;
-        the rest waits in pieces for the next write. A write of no bytes begins a line, too. Counts
-        the gaps of a line in pieces."""
+        the rest waits in pieces for the next write. Counts the gaps of a line in pieces."""
         if not self.pieces:
             self.gaps = 0
         elif moment != self.moment:
