@@ -12,7 +12,7 @@ import time
 from pathlib import Path
 
 from .order import TOP, Work, chain_lengths, libraries
-from .proving import build_program, copy_to, prove_in
+from .proving import build_program, copy_to, error_text, prove_in
 
 DESCRIPTION = """\
 Proves all that crashfs uses, several crates side by side, and builds the program.
@@ -25,7 +25,8 @@ folder that is removed at the end. A copy gets the libraries that it lacks from 
 proved them.
 
 Status 0: the program is crates/crashfs/out/crashfs. Else a crate was not proved: what its check
-printed is printed, and the status is 1. If memory ran out, the last line says so."""
+printed is printed, and the status is 1. If memory ran out, or there was another error, as a full
+disk, the last line says so."""
 MOST_PROCESSORS = 4
 NO_RT = (
     'tools/build: rt: command not found; it is in the toolchain of Rattle, which the README names'
@@ -34,8 +35,8 @@ NO_RT = (
 
 def main() -> int:
     """Runs tools/build with the words of its command line, and returns its status: 1 if there is no
-    `rt`, or a crate isn't proved. A wrong word ends the program (SystemExit); fewer than one
-    processor count as one."""
+    `rt`, or a crate isn't proved. An error of the system, as a full disk, is a line with status 1.
+    A wrong word ends the program (SystemExit); fewer than one processor count as one."""
     parser = argparse.ArgumentParser(
         description=DESCRIPTION, formatter_class=argparse.RawDescriptionHelpFormatter
     )
@@ -51,7 +52,11 @@ def main() -> int:
     if shutil.which('rt') is None:
         print(NO_RT, file=sys.stderr)
         return 1
-    return build_all(max(1, given.processors))
+    try:
+        return build_all(max(1, given.processors))
+    except OSError as error:
+        print(f'tools/build: {error_text(error)}', file=sys.stderr)
+        return 1
 
 
 def build_all(processors: int) -> int:

@@ -6,6 +6,10 @@ import shutil
 import sys
 import time
 from pathlib import Path
+from typing import Tuple
+
+from crashfs_tools.common.command import shortened
+from crashfs_tools.common.printable import printable
 
 from .checks import Check, killed_text, run_check
 from .order import PROGRAM, TOP, Work, crates_below
@@ -43,17 +47,13 @@ def report_failure(name: str, check: Check, jobs: int, processors: int) -> None:
 
 def prove_in(copy: Path, work: Work, begun: float) -> None:
     """Proves one crate after the other in a copy of the repository, until nothing is left or one
-    isn't proved, and prints a line for each with the minutes since `begun`. A crate whose library
-    in the repository itself is current is checked there, which takes a second."""
+    isn't proved, and prints a line for each with the minutes since `begun`."""
     while True:
         chosen = work.next_crate()
         if chosen is None:
             return
         name, jobs = chosen
-        top = TOP if is_library_current(TOP, name) else copy
-        for library in crates_below(work.below, name):
-            give_library(work.places[library], top, library)
-        check = run_check(['rt', 'lib', '--jobs', str(jobs)], top / 'crates' / name)
+        top, check = check_in(copy, work, name, jobs)
         work.end_crate(name, top if check.status == 0 else None)
         result = 'proved' if check.status == 0 else 'NOT PROVED'
         minutes = (time.monotonic() - begun) / 60
@@ -61,6 +61,26 @@ def prove_in(copy: Path, work: Work, begun: float) -> None:
         print(f'{minutes:5.1f} min: {name} {result} ({count})', flush=True)
         if check.status:
             report_failure(name, check, jobs, work.processors)
+
+
+def check_in(copy: Path, work: Work, name: str, jobs: int) -> Tuple[Path, Check]:
+    """Checks a crate in a copy of the repository, or, which takes a second, in the repository
+    itself if the crate's library there is current. Returns where, and the check. Any error, as a
+    full disk, is a check that failed and printed that: other threads wait for the crate's end."""
+    top = copy
+    try:
+        if is_library_current(TOP, name):
+            top = TOP
+        for library in crates_below(work.below, name):
+            give_library(work.places[library], top, library)
+        return top, run_check(['rt', 'lib', '--jobs', str(jobs)], top / 'crates' / name)
+    except Exception as error:
+        return top, Check(1, f'{name}: {error_text(error)}\n'.encode(), 0)
+
+
+def error_text(error: Exception) -> str:
+    """An error as a line: its type and its text, without control characters, and shortened."""
+    return shortened(printable(f'{type(error).__name__}: {error}'))
 
 
 def build_program(work: Work, begun: float) -> int:

@@ -3,11 +3,13 @@ fails."""
 
 from __future__ import annotations
 
+import errno
 import io
 import os
 import signal
 import sys
 import tempfile
+import threading
 import unittest
 from contextlib import redirect_stderr, redirect_stdout
 from pathlib import Path
@@ -19,6 +21,8 @@ from building.checks import Check, memory_of_machine, killed_text, run_check
 from building.order import MANY_BELOW, Work, libraries
 from building.proving import build_program, is_library_current, prove_in
 from building.sharing import give_library
+
+from .support import PATIENCE
 
 GIGABYTE = 2**30
 
@@ -205,6 +209,32 @@ class Checks(unittest.TestCase):
         self.assertGreater(memory_of_machine(), GIGABYTE // 4)
 
 
+class Threads(unittest.TestCase):
+    def test_an_error_in_a_thread_ends_all_and_is_one_line(self) -> None:
+        work = Work({'a': [], 'b': ['a']}, {'a': 2, 'b': 1}, 2)
+        out, err = io.StringIO(), io.TextIOWrapper(io.BytesIO(), 'utf-8')
+        full = OSError(errno.ENOSPC, 'No space left on device', '/copy\n' + 'x' * 9999)
+        with mock.patch.object(proving, 'run_check', side_effect=[full]) as run, redirect_stdout(
+            out
+        ), redirect_stderr(err):
+            threads = [
+                threading.Thread(target=prove_in, args=(Path('/'), work, 0), daemon=True)
+                for _ in range(2)
+            ]
+            for thread in threads:
+                thread.start()
+            for thread in threads:
+                thread.join(PATIENCE)
+        self.assertEqual([thread.is_alive() for thread in threads], [False, False])
+        self.assertEqual((work.failed, work.places, run.call_count), ('a', {}, 1))
+        self.assertRegex(out.getvalue(), r'min: a NOT PROVED \(0 of 2\)\n$')
+        err.flush()
+        assert isinstance(err.buffer, io.BytesIO)
+        [line] = err.buffer.getvalue().decode().splitlines()
+        self.assertTrue(line.startswith('a: OSError: [Errno 28] No space left on device: '), line)
+        self.assertLess(len(line), 9000)
+
+
 class Reports(unittest.TestCase):
     """What is printed of checks that end in a given way."""
 
@@ -254,6 +284,17 @@ class Reports(unittest.TestCase):
         ), redirect_stderr(err):
             self.assertEqual(main.main(), 1)
         self.assertIn('rt: command not found', err.getvalue())
+
+    def test_a_full_disk_is_one_line_with_a_status(self) -> None:
+        full = OSError(errno.ENOSPC, 'No space left on device', '/copy')
+        with mock.patch.object(main.shutil, 'which', return_value='rt'), mock.patch(
+            'sys.argv', ['build']
+        ), mock.patch.object(main, 'copy_to', side_effect=full), redirect_stderr(
+            io.StringIO()
+        ) as err:
+            self.assertEqual(main.main(), 1)
+        text = 'tools/build: OSError: [Errno 28] No space left on device: \'/copy\'\n'
+        self.assertEqual(err.getvalue(), text)
 
 
 if __name__ == '__main__':
