@@ -5,7 +5,7 @@ from __future__ import annotations
 import threading
 from dataclasses import dataclass, field
 from pathlib import Path
-from typing import Dict, List, Optional, Set, Tuple
+from typing import Dict, Iterator, List, Optional, Set, Tuple
 
 TOP = Path(__file__).resolve().parents[2]
 PROGRAM = 'crashfs'
@@ -47,10 +47,14 @@ def libraries() -> Dict[str, List[str]]:
     return {name: own[name] for name in crates_below(own, PROGRAM)}
 
 
+def texts_of(crate: Path) -> Iterator[Path]:
+    """All that is in the folders of a crate's texts: what `rt` makes in out/ isn't."""
+    return (it for part in ('src', 'specs', 'proofs') for it in (crate / part).rglob('*'))
+
+
 def line_count(name: str) -> int:
-    """How many lines the Rattle files in the folder of a crate have: a check takes longer the more
-    there are. Those of a library in out/ count too, if there is one."""
-    files = (it for it in (TOP / 'crates' / name).rglob('*.[ra]*') if it.is_file())
+    """How many lines the texts of a crate have: a check takes longer the more there are."""
+    files = (it for it in texts_of(TOP / 'crates' / name) if it.is_file())
     return sum(len(it.read_bytes().splitlines()) for it in files)
 
 

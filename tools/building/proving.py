@@ -12,7 +12,7 @@ from crashfs_tools.common.command import shortened
 from crashfs_tools.common.printable import printable
 
 from .checks import Check, killed_text, run_check
-from .order import PROGRAM, TOP, Work, crates_below
+from .order import PROGRAM, TOP, Work, crates_below, texts_of
 from .sharing import give_library
 
 
@@ -21,8 +21,9 @@ def is_library_current(top: Path, name: str) -> bool:
     needs a second to look. False if there is none. The texts of crates below aren't looked at."""
     crate = top / 'crates' / name
     library = crate / 'out' / 'rlib' / 'stamp'
-    texts = (it for part in ('src', 'specs', 'proofs') for it in (crate / part).rglob('*'))
-    return library.is_file() and all(it.stat().st_mtime <= library.stat().st_mtime for it in texts)
+    return library.is_file() and all(
+        it.stat().st_mtime <= library.stat().st_mtime for it in texts_of(crate)
+    )
 
 
 def copy_to(folder: Path) -> Path:

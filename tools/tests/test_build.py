@@ -16,9 +16,9 @@ from pathlib import Path
 from typing import Dict, List, Optional, Tuple
 from unittest import mock
 
-from building import checks, main, proving
+from building import checks, main, order, proving
 from building.checks import Check, memory_of_machine, killed_text, run_check
-from building.order import MANY_BELOW, Work, libraries
+from building.order import MANY_BELOW, Work, libraries, line_count
 from building.proving import build_program, is_library_current, prove_in
 from building.sharing import give_library
 
@@ -94,6 +94,22 @@ class Order(unittest.TestCase):
             self.assertTrue(is_library_current(Path(room), 'a'))
             os.utime(text, (300, 300))
             self.assertFalse(is_library_current(Path(room), 'a'))
+
+    def test_a_library_does_not_change_how_many_lines_a_crate_has(self) -> None:
+        with tempfile.TemporaryDirectory() as room, mock.patch.object(order, 'TOP', Path(room)):
+            for path, lines in (
+                ('src/lib.rt', 1),
+                ('src/deep/x.rt', 2),
+                ('specs/X.antt', 4),
+                ('proofs/x/X.antt', 8),
+                ('out/rlib/lib.rt', 16),
+                ('out/rlib/specs/X.antt', 32),
+                ('must-fail/x.antt', 64),
+            ):
+                file = Path(room) / 'crates' / 'a' / path
+                file.parent.mkdir(parents=True, exist_ok=True)
+                file.write_text('line\n' * lines)
+            self.assertEqual(line_count('a'), 15)
 
     def test_the_libraries_are_all_that_the_program_uses(self) -> None:
         below = libraries()
