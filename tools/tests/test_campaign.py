@@ -12,7 +12,8 @@ from crashfs_tools.campaign import main
 from crashfs_tools.campaign.book import failure_key
 from crashfs_tools.campaign.options import read_options
 from crashfs_tools.campaign.sessions import Checked, Failure
-from crashfs_tools.campaign.shrinking import says_in
+from crashfs_tools.campaign.shrinking import Shrinking, says_in
+from crashfs_tools.common.trace import Header, Say, Trace
 
 from .support import PATIENCE, InFolder
 
@@ -50,6 +51,24 @@ class Keys(unittest.TestCase):
     def test_only_acknowledged_lines_are_counted(self):
         lines = ['{"op":"say","text":"x"}', '{"op":"note","text":"\\"say\\""}', '{"op":"sync"}']
         self.assertEqual(says_in([*lines, lines[0]]), [0, 3])
+
+
+class Cuts(InFolder):
+    def test_only_a_line_feed_ends_a_line_of_the_session(self):
+        texts = [f'a{letter}b' for letter in '\x0b\x0c\x1c\x1d\x1e\x85\u2028\u2029\r']
+        trace = Trace(Header('u', 'u', 0o755), operations=[Say(text) for text in texts])
+        lines = list(trace.lines())
+        self.assertTrue(any('\u2028' in line for line in lines))
+        self.write('session.trace', ''.join(f'{line}\n' for line in lines))
+        sessions = mock.Mock(trace=Path(self.path('session.trace')), folder=Path(self.folder))
+        sessions.check.return_value = Checked()
+        shrinking = Shrinking(sessions, 'none')
+        self.assertEqual(shrinking.says, list(range(1, len(lines))))
+        for count in range(1, len(lines)):
+            shrinking.failure_of(count)
+            self.assertEqual(self.read('cut.trace').split('\n'), [*lines[: count + 1], ''])
+        shrinking.failure_of(0)
+        self.assertEqual(self.read('cut.trace'), self.read('session.trace'))
 
 
 @unittest.skipIf(shutil.which('strace') is None, 'strace not installed')

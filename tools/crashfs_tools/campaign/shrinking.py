@@ -32,7 +32,8 @@ class Shrinking:
         self.sessions = sessions
         self.key = key
         text = sessions.trace.read_text('utf-8', 'surrogateescape')
-        self.lines = text.splitlines(keepends=True)
+        # Texts of a trace may have other characters that end a line for Python, such as U+2028.
+        self.lines = [line + '\n' for line in text.split('\n') if line]
         self.says = says_in(self.lines)
         self.cut = sessions.folder / 'cut.trace'
 
