@@ -91,8 +91,7 @@ class Check:
         """Checks window after window, and returns the report, also if the check ends early. `end`
         of the result is then None for --fail-fast and the time limit, a Stopped for a signal, and
         an Interrupted, whose cause is the fault, for any other exception. A fault is raised itself
-        if it comes before the states of the first window are tried, or while the report is
-        completed."""
+        if it comes before the states of the first window are tried."""
         end: Optional[Exception] = None
         try:
             with time_limit(self.options.time_limit):
@@ -106,13 +105,14 @@ class Check:
             # Whatever it is: what was tried is not lost by it.
             if self.last is None:
                 raise
-            end = Interrupted()
-            end.__cause__ = fault
+            end = interrupted_by(fault)
             self.note_end(FAULT)
         try:
             self.complete_report()
         except Stopped as stopped:
             end = stopped
+        except Exception as fault:
+            end = end or interrupted_by(fault)
         return CheckResult(self.report, self.trace.mode, end)
 
     def note_end(self, cause: str) -> None:
@@ -124,15 +124,17 @@ class Check:
 
     def complete_report(self) -> None:
         """Adds to the report what is only known at the end: what was left out and why, second runs
-        after the time limit, and hits of the cache, which is saved. Stopped if a signal comes
-        meanwhile; the rest is missing then."""
+        after the time limit, and hits of the cache, which is saved. An exception of the second runs
+        is raised after the rest is added, any other one ends it."""
         self.head.has_rest = self.last is not None and not self.last.trials.planned.is_last
         if self.trace.windows is not None:
             self.head.cut_off = [(one.line, one.tried) for one in self.trace.windows.cut_off]
-        if self.head.stopped == TIME_LIMIT and self.last is not None:
-            self.rerun_examples(self.last, RERUN_SECONDS)
         self.report.not_done = list(self.options_not_done())
-        self.save_cache()
+        try:
+            if self.head.stopped == TIME_LIMIT and self.last is not None:
+                self.rerun_examples(self.last, RERUN_SECONDS)
+        finally:
+            self.save_cache()
 
     def options_not_done(self) -> Iterator[str]:
         """A line for each of --nested and --disks that was given and not done to the end, with the
@@ -289,6 +291,13 @@ class Check:
         from crashfs_tools.checker.findings.nested import Nested
 
         return Nested(self.options.nested)
+
+
+def interrupted_by(fault: Exception) -> Interrupted:
+    """An Interrupted whose cause is a fault."""
+    interrupted = Interrupted()
+    interrupted.__cause__ = fault
+    return interrupted
 
 
 def new_report(head: Head, options: Options) -> CheckReport:
