@@ -13,8 +13,8 @@ from crashfs_tools.checker.running.runner import GOOD, Outcome
 from crashfs_tools.checker.running.trials import Trials
 from crashfs_tools.checker.states.plan import Offsets, State
 from crashfs_tools.checker.states.planning import Planner, TooLarge
-from crashfs_tools.common.command import TEXT, Refused
-from crashfs_tools.common.program import LIBRARY
+from crashfs_tools.common.command import TEXT, Refused, ending_text
+from crashfs_tools.common.program import LIBRARY, last_line
 from crashfs_tools.common.removal import remove_tree
 from crashfs_tools.common.trace_lines import read_text, trace_version, without_numbers, without_says
 
@@ -26,6 +26,8 @@ RECORD = (
     f'import sys; sys.path.insert(0, {LIBRARY!r}); '
     'from crashfs_tools.recorder.main import main; sys.exit(main(sys.argv[1:]))'
 )
+# Each line that the recorder prints begins with its name.
+RECORDER = 'crashfs-record'
 # The recorder's exit statuses for a trace that is written, whole or not.
 WRITTEN = (0, 3, 4)
 # A recorded command is slower than one that runs alone.
@@ -95,8 +97,7 @@ class RecoveryRecorder:
             except subprocess.TimeoutExpired as error:
                 raise Refused('its recording took too long') from error
         if ran.returncode not in WRITTEN:
-            lines = ran.stderr.decode('utf-8', 'replace').strip().splitlines()
-            raise Refused(lines[-1].partition(': ')[2] if lines else f'status {ran.returncode}')
+            raise Refused(recorder_fault(ran.returncode, ran.stderr.decode('utf-8', 'replace')))
 
 
 class Nested:
@@ -175,6 +176,13 @@ class Nested:
         last = findings.plan.operations[kept.bit_length() - 1] if kept else None
         kind = f'{last.kind} {without_numbers(last.path)}' if last else ''
         return {('cause', findings.by_state[state.number].cause_without_numbers), ('last', kind)}
+
+
+def recorder_fault(status: int, printed: str) -> str:
+    """Why the recorder wrote no trace, which is never empty: its own text in the last line that was
+    printed on standard error; or, if that line is another program's, how the recorder ended."""
+    name, _, text = last_line(printed).partition(': ')
+    return text if name == RECORDER and text else f'{RECORDER} {ending_text(status)}'
 
 
 def crash_place(found: Findings, group: Group) -> str:
