@@ -56,21 +56,25 @@ class Swap:
     def planned_copy(self, moved: List[int]) -> Optional[Planned]:
         """Writes the copy, in which the lines of these numbers come before the kept one, and after
         them a sync of the lost one's path; then plans it. None if the window lacks one of the
-        lines, or the program refuses this order. A later copy replaces the file."""
+        lines, or has one of these numbers in parts, or if the program refuses this order. A later
+        copy replaces the file."""
         before = self.trials.planned.offsets
         with open(self.trials.planned.trace, **TEXT) as file:
             text = file.read().rstrip('\n').split('\n')
         numbered = list(zip(before.lines or range(1, len(text) + 1), text))
+        numbers = [number for number, _ in numbered]
         taken = [(number, line) for number, line in numbered if number in moved]
-        if len(taken) != len(moved) or self.kept.number not in dict(numbered):
+        if len(taken) != len(moved) or self.kept.number not in numbers:
             return None
         sync = {'op': 'fsync', 'path': self.lost.synced_by}
-        lines: List[Tuple[int, str]] = []
-        for number, line in numbered:
-            if number == self.kept.number:
-                lines += [*taken, (0, json.dumps(sync, ensure_ascii=False))]
-            if number not in moved:
-                lines.append((number, line))
+        # Of a kept line in parts this is the first: all parts come after the sync.
+        place = numbers.index(self.kept.number)
+        lines: List[Tuple[int, str]] = [
+            *numbered[:place],
+            *taken,
+            (0, json.dumps(sync, ensure_ascii=False)),
+            *(one for one in numbered[place:] if one[0] not in moved),
+        ]
         path = os.path.join(self.trials.guard.directory, 'swap.trace')
         with open(path, 'w', **TEXT) as file:
             file.write('\n'.join(line for _, line in lines))
