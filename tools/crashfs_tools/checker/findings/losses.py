@@ -90,15 +90,16 @@ class Searches:
 
     def run(self, states: List[State]) -> Dict[int, Loss]:
         """The smallest losses of failing states, by their numbers; to be called once. A search that
-        takes more than RUNS turns ends with the smallest loss so far."""
+        isn't over after RUNS sets ends with the smallest loss so far."""
         for state in states:
             self.searches[state.number] = loss_search(self.findings.plan, state)
             self.send_answer(state.number, None)
-        for _ in range(RUNS + 1):
-            self.answer_known()
+        self.answer_known()
+        for _ in range(RUNS):
             if not self.wanted:
                 break
             self.try_sets(list(self.wanted.values()))
+            self.answer_known()
         for number, one in self.searches.items():
             if number not in self.found:
                 self.found[number] = smallest_so_far(one)
