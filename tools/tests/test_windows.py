@@ -98,7 +98,12 @@ class Reader:
 class InWindows(InStore):
     def made(self, text, size, quick=False):
         options = SimpleNamespace(
-            prefixes=False, has_lost=not quick, has_files=not quick, serve=None, has_every=False
+            prefixes=False,
+            has_lost=not quick,
+            has_files=not quick,
+            serve=None,
+            has_every=False,
+            profile=None,
         )
         guard = SimpleNamespace(directory=self.temporary, environment={})
         return Windows(Planner(options, Reader(), guard), Session('w', text), size)

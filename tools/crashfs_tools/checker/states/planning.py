@@ -44,16 +44,18 @@ class Planner:
     def plan(self, trace: str, offsets: Offsets = Offsets()) -> Planned:
         """The plan of a trace, whose place in its session `offsets` says. It has the families that
         the options ask for and, if they ask for all crash states, these, or drawn ones if they are
-        too many. TooLarge if the trace is too long for one plan. Refused also for an unknown
-        profile, or if the program and the second reading differ about what micro-operations
-        need."""
+        too many; of all these --in names those to try. TooLarge if the trace is too long for one
+        plan. Refused also for an unknown profile, or if the program and the second reading differ
+        about what micro-operations need."""
         options = self.options
-        if not (options.has_lost or options.has_files or options.has_every):
+        if not (options.has_lost or options.has_files or options.has_every or options.profile):
             return self.plan_of_picks(trace, offsets, [])
         read = self.read_sets(trace)
         families = self.family_sets(read)
         if not options.has_every:
             planned = self.plan_of_picks(trace, offsets, [families])
+            if options.profile:
+                planned.plan = self.with_profiles(planned.plan, read, None)
         else:
             lines = (one.line for one in read.reading.operations)
             without = read.needs.sets_without_lines(lines)
@@ -115,7 +117,7 @@ class Planner:
         planned.plan = self.with_profiles(plan, read, every)
         return planned
 
-    def with_profiles(self, plan: Plan, read: ReadSets, every: AllStates) -> Plan:
+    def with_profiles(self, plan: Plan, read: ReadSets, every: Optional[AllStates]) -> Plan:
         """The plan with `every` as its all_states, and with the profiles of its sets: those that
         the program printed, whose names must be in the order of the second reading's, or else those
         by the second reading. Refused if the trace has no profile that --in names."""
