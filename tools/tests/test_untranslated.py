@@ -106,6 +106,20 @@ TROUBLES: List[Tuple[str, List[str], List[str]]] = [
         FILE,
         ['1 splice(3<pipe:[4]>, NULL, 1<pipe:[7]>, NULL, 4, 0) = 4'],
     ),
+    *[
+        (f'{where}: {line.partition("(")[0]} was cut by the end of its thread', FILE, ['1 ' + line])
+        for where, line in (
+            ('/f', 'rename("f", "b") = ?'),
+            ('/b', 'rename("/etc/a", "b" <unfinished ...>) = ?'),
+            ('/f', 'renameat2(AT_FDCWD</d>, "f", AT_FDCWD</d>, "b", 0) = ?'),
+            ('/s/b', 'mkdirat(5</d/s>, "b", 0755) = ?'),
+            ('/l', 'symlink("f", "l") = ?'),
+            ('/l', 'symlinkat("f", AT_FDCWD</d>, "l") = ?'),
+            ('/f', 'truncate("f", 1) = ?'),
+            ('/f', 'fchownat(5</d/f>, "", 1, 1, AT_EMPTY_PATH) = ?'),
+            ('/f', 'copy_file_range(5</etc/a>, NULL, 6</d/f>, NULL, 9, 0) = ?'),
+        )
+    ],
     ('/f: renamed to from outside the directory', FILE, ['1 rename("/etc/a", "f") = 0']),
     (
         '/f: exchanged with /g',
@@ -217,6 +231,10 @@ class Troubles(unittest.TestCase):
                 self.assertEqual(len(told), 1, told)
                 self.assertTrue(str(told[0]).startswith(wanted), str(told[0]))
                 self.assertEqual((recording.trace.version, recording.trace.operations), (3, []))
+
+    def test_both_names_of_a_cut_rename_may_differ_at_the_end(self):
+        recording = recording_of(['1 rename("f", "b") = ?'], FILE)
+        self.assertEqual(recording.differing, {'/b'})
 
 
 if __name__ == '__main__':

@@ -6,7 +6,7 @@ from typing import Callable, Dict, List, Optional
 
 from crashfs_tools.common.file_bytes import Bytes
 
-from . import call_order, mapped_stores
+from . import arguments, call_order, mapped_stores
 from .arguments import LogError
 from .calls import data as data_calls
 from .calls import modes, names, opens
@@ -17,7 +17,7 @@ from .live_tree import Node
 from .mapped_files import FileCopies, FileCopy
 from .output_streams import SOCKETS, connections_with_lines
 from .processes import Descriptors, PathContext, Process
-from .strace_log import EXIT, FORKS, SUPERSEDE, WRITES, Call, Log
+from .strace_log import EXIT, FORKS, SUPERSEDE, UNFINISHED, WRITES, Call, Log
 
 Handler = Callable[[LiveFiles, Process, Call], None]
 
@@ -120,22 +120,51 @@ class Translator:
             self.report_cut_change(call)
 
     def report_cut_change(self, call: Call) -> None:
-        """Reports a change that its thread's end cut, if its first argument is a descriptor of a
-        stream or in the directory: the log doesn't show whether it was made. A change that is only
-        by a path, as rename, isn't reported."""
+        """Reports a change that its thread's end cut, if it is of a stream or in the directory: the
+        log doesn't show whether it was made. If it has several paths there, the report names the
+        first, and the others may differ at the end."""
         if not call_order.is_change(call):
             return
         process = self.process_of(call.process, call.end)
-        stream = self.files.stream_of(process, call)
-        path = call.descriptor().path
-        below = self.files.relative_path(path) if path else None
-        where = stream.name if stream else below
-        if where is not None:
-            self.files.recording.report(
+        is_by_path = call.name not in call_order.DESCRIPTOR_CHANGES
+        find_places = self.paths_of_change if is_by_path else self.place_of_descriptor
+        places = find_places(process, call)
+        if places:
+            self.recording.report(
                 f'{call.name} was cut by the end of its thread: whether it was '
                 'done is not in the log',
-                where,
+                places[0],
             )
+            self.recording.differing.update(places[1:])
+
+    def place_of_descriptor(self, process: Process, call: Call) -> List[str]:
+        """The name of the stream, or the path of the file, that a call changes by a descriptor, as
+        a list of one; empty if it is elsewhere."""
+        place = call_order.TARGET_PLACES.get(call.name, 0)
+        stream = self.files.stream_of(process, call, place)
+        if stream is not None:
+            return [stream.name]
+        path = call.descriptor(place).path
+        below = self.files.relative_path(path) if path else None
+        return [] if below is None else [below]
+
+    def paths_of_change(self, process: Process, call: Call) -> List[str]:
+        """The paths that a call changes by paths, without those outside the directory. A path is
+        relative to the descriptor before it, or to the working directory. Of a link only the new
+        path is changed."""
+        follows = call.name.startswith(('chmod', 'chown', 'fchmod', 'truncate'))
+        base = process.paths.directory
+        found: List[Optional[str]] = []
+        for argument in call.arguments:
+            word = argument.removesuffix(UNFINISHED).rstrip()
+            shown = arguments.descriptor(word)
+            if word.startswith('"'):
+                found.append(self.files.join_path(base, word, follows))
+            elif shown.number != -1:
+                base = shown.path or process.paths.directory
+        if call.name.startswith(('link', 'symlink')):
+            found = found[-1:]
+        return [path for path in found if path is not None]
 
     def translate_returned(self, call: Call) -> None:
         """Translates a call that returned, with the stores that its copies show: before it those to
