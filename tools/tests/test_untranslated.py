@@ -126,6 +126,14 @@ TROUBLES: List[Tuple[str, List[str], List[str]]] = [
         TWO_FILES,
         ['1 renameat2(AT_FDCWD</d>, "f", AT_FDCWD</d>, "g", RENAME_EXCHANGE) = 0'],
     ),
+    *[
+        (
+            '/f: renamed to from outside the directory, or from an ignored name',
+            FILE,
+            [f'1 renameat2(AT_FDCWD</d>, "{one}", AT_FDCWD</d>, "{other}", RENAME_EXCHANGE) = 0'],
+        )
+        for one, other in (('f', '/etc/a'), ('/etc/a', 'f'))
+    ],
     (
         '/f: fchmod by a descriptor that was opened by something',
         FILE,
@@ -231,6 +239,15 @@ class Troubles(unittest.TestCase):
                 self.assertEqual(len(told), 1, told)
                 self.assertTrue(str(told[0]).startswith(wanted), str(told[0]))
                 self.assertEqual((recording.trace.version, recording.trace.operations), (3, []))
+
+    def test_what_an_exchange_takes_out_of_the_directory_is_not_followed_any_more(self):
+        open_f = '1 openat(AT_FDCWD</d>, "s/f", O_WRONLY) = 3</d/s/f>'
+        change = '1 pwrite64(3</etc/s/f>, "y", 1, 0) = 1'
+        for words in ('"s", AT_FDCWD</d>, "/etc/s"', '"/etc/s", AT_FDCWD</d>, "s"'):
+            exchange = f'1 renameat2(AT_FDCWD</d>, {words}, RENAME_EXCHANGE) = 0'
+            recording = recording_of([open_f, exchange, change], IN_DIRECTORY)
+            self.assertEqual([one.where for one in recording.troubles], ['/s'])
+            self.assertEqual(recording.trace.operations, [])
 
     def test_both_names_of_a_cut_rename_may_differ_at_the_end(self):
         recording = recording_of(['1 rename("f", "b") = ?'], FILE)

@@ -111,7 +111,7 @@ def on_renameat(files: LiveFiles, process: Process, call: Call) -> None:
 
 def rename_path(files: LiveFiles, source: Optional[str], target: Optional[str], flags: str) -> None:
     """Renames a file or directory. A path that is None is outside the directory, or ignored: what
-    comes from there isn't known, and what goes there is removed, also in an exchange. A rename of
+    comes from there isn't known, also in an exchange, and what goes there is removed. A rename of
     the recorded directory itself, or onto it, is only reported. Between two names of one file
     nothing happens."""
     if source is None and target is None:
@@ -124,6 +124,8 @@ def rename_path(files: LiveFiles, source: Optional[str], target: Optional[str], 
         files.recording.report('RENAME_WHITEOUT left a device', source)
     if source is None or node is None:
         add_from_outside(files, target)
+    elif target is None and 'RENAME_EXCHANGE' in flags:
+        add_from_outside(files, source)
     elif target is None:
         move_outside(files, source, node)
     elif 'RENAME_EXCHANGE' in flags:
@@ -133,14 +135,14 @@ def rename_path(files: LiveFiles, source: Optional[str], target: Optional[str], 
 
 
 def add_from_outside(files: LiveFiles, target: Optional[str]) -> None:
-    """Adds, in the place of what is at a path, a file from outside, or from a name that is ignored
-    or not known, and reports it: its bytes aren't known, and the trace doesn't have it. Nothing for
-    None."""
+    """Adds, in the place of what is at a path and below it, a file from outside, or from a name
+    that is ignored or not known, and reports it: its bytes aren't known, and the trace keeps what
+    it has there. Nothing for None."""
     if target is None:
         return
     files.recording.report('renamed to from outside the directory, or from an ignored name', target)
     if target in files.tree.nodes:
-        files.tree.remove_name(target)
+        forget_below(files, target)
     files.tree.add_name(target, Node.unknown())
 
 
