@@ -33,8 +33,8 @@ class StateCounts:
     """How many states there are, over all windows. results and words count different states, which
     are tried once; all_failing counts states that are equal to them too. is_part says that all
     crash states were asked for, but only some are tried; seconds is how long a state takes, 0 if
-    that isn't known; drawn says of the drawn sets, up to the first that wasn't tried, whether each
-    fails."""
+    that isn't known; drawn counts the drawn sets, up to the first that wasn't tried, by their
+    results."""
 
     windows: int = 0
     operations: int = 0
@@ -47,7 +47,7 @@ class StateCounts:
     profile: str = ''
     is_part: bool = False
     seconds: float = 0.0
-    drawn: List[bool] = field(default_factory=list)
+    drawn: Counts[str] = field(default_factory=Counter)
     results: Counts[str] = field(default_factory=Counter)
     words: Counts[str] = field(default_factory=Counter)
 
@@ -70,8 +70,8 @@ class StateCounts:
         self.is_part = self.is_part or results.is_part
         self.seconds = results.seconds or self.seconds
         drawn = results.plan.all_states.drawn if results.plan.all_states else ()
-        tried = list(takewhile(bool, map(findings.by_state.get, drawn)))
-        self.drawn += [one is not None and one.result == BAD for one in tried]
+        tried = takewhile(bool, map(findings.by_state.get, drawn))
+        self.drawn.update(one.result for one in tried if one is not None)
         self.tried += len(outcomes)
         self.all_failing += sum(one.result == BAD for one in findings.own_outcomes())
         self.results.update(one.result for one in outcomes)

@@ -9,7 +9,7 @@ from typing import Iterator, List
 from crashfs_tools.checker.findings.wording import fails
 from crashfs_tools.checker.running.progress import duration_text
 from crashfs_tools.checker.running.results import Head
-from crashfs_tools.checker.running.runner import NO_ANSWER
+from crashfs_tools.checker.running.runner import BAD, NO_ANSWER
 from crashfs_tools.common.printable import printable
 
 from .counts import AcceptedStates, StateCounts
@@ -155,12 +155,16 @@ def time_text(counts: StateCounts, states: int, at_least: str = '') -> str:
 
 
 def drawn_text(counts: StateCounts) -> str:
-    """How many of the sets that were drawn at random fail; if none does, which share of all sets
-    may fail at most, with the probability CONFIDENCE. At least one must have been tried. Sets
-    without an answer count as drawn and as not failing."""
-    drawn, fail = len(counts.drawn), sum(counts.drawn)
+    """How many of the sets that were drawn at random fail or gave no answer; if all are good, which
+    share of all sets may fail at most, with the probability CONFIDENCE. At least one must have been
+    tried. A set without an answer may fail: then no share is known."""
+    drawn, fail = sum(counts.drawn.values()), counts.drawn[BAD]
+    no_answer = counts.drawn[NO_ANSWER]
+    rest = f'; {no_answer:,} gave no answer' if no_answer else ''
     if fail:
-        return f'{fail:,} of {drawn:,} drawn at random {fails(fail)}'
+        return f'{fail:,} of {drawn:,} drawn at random {fails(fail)}{rest}'
+    if no_answer:
+        return f'{drawn:,} drawn at random: none fails{rest}'
     sets = f'{counts.sets:,} sets' if counts.sets is not None else 'sets'
     share = shown_share(1 - (1 - CONFIDENCE) ** (1 / drawn))
     return (
