@@ -132,17 +132,20 @@ def lines_on_links(directory: Scan, last: Tree, reported: Iterable[str]) -> List
     groups: Dict[int, List[str]] = {}
     for path, number in last.files.items():
         groups.setdefault(number, []).append(path)
-    traced = {path: min(group) for group in groups.values() for path in group}
+    traced = {path: min(group, key=scan_order) for group in groups.values() for path in group}
     lines = []
     for path in sorted(traced.keys() & {entry.path for entry in directory.entries}):
         real = directory.links.get(path, path)
         if real != traced[path] and not is_below(path, known):
-            what = 'a link to' if real != path else 'no link to'
-            lines.append(
-                f'{path}: it is {what} {min(real, traced[path])} at the end, and not so in '
-                'the trace'
-            )
+            what = f'a link to {real}' if real != path else f'no link to {traced[path]}'
+            lines.append(f'{path}: it is {what} at the end, and not so in the trace')
     return lines
+
+
+def scan_order(path: str) -> List[str]:
+    """What orders paths as a scan finds them: each directory by the names in it, and what is below
+    a name right after it."""
+    return path.split('/')
 
 
 def lines_on_attributes(before: Scan, now: Scan, troubles: List[Trouble]) -> List[str]:
