@@ -2,11 +2,13 @@
 
 import os
 import unittest
+from typing import Dict
 
 from crashfs_tools.common.trace import BLOCKS, Creat, Header, Link, Mkdir, Operation, Start
 from crashfs_tools.common.tree import Tree
-from crashfs_tools.recorder.comparison import lines_on_links
+from crashfs_tools.recorder.comparison import lines_on_attributes, lines_on_links
 from crashfs_tools.recorder.directory import Scan, scan_directory
+from crashfs_tools.recorder.troubles import Trouble
 
 from .support import InFolder
 
@@ -44,6 +46,27 @@ class Links(InFolder):
             self.assertEqual(
                 lines_on_links(now, tree, []),
                 [f'/c: it is {what} at the end, and not so in the trace'],
+            )
+
+
+class Attributes(unittest.TestCase):
+    def test_only_the_very_path_of_a_trouble_is_left_out(self) -> None:
+        changed: Dict[str, Dict[str, bytes]] = {path: {'user.a': b'1'} for path in ('/a', '/a:b')}
+        noted = [(path, 'its mode bits') for path in changed] + [('/a:b', 'another name')]
+        now = Scan(HEADER, noted=noted, attributes=changed)
+        wanted = [
+            '/a: its extended attributes differ, which no trace has',
+            '/a:b: its extended attributes differ, which no trace has',
+            '/a:b: it has another name at the end',
+        ]
+        for path in changed:
+            self.assertEqual(
+                lines_on_attributes(Scan(HEADER), now, [Trouble('a change', path)]),
+                [
+                    f'not in the trace: {line}'
+                    for line in wanted
+                    if not line.startswith(f'{path}: ')
+                ],
             )
 
 

@@ -158,13 +158,13 @@ def lines_on_attributes(before: Scan, now: Scan, troubles: List[Trouble]) -> Lis
         for path in sorted(before.attributes.keys() | now.attributes.keys())
         if before.attributes.get(path) != now.attributes.get(path)
     ]
-    lines = [f'{path}: its extended attributes differ, which no trace has' for path in changed]
-    lines += [
-        f'{path}: it has {why} at the end'
+    found = [(path, 'its extended attributes differ, which no trace has') for path in changed]
+    found += [
+        (path, f'it has {why} at the end')
         for path, why in now.noted
         if (path, why) not in before.noted and 'mode bits' not in why
     ]
-    return [f'not in the trace: {line}' for line in lines if line.partition(':')[0] not in reported]
+    return [f'not in the trace: {path}: {what}' for path, what in found if path not in reported]
 
 
 def lines_on_new_left_out(before: Scan, now: Scan, reported: Iterable[str]) -> List[str]:
