@@ -71,9 +71,9 @@ def record(
     it prints is not acknowledged. The content of the directory before it is the start tree.
 
     The options are those of crashfs-record, and acknowledged is its --say-fd. environment is that
-    of the session; None is that of this process. Refused is raised if no trace is written; the
-    directory stays as the session left it. If the session fails, or the trace lacks something, the
-    recording isn't complete (Recording)."""
+    of the session; None is that of this process. Refused is raised if no trace is written, or a
+    signal stops crashfs-record; the directory stays as the session left it. If the session fails,
+    or the trace lacks something, the recording isn't complete (Recording)."""
     words = [word for glob in ignore for word in ('--ignore', glob)]
     words += ['--mapped'] if mapped else []
     words += ['--stacks'] if stacks else []
@@ -91,7 +91,7 @@ def record(
 def run_recorder(words: List[str], environment: Optional[Mapping[str, str]]) -> Recording:
     """Runs crashfs-record by its arguments, of which the one before `--` is the trace, and waits
     for its end. The session reads nothing, and what it prints on standard output goes nowhere.
-    Refused, with all lines of standard error, if no trace is written."""
+    Refused, with all lines of standard error, if no trace is written, or a signal stopped it."""
     ran = subprocess.run(
         [sys.executable, '-S', '-c', RECORD, *words],
         stdin=subprocess.DEVNULL,

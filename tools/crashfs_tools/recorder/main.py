@@ -145,7 +145,7 @@ def target_on_disk(path: str) -> Optional[str]:
 def record(options: RecordOptions) -> int:
     """Records a session, writes the trace, prints the summary, and returns the status. Refused,
     LogError, Stopped or an OSError come before the trace is written. If an error or a signal comes
-    later, a line is printed, and the status is NOT_WHOLE."""
+    later, a line is printed, and the status is NOT_WHOLE, or that of the signal."""
     prepare_options(options)
     Crashfs.find(options.crashfs)
     before = scan_directory(options.directory, options.ignored, options.version or NEWEST)
@@ -156,6 +156,9 @@ def record(options: RecordOptions) -> int:
     write_trace(options, recording)
     try:
         return report_recording(options, recording, before, run)
+    except Stopped as stopped:
+        print_text(f'stopped by {stopped}; {WRITTEN}')
+        return stopped.status
     except OSError as error:
         print_text(f'{error.filename or options.out}: {error.strerror}; {WRITTEN}')
     except Exception as error:
