@@ -44,7 +44,7 @@ def report_of(
     options: Options, results: AllResults, trace: Optional[CheckedTrace] = None
 ) -> CheckReport:
     """The report of results that were read, window by window. If their trace is given, it also says
-    how files differ: Refused if the trace has other states than a window."""
+    how files differ: Refused if the trace has other states than a window, or fewer windows."""
     report = new_report(results.head, options)
     outcomes: Dict[int, Outcome] = {}
     planned = trace.all_planned() if trace else None
@@ -53,8 +53,8 @@ def report_of(
         outcomes = findings.by_state
         report.add(findings)
         if trace is not None and planned is not None:
-            one = next(planned)
-            if Results(one.plan).identity() != window.identity():
+            one = next(planned, None)
+            if one is None or Results(one.plan).identity() != window.identity():
                 raise Refused(OTHER_PLAN)
             find_differences(Trials(trace.workplace, one), findings)
     return report

@@ -22,8 +22,6 @@ from .results import FORMAT, AllResults, Head, Results
 from .runner import BAD, GOOD, NO_ANSWER, Outcome
 
 MOST = 1 << 40
-# How many numbers a state of a family has; a pick has any number of them.
-NUMBERS = {'prefix': 1, 'hole': 2}
 
 # Returns a value that JSON may have; ValueError for one that it may not have there.
 Read = Callable[[Any], Any]
@@ -105,7 +103,8 @@ def seconds(value: Any) -> float:
 
 def plan_of(fields: Dict[str, Any]) -> Plan:
     """The plan of a window from its fields. Each state must have the number of its place in the
-    list, and no micro-operation may need a later one. ValueError or KeyError for anything else."""
+    list, each prefix must be there, the shorter ones first, and no micro-operation may need a later
+    one. ValueError or KeyError for anything else."""
     operations = [
         MicroOperation(*row(one, integer, text, text, text, integer))
         for one in items(fields['operations'])
@@ -115,6 +114,9 @@ def plan_of(fields: Dict[str, Any]) -> Plan:
         state(one, number, len(operations))
         for number, one in enumerate(items(fields['states']), first)
     ]
+    ends = [one.numbers[0] for one in listed if one.family == 'prefix']
+    if ends != list(range(len(operations) + 1)):
+        raise ValueError('other prefixes')
     masks = [int(text(mask), 16) for mask in items(fields['needs'])]
     if len(masks) != len(operations) or any(
         not 0 <= mask < 2 << place for place, mask in enumerate(masks)
@@ -161,13 +163,22 @@ def count_or_none(value: Any) -> Optional[int]:
 
 def state(value: Any, number: int, count: int) -> State:
     """A state of a plan that has `count` micro-operations: a list whose number must be `number`,
-    and which has as many places as its family wants. ValueError for anything else."""
+    and which has numbers that its family may have. ValueError for anything else."""
     own, family, numbers, says, same = row(value, integer, text, items, integer, integer)
-    places = [integer(place, count) for place in numbers]
-    wanted = NUMBERS.get(family, len(places) if family == 'pick' else -1)
-    if own != number or len(places) != wanted or family != 'prefix' and count in places[:1]:
+    places = tuple(integer(place, count) for place in numbers)
+    if own != number or not is_of_family(family, places, count):
         raise ValueError('no state of a plan')
-    return State(number, family, tuple(places), says, same)
+    return State(number, family, places, says, same)
+
+
+def is_of_family(family: str, numbers: Tuple[int, ...], count: int) -> bool:
+    """Whether a state of this family may have these numbers, each from 0 to `count`, in a plan that
+    has `count` micro-operations. False for another family."""
+    if family == 'prefix':
+        return len(numbers) == 1
+    if family == 'hole':
+        return len(numbers) == 2 and numbers[0] + 1 < numbers[1]
+    return family == 'pick' and count not in numbers
 
 
 def outcome(value: Any) -> Outcome:
