@@ -4,7 +4,7 @@ import os
 import sys
 import unittest
 
-from crashfs_tools.common.program import BUILT, Crashfs, program_of_tools
+from crashfs_tools.common.program import BUILT, Crashfs, ProgramFault, program_of_tools
 
 from .support import InFolder
 
@@ -31,6 +31,19 @@ class Archives(InFolder):
         program = self.write('crashfs', f'#!{sys.executable} -S\n{LATE}', 0o755)
         tree = Crashfs(program).tree('a.trace', 0)
         self.assertEqual(list(tree), ['/a'])
+
+
+class Faults(unittest.TestCase):
+    def test_only_a_line_feed_ends_a_line_of_a_fault(self):
+        for letter in '\x0b\x0c\x1c\x1d\x1e\x85\u2028\u2029\r':
+            line = f'crashfs: a.trace:2: /a{letter}b is not there'
+            text = f'crashfs: trace line 2: Missing\n{line}\n'
+            with self.subTest(letter=letter):
+                self.assertEqual(str(ProgramFault(1, text.encode())), line)
+                self.assertEqual(str(ProgramFault(2, f'{line}\nUsage: ..\n'.encode())), line)
+
+    def test_a_fault_without_a_text_says_how_the_program_ended(self):
+        self.assertEqual(str(ProgramFault(3, b' \n')), 'crashfs ended with status 3')
 
 
 class Places(InFolder):

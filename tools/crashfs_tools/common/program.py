@@ -58,14 +58,11 @@ class ProgramFault(Exception):
         """error_text is all that the program printed as an error: its last line becomes the fault's
         text, but its first one if the command line was wrong, since the usage comes after that."""
         self.text = error_text.decode('utf-8', 'replace').strip()
-        lines = self.text.splitlines()
+        # A path in it may have other characters that end a line for Python, such as U+2028.
+        lines = self.text.split('\n')
         # A command line parser prints its usage after its first line.
-        line = (
-            lines[0 if status == UNKNOWN_OPTION else -1]
-            if lines
-            else f'crashfs {ending_text(status)}'
-        )
-        super().__init__(line)
+        line = lines[0 if status == UNKNOWN_OPTION else -1]
+        super().__init__(line or f'crashfs {ending_text(status)}')
         self.status = status
 
     @property
