@@ -132,6 +132,24 @@ class Campaigns(InFolder):
         self.assertIn('acknowledged &quot;version 1&quot;', self.read('found/entry-1.html'))
         self.assertIn('acknowledged "version 1"', ran.stdout)
 
+    def test_two_entries_with_the_same_key_are_one_session(self):
+        words = [self.path('found'), '--', self.session, '--', self.recover]
+        campaign = main.Campaign(read_options(words))
+        entries = [Failure(f'lost: {name}', ['line 7 was not'], 3, 1) for name in 'ab']
+        other = Failure('corrupt: a', [], 4, 1)
+        trace = Path(self.write('session.trace', '{"op":"say","text":"x"}\n'))
+        campaign.sessions = mock.Mock(trace=trace, folder=Path(self.folder))
+        campaign.sessions.record.return_value = ''
+        campaign.sessions.check.return_value = Checked([*entries, other])
+        with mock.patch.object(main, 'print_line') as printed:
+            campaign.try_seed(1)
+            campaign.try_seed(2)
+        self.assertEqual([one.sessions for one in campaign.book.entries.values()], [2, 2])
+        self.assertEqual(
+            [call.args[1] for call in printed.call_args_list],
+            ['seed 1: new: lost: a', 'seed 1: new: corrupt: a'],
+        )
+
     def test_now_and_then_a_line_says_how_many_sessions_were_tried(self):
         words = [self.path('found'), '--', self.session, '--', self.recover]
         campaign = main.Campaign(read_options(words))

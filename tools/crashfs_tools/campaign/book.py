@@ -7,7 +7,7 @@ import json
 import re
 from dataclasses import asdict, dataclass, field
 from pathlib import Path
-from typing import Dict, List, Tuple
+from typing import Dict, Iterable, List, Tuple
 
 from crashfs_tools.common.command import Refused, write_whole
 
@@ -109,3 +109,11 @@ def failure_key(failure: Failure) -> str:
     file has these keys: after a change of them known failures would be new ones."""
     kind = failure.cause.partition(':')[0]
     return VARYING.sub('#', ': '.join([kind, *failure.text[:1]]))
+
+
+def failures_by_key(failures: Iterable[Failure]) -> Dict[str, Failure]:
+    """The failures of a session by failure_key, in their order: the first one of each key."""
+    found: Dict[str, Failure] = {}
+    for failure in failures:
+        found.setdefault(failure_key(failure), failure)
+    return found

@@ -20,7 +20,7 @@ from crashfs_tools.common.guard import Stopped, stop_by_exception
 from crashfs_tools.common.own_faults import print_own_fault
 from crashfs_tools.common.printable import print_utf8, printable
 
-from .book import Book, KnownFailure, failure_key, read_book
+from .book import Book, KnownFailure, failures_by_key, read_book
 from .options import NAME, CampaignOptions, read_options
 from .report import length_text, page_text, report_lines, verdict_line
 from .sessions import Checked, Failure, Sessions
@@ -71,8 +71,8 @@ class Campaign:
         checked = Checked(fault=fault) if fault else self.sessions.check(self.sessions.trace)
         if checked.fault:
             self.book.faults.append((seed, checked.fault))
-        for failure in checked.failures:
-            self.add_failure(seed, failure)
+        for key, failure in failures_by_key(checked.failures).items():
+            self.add_failure(seed, key, failure)
         self.book.sessions += 1
         self.book.next_seed = seed + 1
         self.book.save()
@@ -85,11 +85,10 @@ class Campaign:
         print_line(NAME, printable(line))
         self.printed = time.monotonic()
 
-    def add_failure(self, seed: int, failure: Failure) -> None:
-        """Counts a failure of the session that was recorded last. Keeps this session, cut to the
-        shortest part that fails so, if the failure is new, or if that part has fewer acknowledged
-        lines than the kept one. Prints a line if it keeps the session."""
-        key = failure_key(failure)
+    def add_failure(self, seed: int, key: str, failure: Failure) -> None:
+        """Counts a failure of the session that was recorded last, once for each key. Keeps this
+        session, cut to the shortest part that fails so, if the failure is new, or if that part has
+        fewer acknowledged lines than the kept one. Prints a line if it keeps the session."""
         shrinking = Shrinking(self.sessions, key)
         known = self.book.entries.get(key)
         if known is None:
