@@ -216,6 +216,19 @@ class Campaigns(InFolder):
         words = ['--time-limit', '3600', '--seeds', '5-7', *commands]
         self.assertEqual(read_options(words).seeds, (5, 7))
 
+    def test_options_of_the_commands_are_quoted_as_for_a_shell(self):
+        commands = ['found', '--', 'true', '--', 'true']
+        options = read_options(['--record', "--ignore 'a b'", '--check=--jobs 2', *commands])
+        self.assertEqual(options.record, ['--ignore', 'a b'])
+        self.assertEqual(options.check, ['--jobs', '2'])
+        options = read_options(commands)
+        self.assertEqual((options.record, options.check), ([], []))
+        for option in ('--record', '--check'):
+            for text in ("'", '"a', 'a\\'):
+                ran = self.run_tool('crashfs-campaign', option, text, *commands)
+                self.assertEqual(ran.returncode, 2, ran.stderr)
+                self.assertIn(f'error: argument {option}: {text}: No ', ran.stderr)
+
     def test_two_commands_are_needed(self):
         ran = self.run_tool('crashfs-campaign', self.path('found'), '--', self.session)
         self.assertEqual(ran.returncode, 2)

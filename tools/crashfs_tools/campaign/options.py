@@ -85,6 +85,14 @@ def positive_seconds(text: str) -> float:
     return seconds
 
 
+def words_of(text: str) -> List[str]:
+    """The words of a text, quoted as for a shell; ArgumentTypeError if a quotation has no end."""
+    try:
+        return shlex.split(text)
+    except ValueError as error:
+        raise argparse.ArgumentTypeError(f'{text}: {error}') from error
+
+
 def make_parser() -> argparse.ArgumentParser:
     """The parser of the words before the first `--`: the options and RESULTS. It doesn't parse
     SESSION and RECOVERY."""
@@ -112,10 +120,18 @@ def make_parser() -> argparse.ArgumentParser:
     )
     parser.add_argument('--start', metavar='DIR', help='begin each session with a copy of DIR')
     parser.add_argument(
-        '--record', metavar='WORDS', default='', help='options of crashfs-record, in one argument'
+        '--record',
+        metavar='WORDS',
+        type=words_of,
+        default=[],
+        help='options of crashfs-record, in one argument',
     )
     parser.add_argument(
-        '--check', metavar='WORDS', default='', help='options of crashfs-check, in one argument'
+        '--check',
+        metavar='WORDS',
+        type=words_of,
+        default=[],
+        help='options of crashfs-check, in one argument',
     )
     parser.add_argument('--html', metavar='FILE', help='write an index of what was found as a page')
     return parser
@@ -140,8 +156,8 @@ def read_options(arguments: List[str]) -> CampaignOptions:
         recovery=with_program_path(recovery),
         seeds=values.seeds or (ALL_SEEDS if has_time_limit else SEEDS),
         start=values.start and os.path.abspath(values.start),
-        record=shlex.split(values.record),
-        check=shlex.split(values.check),
+        record=values.record,
+        check=values.check,
         time_limit=values.time_limit,
         html=values.html,
     )
