@@ -229,6 +229,22 @@ class Campaigns(InFolder):
                 self.assertEqual(ran.returncode, 2, ran.stderr)
                 self.assertIn(f'error: argument {option}: {text}: No ', ran.stderr)
 
+    def test_results_that_are_no_directory_are_refused(self):
+        self.write('file', '')
+        os.symlink('nowhere', self.path('link'))
+        os.makedirs(self.path('old', 'campaign.json'))
+        book = os.path.join('old', 'campaign.json')
+        for name, text in (
+            ('file', 'file is no directory'),
+            ('link', 'link is no directory'),
+            ('file/below', 'file/below: Not a directory'),
+            ('old', f'{book}: Is a directory'),
+        ):
+            ran = self.run_tool('crashfs-campaign', name, '--', 'true', '--', 'true')
+            line = f'crashfs-campaign: {text}\n'
+            self.assertEqual((ran.returncode, ran.stdout, ran.stderr), (2, '', line))
+        self.assertEqual(self.read('file'), '')
+
     def test_two_commands_are_needed(self):
         ran = self.run_tool('crashfs-campaign', self.path('found'), '--', self.session)
         self.assertEqual(ran.returncode, 2)

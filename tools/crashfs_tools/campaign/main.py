@@ -37,12 +37,17 @@ class Campaign:
 
     def __init__(self, options: CampaignOptions) -> None:
         """Makes the directory RESULTS if it isn't there, and reads the book of an earlier run in
-        it, which it continues. Refused as from read_book; OSError if RESULTS can't be made or
-        read."""
+        it, which it continues. Refused as from read_book, or if RESULTS can't be made or read."""
         self.options = options
         self.results = Path(options.results)
-        self.results.mkdir(parents=True, exist_ok=True)
-        self.book = read_book(self.results / 'campaign.json', options.identity(), options.seeds[0])
+        book = self.results / 'campaign.json'
+        try:
+            self.results.mkdir(parents=True, exist_ok=True)
+            self.book = read_book(book, options.identity(), options.seeds[0])
+        except FileExistsError as error:
+            raise Refused(f'{options.results} is no directory') from error
+        except OSError as error:
+            raise Refused(f'{error.filename}: {error.strerror}') from error
         self.work = self.results / 'work'
         self.sessions = Sessions(options, self.work)
         self.printed = time.monotonic()
