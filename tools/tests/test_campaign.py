@@ -9,10 +9,11 @@ from pathlib import Path
 from unittest import mock
 
 from crashfs_tools.campaign import main
-from crashfs_tools.campaign.book import failure_key
+from crashfs_tools.campaign.book import Book, KnownFailure, failure_key, read_book
 from crashfs_tools.campaign.options import read_options
 from crashfs_tools.campaign.sessions import Checked, Failure
 from crashfs_tools.campaign.shrinking import Shrinking, says_in
+from crashfs_tools.common.command import Refused
 from crashfs_tools.common.trace import Header, Say, Trace
 
 from .support import PATIENCE, InFolder
@@ -51,6 +52,25 @@ class Keys(unittest.TestCase):
     def test_only_acknowledged_lines_are_counted(self):
         lines = ['{"op":"say","text":"x"}', '{"op":"note","text":"\\"say\\""}', '{"op":"sync"}']
         self.assertEqual(says_in([*lines, lines[0]]), [0, 3])
+
+
+class Books(InFolder):
+    def test_a_file_that_is_no_book_is_refused(self):
+        path = Path(self.path('campaign.json'))
+        book = Book(path, ['a'], 4, 3, {'k': KnownFailure(Failure('c', ['t'], 1, 1), 2, 1)})
+        book.save()
+        self.assertEqual(read_book(path, ['a'], 1), book)
+        fields = json.loads(path.read_text('utf-8'))
+        changes = [
+            {'entries': value} for value in (None, 5, [None], [5], ['k'], [[]], [{}], {'k': 1})
+        ]
+        changes += [{'entries': [{**fields['entries'][0], 'failure': value}]} for value in (5, {})]
+        changes += [{'faults': value} for value in (5, [5], [[1]])] + [{'next_seed': 'x'}]
+        texts = [json.dumps({**fields, **change}) for change in changes]
+        for text in [*texts, '', '[]', 'null', '5', '{']:
+            path.write_text(text, 'utf-8')
+            with self.subTest(text=text), self.assertRaisesRegex(Refused, 'no file of crashfs'):
+                read_book(path, ['a'], 1)
 
 
 class Cuts(InFolder):

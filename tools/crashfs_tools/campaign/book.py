@@ -96,7 +96,7 @@ def read_book(path: Path, identity: List[object], first_seed: int) -> Book:
             for words in fields['entries']:
                 key, failure = words.pop('key'), Failure(**words.pop('failure'))
                 book.entries[key] = KnownFailure(failure, **words)
-    except (ValueError, KeyError, TypeError) as error:
+    except (ValueError, KeyError, TypeError, AttributeError) as error:
         raise Refused(f'{path} is no file of crashfs-campaign') from error
     if not is_same:
         raise Refused(f'{path} is of other commands: name another directory')
