@@ -381,10 +381,10 @@ def as_json(fields: Dict[str, Any]) -> str:
 
 def fields_of_line(number: int, line: str) -> Any:
     """What the line with this number has as JSON, of any type. TraceError, with the number, if it
-    is no JSON."""
+    is no JSON, or has more levels than Python reads."""
     try:
         return json.loads(line)
-    except ValueError as error:
+    except (ValueError, RecursionError) as error:
         raise TraceError(f'line {number} is no line of a trace ({error})') from error
 
 

@@ -26,7 +26,7 @@ def read_object(line: str) -> Dict[str, Any]:
         raise syntax(f'no JSON: {error}') from error
     if not isinstance(value, dict):
         raise syntax('no JSON object')
-    if line.count('[') + line.count('{') > DEPTH and depth(value) > DEPTH:
+    if line.count('[') + line.count('{') > DEPTH and is_deeper(value, DEPTH):
         raise syntax(f'values nested deeper than {DEPTH} levels')
     if '\\u' in line:
         refuse_surrogates(value)
@@ -54,12 +54,20 @@ def refuse_constant(text: str) -> None:
     raise ValueError(f'{text} is no number')
 
 
-def depth(value: Any) -> int:
-    """How many levels of objects and arrays a value has: 0 if it is neither, 1 for an empty one."""
-    if not isinstance(value, (dict, list)):
-        return 0
-    below = value.values() if isinstance(value, dict) else value
-    return 1 + max(map(depth, below), default=0)
+def is_deeper(value: Any, levels: int) -> bool:
+    """Whether a value has more than so many levels of objects and arrays: it has none if it is
+    neither, and an empty one has 1."""
+    of_level = [value]
+    for _ in range(levels):
+        of_level = [inner for outer in of_level for inner in inner_values(outer)]
+    return any(isinstance(one, (dict, list)) for one in of_level)
+
+
+def inner_values(value: Any) -> List[Any]:
+    """The values of an object or an array; none if a value is neither."""
+    if isinstance(value, dict):
+        return list(value.values())
+    return value if isinstance(value, list) else []
 
 
 def refuse_surrogates(value: Any) -> None:
