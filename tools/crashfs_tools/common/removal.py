@@ -31,8 +31,8 @@ def remove_tree(path: str, at: Optional[int] = None, aside: str = '') -> bool:
     directory, or may not be removed from it, is left in the directory `aside`, by default PATH +
     LEFT; with `at` it must be given.
 
-    `aside` must be on the same file system. OSError if it can't be made, or if it had something in
-    it before and PATH is gone.
+    `aside` must be on the same file system; what it had before stays in it. OSError if it can't be
+    made.
     """
     try:
         os.unlink(path, dir_fd=at)
@@ -47,8 +47,8 @@ def remove_tree(path: str, at: Optional[int] = None, aside: str = '') -> bool:
 
 def remove_directory(path: str, at: Optional[int], aside: str) -> bool:
     """Removes a directory, and returns whether it is gone from its path; an empty one is just
-    removed. What can't be removed is left in `aside`, which is else removed too. OSError as
-    remove_tree()."""
+    removed. What can't be removed is left in `aside`, which is else removed too, unless it had
+    something before. OSError as remove_tree()."""
     if remove_if_empty(path, at):
         return True
     if not os.path.isdir(aside):
@@ -59,7 +59,7 @@ def remove_directory(path: str, at: Optional[int], aside: str) -> bool:
     finally:
         os.close(file)
     if is_gone:
-        os.rmdir(aside)
+        remove_if_empty(aside, None)
     return is_gone
 
 
