@@ -32,6 +32,8 @@ from .trace import (
     Write,
 )
 
+ROOT_FAULT = '/ is the root'
+
 
 def path_fault(path: str) -> Optional[str]:
     """Why a trace can't have this path, in words, or None if it can. Whether something is there
@@ -105,8 +107,7 @@ class Tree:
 
     def fault(self, operation: Operation) -> Optional[str]:
         """Why the trace can't have this operation here, in words, or None if it can. Nothing is
-        changed. A say or a sync is always possible: the bytes of a say aren't counted. That the
-        root can't be removed or renamed isn't noticed: callers see to it."""
+        changed. A say or a sync is always possible: the bytes of a say aren't counted."""
         if isinstance(operation, (Creat, Mkdir, Symlink)):
             return self.new_fault(operation.path)
         if isinstance(operation, Rename):
@@ -178,9 +179,12 @@ class Tree:
 
     def directory_fault(self, source: str, target: str) -> Optional[str]:
         """Why a directory can't be renamed from `source` to `target`; None if it can. Before
-        version 4 none can. It may replace an empty directory, or be renamed to itself."""
+        version 4 none can, and never the root. It may replace an empty directory, or be renamed to
+        itself."""
         if self.version < 4:
             return f'{source} is a directory'
+        if source == '/':
+            return ROOT_FAULT
         if target == source or target not in self.entries:
             return f'{target} is below {source}' if target.startswith(source + '/') else None
         if target.startswith(source + '/'):
@@ -203,7 +207,10 @@ class Tree:
         return parent_of(source) != parent_of(target) and not is_nothing
 
     def rmdir_fault(self, path: str) -> Optional[str]:
-        """Why a path isn't that of an empty directory; None if it is."""
+        """Why a path isn't that of an empty directory that may be removed, as the root may not;
+        None if it is."""
+        if path == '/':
+            return ROOT_FAULT
         entry = self.entries.get(path)
         if entry is None or not entry.is_directory:
             return f'{path} is no directory of the trace'
