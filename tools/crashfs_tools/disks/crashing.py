@@ -44,14 +44,23 @@ class CrashMaker:
     def start_image(self) -> str:
         """The path of this process's image that has the start tree; the first call makes it.
         Processes can't share one: XFS and btrfs mount no two images of one identity at once. After
-        an error an image may be left that hasn't the whole tree: call remove_images()."""
+        an error no image is left, and the next call makes it again."""
         image = self.own_path('start')
         if not os.path.exists(image):
-            images.make_image(self.filesystem, image)
-            with images.mounted(self.filesystem, image, self.own_path('point')) as top:
-                lay_out_start(self.trace, os.path.join(top, DIRECTORY), self.owners)
-            images.dig_holes(image)
+            try:
+                self.make_start_image(image)
+            except BaseException:
+                Path(image).unlink(missing_ok=True)
+                raise
         return image
+
+    def make_start_image(self, image: str) -> None:
+        """Makes a new image that has the start tree. After an error one without the whole tree may
+        be left."""
+        images.make_image(self.filesystem, image)
+        with images.mounted(self.filesystem, image, self.own_path('point')) as top:
+            lay_out_start(self.trace, os.path.join(top, DIRECTORY), self.owners)
+        images.dig_holes(image)
 
     def moments(self) -> List[Moment]:
         """The moments of the session at which it may crash, from the start to the end."""
