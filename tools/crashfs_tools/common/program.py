@@ -14,7 +14,7 @@ from functools import cached_property
 from itertools import groupby
 from typing import Any, Dict, Iterator, List, Optional, Tuple, Union
 
-from .archive import ArchiveFault, Member, members
+from .archive import ArchiveFault, Member, members, number_of_state
 from .command import Refused, ending_text
 from .entry import Entries
 from .forked_reading import ForkedReading
@@ -215,11 +215,13 @@ class Crashfs:
         self, words: List[str], environment: Optional[Dict[str, str]] = None
     ) -> Iterator[Tuple[int, Entries]]:
         """The states that the option `--states` among the words names, in the order of its list, as
-        a stream: of each its number and its tree, with the root. ProgramFault, at the end, if the
-        program refuses them. If the stream is closed before its end, the program is killed."""
+        a stream: of each its number and its tree, with the root. ProgramFault for an entry that is
+        in no state, and, at the end, if the program refuses them. If the stream is closed before
+        its end, the program is killed."""
         with self.archive(words, environment) as archive:
             for top, state in groupby(archive, first_name):
-                yield int(top), {'/' + path[len(top) + 1 :]: entry for path, entry in state}
+                number = number_of_state(top)
+                yield number, {'/' + path[len(top) + 1 :]: entry for path, entry in state}
 
     def whole_tree(self, words: List[str], environment: Optional[Dict[str, str]] = None) -> Entries:
         """The tree, with the root, of the one state that `--state` among the words names;

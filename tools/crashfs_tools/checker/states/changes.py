@@ -4,7 +4,7 @@ from __future__ import annotations
 
 from typing import Iterator, List, NamedTuple, Optional
 
-from crashfs_tools.common.archive import ArchiveFault, Member
+from crashfs_tools.common.archive import ArchiveFault, Member, number_of_state
 from crashfs_tools.common.entry import Entries
 
 ENDING = '.missing'
@@ -31,7 +31,7 @@ class Changes(NamedTuple):
 def read_changes(members: Iterator[Member]) -> Iterator[Changes]:
     """Yields the changes of each state, in the order of the archive. A state's list of missing
     paths, a file NUMBER.missing at the archive's top, comes first, and then its entries.
-    ArchiveFault if an entry comes before its list, ValueError if a NUMBER is no number."""
+    ArchiveFault if an entry comes before its list, or if a NUMBER is no number."""
     changes: Optional[Changes] = None
     for whole, entry in members:
         top, _, path = whole.partition('/')
@@ -39,10 +39,9 @@ def read_changes(members: Iterator[Member]) -> Iterator[Changes]:
             if changes is not None:
                 yield changes
             shown = bytes(entry.data or b'').decode('utf-8', 'surrogateescape').split('\0')
-            changes = Changes(
-                int(top[: -len(ENDING)]), [name.rstrip('/') for name in shown[:-1]], {}
-            )
-        elif changes is None or int(top) != changes.number:
+            number = number_of_state(top[: -len(ENDING)])
+            changes = Changes(number, [name.rstrip('/') for name in shown[:-1]], {})
+        elif changes is None or number_of_state(top) != changes.number:
             raise ArchiveFault(f'{whole} comes before a list of what is missing')
         else:
             changes.entries[path] = entry

@@ -20,7 +20,7 @@ from typing import (
     TypeVar,
 )
 
-from crashfs_tools.common.archive import Member
+from crashfs_tools.common.archive import Member, number_of_state
 from crashfs_tools.common.entry import Entry
 from crashfs_tools.common.removal import FOLDER, remove_tree, set_folder_mode
 from crashfs_tools.common.program import Crashfs, ProgramFault, first_name
@@ -110,12 +110,13 @@ def read_trees(
 ) -> Iterator[Tuple[int, Taken]]:
     """Yields each wanted state of a plan, ascending, with what `take` returns for its number and
     tree. `take` must read the tree to its end; the paths are relative, the root's is empty.
-    ProgramFault, at the end of an archive, if the program failed or lacks a state."""
+    ProgramFault for an entry that is in no state, and, at the end of an archive, if the program
+    failed or lacks a state."""
     left = set(wanted)
     for request in planned.requests(wanted):
         with program.archive(request.words, environment) as members:
             for top, tree in groupby(members, first_name):
-                number = int(top) + request.lead
+                number = number_of_state(top) + request.lead
                 if number in left:
                     left.remove(number)
                     below = ((path[len(top) + 1 :], entry) for path, entry in tree)
