@@ -20,6 +20,8 @@ from crashfs_tools.reading.states import States
 
 # The profile that each file system is compared with.
 PROFILE_OF = {'ext4': 'journal', 'xfs': 'journal', 'btrfs': 'blocks'}
+# With how many operations a session is drawn, unless another number is asked for.
+OPERATIONS = 7
 # Equal bytes that follow each other.
 RUN = re.compile(rb'(.)\1*', re.DOTALL)
 # A tree, by its digest, with how many lines are acknowledged when a crash leaves it.
@@ -30,8 +32,9 @@ TreeAndCount = Tuple[str, int]
 class SessionResult:
     """A session on a file system: how many disks there were and how many differ; how many of these
     are among the states that a profile allows, for each profile; and texts of those that the file
-    system's profile does not allow. states counts the different states by `blocks`. The fields are
-    those of a line of results.jsonl."""
+    system's profile does not allow. states counts the different states by `blocks`, and operations
+    those that the session was drawn with. The fields are those of a line of results.jsonl; an old
+    line that lacks operations is of a session with OPERATIONS."""
 
     filesystem: str
     seed: int
@@ -40,6 +43,7 @@ class SessionResult:
     states: int = 0
     allowed: Dict[str, int] = field(default_factory=dict)
     outside: List[str] = field(default_factory=list)
+    operations: int = OPERATIONS
 
     def fields(self) -> Dict[str, object]:
         """The result as a line of results.jsonl has it."""

@@ -3,8 +3,8 @@
 Each session is made again up to each of its operations, with what the kernel has written then and
 with more. The device is copied there, and the copy mounted: a crash. The tree on it must be that of
 an allowed set by the profile of its file system. It needs root, loop devices and mkfs. Results are
-kept in DIR, a line for each session; sessions that DIR has are not made again. Status 0: no disk is
-outside the profile of its file system.
+kept in DIR, a line for each session; sessions that DIR has, with as many operations, are not made
+again. Status 0: no disk is outside the profile of its file system.
 """
 
 from __future__ import annotations
@@ -14,6 +14,7 @@ import json
 import os
 import platform
 import sys
+from dataclasses import replace
 from functools import partial
 from pathlib import Path
 from typing import Iterator, List, Optional, Set, Tuple
@@ -24,7 +25,14 @@ from crashfs_tools.disks.filesystems import missing_requirement, filesystems_of
 from crashfs_tools.disks.pool import become_worker
 from crashfs_tools.disks.workers import DiskWorkers
 
-from .disk_sessions import PROFILE_OF, SessionMaker, SessionResult, table_lines, trace_text
+from .disk_sessions import (
+    OPERATIONS,
+    PROFILE_OF,
+    SessionMaker,
+    SessionResult,
+    table_lines,
+    trace_text,
+)
 from .random_sessions import session
 
 MEMORY = '/dev/shm'
@@ -45,7 +53,9 @@ def parsed_words(given: List[str]) -> argparse.Namespace:
     parser.add_argument('--on', default=','.join(PROFILE_OF), metavar='LIST', help='file systems')
     parser.add_argument('--first', type=int, default=1, metavar='SEED', help='the first seed (1)')
     parser.add_argument('--sessions', type=int, default=300, metavar='N', help='how many (300)')
-    parser.add_argument('--operations', type=int, default=7, metavar='N', help='of each (7)')
+    parser.add_argument(
+        '--operations', type=int, default=OPERATIONS, metavar='N', help=f'of each ({OPERATIONS})'
+    )
     parser.add_argument(
         '--jobs', type=int, default=os.cpu_count() or 1, metavar='N', help='at once'
     )
@@ -65,13 +75,13 @@ class Measurement:
         words.dir.mkdir(parents=True, exist_ok=True)
 
     def results(self) -> List[SessionResult]:
-        """The results in the file of sessions that are asked for, in the file's order; none if
-        there is no file. The file doesn't say how many operations a session had: results with
-        another --operations count too. ValueError if a line isn't whole."""
+        """The results in the file of sessions that are asked for, with as many operations, in the
+        file's order; none if there is no file. ValueError if a line isn't whole."""
         wanted = set(self.tasks())
         lines = self.path.read_text('utf-8').splitlines() if self.path.exists() else []
         found = [SessionResult(**json.loads(line)) for line in lines]
-        return [one for one in found if (one.filesystem, one.seed) in wanted]
+        asked = [one for one in found if one.operations == self.words.operations]
+        return [one for one in asked if (one.filesystem, one.seed) in wanted]
 
     def tasks(self) -> Iterator[Task]:
         """Each seed that is asked for, on each file system that is: all file systems of a seed
@@ -94,7 +104,9 @@ class Measurement:
 
         def result_of(task: Task) -> SessionResult:
             name, seed = task
-            return makers[name].compare_session(seed, session(seed, self.words.operations))
+            count = self.words.operations
+            result = makers[name].compare_session(seed, session(seed, count))
+            return replace(result, operations=count)
 
         begin = partial(become_worker, os.getpid())
         with DiskWorkers(self.words.jobs, begin, result_of) as workers:
@@ -105,12 +117,12 @@ class Measurement:
 
     def keep(self, result: SessionResult) -> None:
         """Adds a result to the file. If it has a disk outside the file system's profile, it also
-        writes the session's trace to DIR, as FILESYSTEM-SEED.trace."""
+        writes the session's trace to DIR, as FILESYSTEM-SEED-OPERATIONS.trace."""
         with self.path.open('a', encoding='utf-8') as file:
             file.write(json.dumps(result.fields()) + '\n')
         if result.outside:
-            trace = session(result.seed, self.words.operations)
-            name = f'{result.filesystem}-{result.seed}.trace'
+            trace = session(result.seed, result.operations)
+            name = f'{result.filesystem}-{result.seed}-{result.operations}.trace'
             (self.words.dir / name).write_text(trace_text(trace), 'utf-8')
 
 
