@@ -8,6 +8,7 @@ import time
 from typing import Iterator, List
 
 from crashfs_tools.checker.findings.groups import Group
+from crashfs_tools.checker.findings.second_crashes import SecondCrash
 from crashfs_tools.common.printable import printable
 from crashfs_tools.common.trace_lines import SYNCS, TraceLine
 from crashfs_tools.common.command import version_text
@@ -15,7 +16,7 @@ from crashfs_tools.common.command import version_text
 from .page_parts import SCRIPT, STYLE
 from .json_text import COMPACT, as_json
 from .report import CheckReport
-from .text import ReportText
+from .text import ReportText, accepted_text
 
 # Of a long session, so many lines are shown before and after each one that is named.
 NEAR = 20
@@ -24,23 +25,25 @@ DRAWN = 8
 
 
 def page(report: CheckReport) -> Iterator[str]:
-    """The text of the file of --html, in pieces. It has the entries and the states of the first
-    crash only: nothing of second crashes, of what was cut off, or of all advised syncs at once. Of
-    a session in many windows it draws DRAWN."""
+    """The text of the file of --html, in pieces. It draws the states of the first crash only, and
+    has nothing of what was cut off, or of all advised syncs at once. Of a session in many windows
+    it draws DRAWN."""
     title = shown_text(report.head.trace)
+    text = ReportText(report)
     yield (
         f'<!DOCTYPE html>\n<html lang="en"><head><meta charset="utf-8">'
         '<meta name="viewport" content="width=device-width">\n'
         f'<title>{title}</title>\n<style>{STYLE}</style></head>\n<body>\n<h1>{title}</h1>\n'
     )
-    for line in ReportText(report).first_lines():
+    for line in [*text.first_lines(), *text.recovery_counts()]:
         yield f'<p class="summary">{shown_text(line)}</p>\n'
     yield about_line(report)
     groups = sorted(report.groups(), key=lambda group: group.accepted is not None)
     for group in groups:
         yield from entry_lines(report, group)
-    for line in ReportText(report).not_found_lines():
+    for line in text.not_found_lines():
         yield f'<p>{shown_text(line.strip())}</p>\n'
+    yield from recovery_section(report)
     yield from disk_section(report)
     for line in report.not_done:
         yield f'<p>{shown_text(line)}</p>\n'
@@ -92,6 +95,35 @@ def entry_lines(report: CheckReport, group: Group) -> Iterator[str]:
     if group.outcome.output:
         yield f'<pre>{shown_text(group.outcome.output)}</pre>\n'
     yield '</section>\n'
+
+
+def recovery_section(report: CheckReport) -> Iterator[str]:
+    """A section with the entries of second crashes, and the recoveries in which none was tried;
+    nothing if there are neither."""
+    text, entries = ReportText(report), report.recovery_groups()
+    not_tried = text.not_tried_lines()
+    if not entries and not not_tried:
+        return
+    yield '<section><h2>A crash during the recovery</h2>\n'
+    for group, second in entries:
+        yield from second_crash_lines(text, group, second)
+    for line in not_tried:
+        yield f'<p>{shown_text(line.strip())}</p>\n'
+    yield '</section>\n'
+
+
+def second_crash_lines(text: ReportText, group: Group, second: SecondCrash) -> Iterator[str]:
+    """An entry of second crashes as HTML: its cause, why it is accepted if it is, its two crashes,
+    the advice, and the end of what COMMAND printed."""
+    states = text.states_text(group, f'{second.state}/')
+    yield f'<h3>{shown_text(group.cause)}</h3>\n<p>{shown_text(states)}</p>\n<ul>\n'
+    if group.accepted is not None:
+        yield f'<li>accepted {shown_text(accepted_text(group.accepted))}</li>\n'
+    for line in text.second_crash_details(group, second):
+        yield f'<li>{shown_text(line)}</li>\n'
+    yield '</ul>\n'
+    if group.outcome.output:
+        yield f'<pre>{shown_text(group.outcome.output)}</pre>\n'
 
 
 def disk_section(report: CheckReport) -> Iterator[str]:

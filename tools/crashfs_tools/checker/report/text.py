@@ -157,6 +157,14 @@ class ReportText:
     def recovery_lines(self) -> List[str]:
         """What second crashes left, during the recovery from the first one; no line if no recovery
         was chosen for that."""
+        lines = [f'  {line}' for line in self.recovery_counts()]
+        for group, where in self.report.recovery_groups():
+            lines += self.group_lines(group, where)
+        return lines + self.not_tried_lines()
+
+    def recovery_counts(self) -> List[str]:
+        """A line that counts the states of second crashes and those that fail, and one if the
+        second reading computed some that crashfs should have; no line if no recovery was chosen."""
         if not self.report.recoveries:
             return []
         tried = [one for one in self.report.recoveries if not one.fault]
@@ -164,15 +172,13 @@ class ReportText:
         how_many = f'{failing:,} {fails(failing)}' if failing else 'none fails'
         states = number_of(sum(one.states for one in tried), 'different state')
         recoveries = number_of(len(tried), 'recovery', 'recoveries')
-        lines = [f'  {recoveries}: {states} of a second crash, {how_many}']
+        lines = [f'{recoveries}: {states} of a second crash, {how_many}']
         unproved = sum(one.unproved for one in tried)
         if unproved and not self.head.unproved:
             lines.append(
-                f'  unproved: the Python implementation computed the states of {unproved} of these'
+                f'unproved: the Python implementation computed the states of {unproved} of these'
             )
-        for group, where in self.report.recovery_groups():
-            lines += self.group_lines(group, where)
-        return lines + self.not_tried_lines()
+        return lines
 
     def not_tried_lines(self) -> List[str]:
         """A line for each recovery in which no second crash was tried, with the reason."""
