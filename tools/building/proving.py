@@ -84,12 +84,15 @@ def error_text(error: Exception) -> str:
     return shortened(printable(f'{type(error).__name__}: {error}'))
 
 
-def build_program(work: Work, begun: float) -> int:
-    """Builds the program in the repository itself, over libraries that are all proved, which it
-    copies there first. Returns the status: 0, or 1 if it isn't built; what `rt` printed is printed
-    then."""
+def keep_libraries(work: Work) -> None:
+    """Copies each library that is proved to the repository itself; OSError if one can't be."""
     for name, place in work.places.items():
         give_library(place, TOP, name)
+
+
+def build_program(begun: float) -> int:
+    """Builds the program in the repository itself, which has all libraries. Returns the status: 0,
+    or 1 if it isn't built; what `rt` printed is printed then."""
     words = ['rt', 'run', '--jobs', '1', '--', '--help']
     check = run_check(words, TOP / 'crates' / PROGRAM)
     if check.status:

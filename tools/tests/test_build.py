@@ -19,7 +19,7 @@ from unittest import mock
 from building import checks, main, order, proving
 from building.checks import Check, memory_of_machine, killed_text, run_check
 from building.order import MANY_BELOW, Work, libraries, line_count
-from building.proving import build_program, is_library_current, prove_in
+from building.proving import build_program, is_library_current, keep_libraries, prove_in
 from building.sharing import give_library
 
 from .support import PATIENCE
@@ -176,9 +176,41 @@ class Sharing(unittest.TestCase):
             prove_in(self.room / '2', work, 0)
             self.assertEqual((self.given('2', 'a'), self.given('2', 'b')), ('a', 'b'))
             with mock.patch.object(proving, 'TOP', self.room / 'top'):
-                build_program(work, 0)
+                keep_libraries(work)
         self.assertEqual([self.given('top', it) for it in 'abcd'], list('abcd'))
         self.assertEqual(work.places['e'], self.room / '2')
+
+    def build(self, refused: str) -> int:
+        """A build whose crates a to e are all proved in the copy 1, but for those of `refused`."""
+
+        def check(words: List[str], crate: Path) -> Check:
+            if crate.name in refused:
+                return Check(1, b'', 1)
+            if words[1] == 'lib':
+                self.prove('1', crate.name, crate.name)
+            return Check(0, b'', 1)
+
+        top, copy = self.room / 'top', self.room / '1'
+        with mock.patch.object(main, 'libraries', return_value=BELOW), mock.patch.object(
+            main, 'chain_lengths', return_value=CHAINS
+        ), mock.patch.object(main, 'TOP', top), mock.patch.object(
+            proving, 'TOP', top
+        ), mock.patch.object(
+            main, 'prove_in', lambda _, work, begun: prove_in(copy, work, begun)
+        ), mock.patch.object(
+            proving, 'run_check', check
+        ), redirect_stdout(
+            io.StringIO()
+        ):
+            return main.build_all(1)
+
+    def test_what_is_proved_is_kept_whether_or_not_all_is(self) -> None:
+        with redirect_stderr(io.TextIOWrapper(io.BytesIO(), 'utf-8')):
+            self.assertEqual(self.build('e'), 1)
+        self.assertEqual([self.given('top', it) for it in 'ab'], ['a', 'b'])
+        self.assertFalse(self.library('top', 'e').exists())
+        self.assertEqual(self.build(''), 0)
+        self.assertEqual([self.given('top', it) for it in 'abcde'], list('abcde'))
 
 
 # A check that takes so much memory, and then ends as its last word says.
@@ -260,7 +292,7 @@ class Reports(unittest.TestCase):
             out
         ), redirect_stderr(err):
             if work is None:
-                self.status = build_program(Work(BELOW, CHAINS, 4), 0)
+                self.status = build_program(0)
             else:
                 prove_in(Path('/'), work, 0)
         err.flush()
