@@ -38,6 +38,8 @@ class Files(InFolder):
             ('[{"why": "b"}]', 'entry 1 does not say its cause'),
             ('[{"cause": "a", "why": "b", "untill": "x"}]', 'unknown key: untill'),
             ('[{"cause": "a", "why": "b", "until": "soon"}]', 'until is no date'),
+            ('[{"cause": "a", "why": "b", "until": "20270131"}]', 'until is no date'),
+            ('[{"cause": "a", "why": "b", "until": "2027-W04-7"}]', 'until is no date'),
         ):
             with self.assertRaisesRegex(Refused, fault):
                 self.read_failures(text)

@@ -106,10 +106,16 @@ def entry_of(path: str, place: int, value: Any) -> AcceptedFailure:
 def date_of(where: str, text: str) -> Optional[datetime.date]:
     """The date of a text such as 2027-01-31; None for an empty text. Refused for any other text, in
     a line that begins with `where`."""
+    if not text:
+        return None
     try:
-        return datetime.date.fromisoformat(text) if text else None
-    except ValueError as error:
-        raise Refused(f'{where}: until is no date such as 2027-01-31: {text}') from error
+        date: Optional[datetime.date] = datetime.date.fromisoformat(text)
+    except ValueError:
+        date = None
+    # Since Python 3.11 other forms are dates too, such as 20270131.
+    if date is None or date.isoformat() != text:
+        raise Refused(f'{where}: until is no date such as 2027-01-31: {text}')
+    return date
 
 
 def operation_text(line: Optional[TraceLine]) -> str:
