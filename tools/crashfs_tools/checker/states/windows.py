@@ -164,22 +164,24 @@ class Windows:
 
     def has_few_states(self, steps: Steps, end: int) -> bool:
         """Whether the part up to a step has few enough different crash states for all of them to be
-        tried. The trace that is written for the question is removed."""
+        tried. The trace that is written for the question is removed, also if it is refused."""
         path = os.path.join(self.planner.guard.directory, 'shorter.trace')
         write_text(path, steps.trace_until(end)[0])
-        has_few = self.planner.has_few_states(path)
-        os.unlink(path)
-        return has_few
+        try:
+            return self.planner.has_few_states(path)
+        finally:
+            os.unlink(path)
 
     def needs_with_probe(self, path: str, text: str) -> Sequence[int]:
         """The set that each micro-operation of a trace needs, by the program, and last that of one
         more at the end, which changes a file of its own: it needs what is durable then, and no
         other change. The trace with it is written to `path`, and removed. Refused or TooLarge if
-        the program refuses it."""
+        the program refuses it; it is removed then too."""
         write_text(path, with_probe(text))
-        needs = self.planner.prefix_plan(path).needs.masks
-        os.unlink(path)
-        return needs
+        try:
+            return self.planner.prefix_plan(path).needs.masks
+        finally:
+            os.unlink(path)
 
     def fitting_count(self, needs: Sequence[int]) -> int:
         """How many of the first micro-operations fit in one plan, with their prefixes, their holes,
