@@ -31,6 +31,7 @@ class Files(InFolder):
     def test_a_file_that_says_too_little_or_something_else_is_refused(self) -> None:
         for text, fault in (
             ('[', 'no JSON'),
+            ('[' * 200_000, 'no JSON'),
             ('{}', 'no list of entries'),
             ('[1]', 'entry 1 is no object of texts'),
             ('[{"cause": "a", "why": 1}]', 'entry 1 is no object of texts'),

@@ -59,7 +59,7 @@ class AcceptedFailures:
                 values = json.load(file)
         except OSError as error:
             raise Refused(f'--accept {path}: {error.strerror}') from error
-        except ValueError as error:
+        except (ValueError, RecursionError) as error:
             raise Refused(f'--accept {path}: no JSON ({error})') from error
         if not isinstance(values, list):
             raise Refused(f'--accept {path}: no list of entries')
