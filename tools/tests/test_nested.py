@@ -2,6 +2,7 @@
 
 import json
 import os
+import re
 import unittest
 from types import SimpleNamespace
 from unittest import mock
@@ -67,6 +68,17 @@ class Recoveries(InRecoveries):
         self.assertEqual(
             f"--state {one['state']}/{one['groups'][0]['example']}", lines[2].partition('e.g. ')[2]
         )
+
+    def test_the_first_failure_of_a_second_crash_ends_a_check_by_fail_fast(self):
+        ran = self.nested('--nested', '4', '--fail-fast')
+        self.assertEqual((ran.returncode, ran.stderr), (1, ''))
+        lines = ran.stdout.splitlines()
+        self.assertRegex(lines[0], ': none fails$')
+        (tried,) = re.findall('(?m)^  (1|2|3) recover.* of a second crash, 1 fails$', ran.stdout)
+        (rest,) = re.findall(
+            '(?m)^  --nested: (.) of 4 not tried .stopped by the first', ran.stdout
+        )
+        self.assertEqual(int(tried) + int(rest), 4)
 
     def test_a_recovery_that_syncs_first_is_safe(self):
         ran = self.nested('--nested', '2', sync='sync table;')

@@ -148,7 +148,8 @@ class Check:
     def check_windows(self) -> None:
         """Checks window after window: tries its states, finds smallest losses, runs examples again,
         and adds details. --fail-fast ends it after a window with a failure, before the details,
-        unless all states of the last window were tried. Any other early end is an exception."""
+        unless all states of the last window were tried; and after a second crash with a failure.
+        Any other early end is an exception."""
         for planned in self.trace.all_planned():
             trials = Trials(self.trace.workplace, planned, keeps_trees=True)
             is_whole = self.try_window(trials)
@@ -161,6 +162,8 @@ class Check:
                 self.note_end(FIRST_FAILURE)
                 return
             self.add_details(trials, window.findings)
+            if self.end_cause:
+                return
 
     def try_window(self, trials: Trials) -> bool:
         """Tries the states of a window, and returns whether each that was chosen has an outcome.
@@ -278,11 +281,20 @@ class Check:
             add_details(trials, self.trace.planner.for_copies(trials.plan), findings)
             self.report.replace_last(findings)
         if self.options.nested:
-            self.report.recoveries += self.nested.run(trials, findings)
-        if self.options.disks is not None:
+            self.add_recoveries(trials, findings)
+        if self.options.disks is not None and not self.end_cause:
             from crashfs_tools.checker.findings.disk_search import sightings_of
 
             self.report.sightings = sightings_of(trials, findings.by_state)
+
+    def add_recoveries(self, trials: Trials, findings: Findings) -> None:
+        """Adds to the report what second crashes of a window leave. With --fail-fast the first
+        recovery in which one fails is the last, and ends the check."""
+        for recovery in self.nested.run(trials, findings):
+            self.report.recoveries.append(recovery)
+            if self.options.fail_fast and recovery.failing:
+                self.note_end(FIRST_FAILURE)
+                return
 
     @cached_property
     def nested(self) -> Nested:
