@@ -250,11 +250,11 @@ class Traces(unittest.TestCase):
             (4, Rename('/', '/a')),
             (4, Rename('/d', '/')),
         ]:
-            for directories in ([], ['/d']):
+            for is_empty in (True, False):
                 tree = Tree('u', 'u', 0o755, version=version)
-                for path in directories:
-                    tree.add_start(Start(path, 'u', 'u', 0o755, None))
-                with self.subTest(version=version, operation=operation, directories=directories):
+                if not is_empty:
+                    tree.add_start(Start('/d', 'u', 'u', 0o755, None))
+                with self.subTest(version=version, operation=operation, is_empty=is_empty):
                     self.assertIsNotNone(tree.fault(operation))
         for root in ('{"op":"rmdir","path":"/"}', '{"op":"rename","from":"/","to":"/a"}'):
             with self.assertRaisesRegex(ValueError, '^line 2: / is the root$'):
