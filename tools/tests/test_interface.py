@@ -4,6 +4,7 @@ from __future__ import annotations
 
 import json
 import os
+import re
 import time
 import unittest
 from pathlib import Path
@@ -22,6 +23,8 @@ SENTENCE = (
     'line 6 (rename /config.new to /config) was not durable when line 7 acknowledged "version 1 is '
     'saved":'
 )
+
+DRAWINGS = re.compile(r'const windows = (\[\{.*\]);')
 
 RIGHTS = '"owner":"u","group":"u","mode":"755"'
 TWO_FILES = (
@@ -155,7 +158,8 @@ class Checks(InterfaceCase):
             os.waitpid(child, 0)
 
     def test_files_of_a_report_are_those_of_the_command(self) -> None:
-        report = check(CONFIG, lost_version)
+        command = str(EXAMPLES / 'config' / 'check.sh')
+        report = check(CONFIG, [command])
         report.write_json(self.path('r.json'))
         report.write_junit(self.path('r.xml'))
         report.write_tap(self.path('r.tap'))
@@ -164,9 +168,15 @@ class Checks(InterfaceCase):
         self.assertEqual(fields['groups'][0]['text'][0], SENTENCE)
         self.assertIn('<failure', self.read('r.xml'))
         self.assertIn(f'\n#   {SENTENCE}\n', self.read('r.tap'))
-        self.assertIn(
-            '<canvas' if '<canvas' in self.read('r.html') else '<h2>', self.read('r.html')
-        )
+        words = ('--json', 'c.json', '--html', 'c.html', str(CONFIG), '--', command)
+        self.run_tool('crashfs-check', *words)
+        self.assertEqual(fields, json.loads(self.read('c.json')))
+        drawings = [DRAWINGS.findall(self.read(name)) for name in ('r.html', 'c.html')]
+        self.assertTrue(drawings[0])
+        self.assertEqual(*drawings)
+        merged = self.run_tool('crashfs-check', str(CONFIG), '--merge', 'r.json')
+        self.assertEqual(merged.returncode, 1, merged.stderr)
+        self.assertIn('12 fail: 12 lost\n', merged.stdout)
 
     def test_bad_input_is_refused(self) -> None:
         for words in (['/nowhere/command'], ['true']):

@@ -50,11 +50,11 @@ def check(
     the report has what was tried. Refused is raised for bad input, and if the recovery fails though
     nothing is lost. Any other fault is raised too, and then there is no report."""
     options = Options(os.fspath(trace), every=every, families=families, prefixes=prefixes)
-    options.quick, options.profile = quick, profile
-    options.crashfs, options.unproved = path_of(crashfs), unproved
+    options.quick, options.profile, options.unproved = quick, profile, unproved
     options.jobs, options.nested, options.fail_fast = jobs or processors(), nested, fail_fast
     options.time_limit, options.timeout = time_limit, timeout
-    options.accept, options.cache = path_of(accept), path_of(cache)
+    options.crashfs, options.accept, options.cache = map(path_of, (crashfs, accept, cache))
+    options.json = options.html = '-'  # The report keeps what they need; nothing is written.
     set_recovery(options, recovery)
     with Guard(NAME, may_reap=False) as guard:
         checked = check_trace(options, guard, Progress(io.StringIO()), has_states=True)

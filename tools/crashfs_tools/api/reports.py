@@ -116,9 +116,8 @@ class Report:
         return '\n'.join(self.lines)
 
     def write_json(self, path: PathLike) -> None:
-        """Writes the entries for other tools, in the format of --json. The outcomes of the states,
-        which that file has as `windows`, aren't kept: --merge and --resume refuse it. An OSError if
-        it can't be written: then the file is as it was."""
+        """Writes the file of --json, for other tools, --merge and --resume. An OSError if it can't
+        be written: then the file is as it was."""
         from crashfs_tools.checker.report.json_report import json_pieces
 
         self._write(path, json_pieces)
@@ -136,8 +135,7 @@ class Report:
         self._write(path, tap_lines)
 
     def write_html(self, path: PathLike) -> None:
-        """Writes the report as a page for a browser, without the drawing that --html has. It raises
-        what write_json() does."""
+        """Writes the report as a page for a browser. It raises what write_json() does."""
         from crashfs_tools.checker.report.page import page
 
         self._write(path, page)
