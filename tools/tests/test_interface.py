@@ -208,6 +208,11 @@ class States(InterfaceCase):
         self.assertEqual(len(failing), report.entries[0].count)
         self.assert_nothing_left()
 
+    def test_a_trace_that_can_not_be_read_is_refused(self) -> None:
+        for path, why in ((self.path('no.trace'), 'No such file'), (self.folder, 'is no file')):
+            with self.assertRaisesRegex(Refused, why):
+                next(states(path))
+
     def test_a_loop_may_be_left_and_states_kept(self) -> None:
         kept = [state for _, state in zip(range(3), states(STORE))]
         with kept[1].laid_out() as directory:

@@ -10,6 +10,7 @@ from pathlib import Path
 from typing import Dict, Iterator, List, Optional
 
 from crashfs_tools.checker.checked_trace import CheckedTrace
+from crashfs_tools.checker.checking import refuse_unreadable
 from crashfs_tools.checker.options import NAME, Options
 from crashfs_tools.checker.running.results import Results, known_states
 from crashfs_tools.checker.states.layout import lay_out
@@ -70,11 +71,12 @@ def states(
 ) -> Iterator[CrashState]:
     """Yields each different crash state of a trace: those that crashfs-check lists by these
     options, also if it would try only some of them to save time. Nothing is read, and nothing
-    raised, before the first state is asked for. Then Refused for a trace with a fault, but an
-    OSError if it can't be read."""
+    raised, before the first state is asked for. Then Refused for a trace that can't be read or has
+    a fault."""
     options = Options(os.fspath(trace), every=every, families=families, prefixes=prefixes)
     options.quick, options.profile = quick, profile
     options.crashfs, options.unproved = path_of(crashfs), unproved
+    refuse_unreadable(os.fspath(trace))
     program = Crashfs.program_or_reading(options.crashfs, unproved)
     with Guard(NAME, may_reap=False) as guard:
         checked = CheckedTrace(options, program, guard)
