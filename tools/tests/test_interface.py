@@ -5,6 +5,8 @@ from __future__ import annotations
 import json
 import os
 import re
+import subprocess
+import sys
 import time
 import unittest
 from pathlib import Path
@@ -25,6 +27,17 @@ SENTENCE = (
 )
 
 DRAWINGS = re.compile(r'const windows = (\[\{.*\]);')
+# Prints whether the recording is complete.
+SCRIPT = '''
+from crashfs_tools import record
+
+def session(directory, acknowledge):
+    (directory / 'a').write_text('x')
+    acknowledge('said')
+
+if __name__ == '__main__':
+    print(record('store', session, 's.trace').is_complete)
+'''
 
 RIGHTS = '"owner":"u","group":"u","mode":"755"'
 TWO_FILES = (
@@ -262,6 +275,26 @@ class Records(InterfaceCase):
             record(self.path('nowhere'), ['true'], self.path('t.trace'))
         with self.assertRaisesRegex(Refused, 'no function of a module'):
             record(self.path('store'), lambda directory, acknowledge: None, self.path('t.trace'))
+
+    def test_a_function_of_a_script_is_recorded(self) -> None:
+        os.mkdir(self.path('store'))
+        self.write('script.py', SCRIPT)
+        ran = self.run_python('script.py')
+        self.assertEqual((ran.stdout, ran.returncode), ('True\n', 0), ran.stderr)
+        self.assertIn('"said"', self.read('s.trace'))
+
+    def test_a_function_without_a_file_is_refused_before_anything_begins(self) -> None:
+        os.mkdir(self.path('store'))
+        ran = self.run_python('-c', SCRIPT)
+        self.assertIn('Refused: session was not read from a file', ran.stderr)
+        self.assertFalse(os.path.exists(self.path('s.trace')))
+
+    def run_python(self, *words: str) -> 'subprocess.CompletedProcess[str]':
+        path = {**os.environ, 'PYTHONPATH': str(TOOLS)}
+        line = [sys.executable, *words]
+        return subprocess.run(
+            line, cwd=self.folder, env=path, capture_output=True, text=True, check=False
+        )
 
     def test_a_session_that_raises_is_reported(self) -> None:
         os.mkdir(self.path('store'))

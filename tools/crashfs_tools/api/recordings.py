@@ -66,9 +66,10 @@ def record(
 ) -> Recording:
     """Runs a session in a directory under strace, and writes what it does as a trace.
 
-    session is a list of words, whose standard output is acknowledged, or a function of a module. A
-    new Python calls the function with the directory and a function that acknowledges a line; what
-    it prints is not acknowledged. The content of the directory before it is the start tree.
+    session is a list of words, whose standard output is acknowledged, or a function of a module or
+    a script. A new Python, which imports that, calls the function with the directory and a function
+    that acknowledges a line; what it prints is not acknowledged. The content of the directory
+    before it is the start tree.
 
     The options are those of crashfs-record, and acknowledged is its --say-fd. environment is that
     of the session; None is that of this process. Refused is raised if no trace is written, or a
@@ -81,11 +82,9 @@ def record(
     words += ['--profile', profile] if profile is not None else []
     words += ['--block', str(block)] if block is not None else []
     words += [word for name in acknowledged for word in ('--say-fd', name)]
-    command = list(session) if isinstance(session, Sequence) else command_of(session)
     words += [] if isinstance(session, Sequence) else ['--say-fd', str(LINES)]
-    return run_recorder(
-        [*words, os.fspath(directory), os.fspath(trace), '--', *command], environment
-    )
+    words += [os.fspath(directory), os.fspath(trace), '--', *command_of(session)]
+    return run_recorder(words, environment)
 
 
 def run_recorder(words: List[str], environment: Optional[Mapping[str, str]]) -> Recording:
@@ -110,13 +109,18 @@ def run_recorder(words: List[str], environment: Optional[Mapping[str, str]]) -> 
     return Recording(trace, ran.returncode != INCOMPLETE, messages)
 
 
-def command_of(session: SessionOf) -> List[str]:
-    """The command that calls a function in a new Python, with the descriptor LINES for acknowledged
-    lines. Refused for a lambda and a function inside another one, which a new Python can't find by
-    file and name."""
+def command_of(session: Union[SessionOf, Sequence[str]]) -> List[str]:
+    """A session as a command: its words. For a function, one that calls it
+    in a new Python, with the descriptor LINES for acknowledged lines. Refused for a lambda, a
+    function inside another one, and one of `python -c` or of an interactive Python: a new Python
+    can't find these by file and name."""
+    if isinstance(session, Sequence):
+        return list(session)
     path, name = inspect.getsourcefile(session), session.__qualname__
     module = session.__module__
     if path is None or '<' in name:
         raise Refused(f'{name} is no function of a module: a new Python can not call it')
+    if module == '__main__' and not os.path.isfile(path):
+        raise Refused(f'{name} was not read from a file: a new Python can not call it')
     python = [sys.executable, '-c', START, os.path.abspath(path), module, name, *sys.path]
     return ['sh', '-c', WITH_LINES, 'sh', *python]

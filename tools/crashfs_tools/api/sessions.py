@@ -32,11 +32,13 @@ def main(arguments: List[str]) -> None:
 
 def module_of(path: str, name: str) -> object:
     """The module of a file, imported: by its name if that finds this very file, else from the file,
-    as a module without a package. What the import raises is passed on. A script that runs as
-    `__main__` is an AttributeError."""
+    as a module without a package. So is a script that ran as `__main__`: here it has the name of
+    its file. What the import raises is passed on."""
     try:
         module = importlib.import_module(name)
-        if os.path.realpath(module.__file__ or '') == os.path.realpath(path):
+        # The `__main__` of this Python has no file.
+        found = getattr(module, '__file__', None) or ''
+        if os.path.realpath(found) == os.path.realpath(path):
             return module
     except ModuleNotFoundError:
         pass
