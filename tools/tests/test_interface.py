@@ -276,6 +276,12 @@ class Records(InterfaceCase):
         with self.assertRaisesRegex(Refused, 'no function of a module'):
             record(self.path('store'), lambda directory, acknowledge: None, self.path('t.trace'))
 
+    def test_a_text_is_one_program(self) -> None:
+        os.mkdir(self.path('store'))
+        program = self.write('session.sh', '#!/bin/sh\necho a > a\necho said\n', 0o755)
+        recording = record(self.path('store'), program, self.path('s.trace'))
+        self.assertTrue(recording.is_complete, recording.messages)
+
     def test_a_function_of_a_script_is_recorded(self) -> None:
         os.mkdir(self.path('store'))
         self.write('script.py', SCRIPT)

@@ -66,10 +66,10 @@ def record(
 ) -> Recording:
     """Runs a session in a directory under strace, and writes what it does as a trace.
 
-    session is a list of words, whose standard output is acknowledged, or a function of a module or
-    a script. A new Python, which imports that, calls the function with the directory and a function
-    that acknowledges a line; what it prints is not acknowledged. The content of the directory
-    before it is the start tree.
+    session is a list of words, or a text that is one program, whose standard output is
+    acknowledged; or a function of a module or a script. A new Python, which imports that, calls the
+    function with the directory and a function that acknowledges a line; what it prints is not
+    acknowledged. The content of the directory before it is the start tree.
 
     The options are those of crashfs-record, and acknowledged is its --say-fd. environment is that
     of the session; None is that of this process. Refused is raised if no trace is written, or a
@@ -110,12 +110,12 @@ def run_recorder(words: List[str], environment: Optional[Mapping[str, str]]) -> 
 
 
 def command_of(session: Union[SessionOf, Sequence[str]]) -> List[str]:
-    """A session as a command: its words. For a function, one that calls it
+    """A session as a command: its words, of which a text is one. For a function, one that calls it
     in a new Python, with the descriptor LINES for acknowledged lines. Refused for a lambda, a
     function inside another one, and one of `python -c` or of an interactive Python: a new Python
     can't find these by file and name."""
     if isinstance(session, Sequence):
-        return list(session)
+        return [session] if isinstance(session, str) else list(session)
     path, name = inspect.getsourcefile(session), session.__qualname__
     module = session.__module__
     if path is None or '<' in name:
