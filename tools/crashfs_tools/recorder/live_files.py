@@ -213,16 +213,17 @@ class LiveFiles:
 
     def open_file_of_path(self, process: Process, word: str) -> Optional[OpenFile]:
         """The open file that a path such as /proc/self/fd/3 or /dev/stdout means. None for any
-        other path, and if the descriptor isn't followed. In /proc/PID/fd a process that isn't known
-        counts as the calling one."""
+        other path, if the descriptor isn't followed, and in /proc/PID/fd of a process that isn't
+        known."""
         path = arguments.path_of_text(word) or ''
         if path in STANDARD_NAMES:
             return process.descriptors.files.get(STANDARD_NAMES[path])
         match = BY_DESCRIPTOR.match(path)
         if not match:
             return None
-        of = self.processes.get(int(match[1]), process) if (match[1] or '').isdigit() else process
-        return of.descriptors.files.get(int(match[2]))
+        is_of_number = (match[1] or '').isdigit()
+        owner = self.processes.get(int(match[1])) if is_of_number else process
+        return owner.descriptors.files.get(int(match[2])) if owner else None
 
     def open_file(self, process: Process, call: Call, place: int = 0) -> Optional[OpenFile]:
         """The open file of the descriptor at a place; None if it isn't followed. If strace shows a
