@@ -143,6 +143,18 @@ class Reports(InFolder):
         self.assertEqual(ran.returncode, 1)
         self.assertEqual(self.read('r.tap').count('\nnot ok '), 1)
 
+    def test_an_entry_of_a_later_window_counts_though_its_states_were_tried_before(self) -> None:
+        """States 15, 17 and 20 are equal to state 4 of the window before, and have another pair."""
+        entry = {'cause': 'lost a', 'lost': 'mkdir /tmp', 'kept': 'say', 'why': 'a reason'}
+        path = self.write('known.json', json.dumps([entry]))
+        script = 'case $CRASHFS_STATE in 4|15|17|20) echo lost a; exit 1; esac'
+        words = str(EXAMPLES / 'store.trace'), '--', 'sh', '-c', script
+        options = '--unproved', '--window', '6', '--accept', path, '--tap', 'r.tap'
+        ran = self.run_tool('crashfs-check', *options, *words)
+        self.assertEqual(ran.returncode, 1, ran.stdout)
+        self.assertIn('accepted: lost a ', ran.stdout)
+        self.assertEqual(self.read('r.tap').count('\nnot ok '), 1)
+
     def test_a_merged_report_has_them(self) -> None:
         trace, command = str(CONFIG / 'config.trace'), str(CONFIG / 'check.sh')
         for part in ('1', '2'):

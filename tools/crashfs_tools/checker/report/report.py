@@ -19,7 +19,7 @@ from crashfs_tools.checker.running.results import Head
 from crashfs_tools.checker.running.runner import BAD, NO_ANSWER, Outcome
 from crashfs_tools.checker.states.plan import State
 
-from .counts import StateCounts, states_of_accepted
+from .counts import StateCounts
 from .json_text import COMPACT, as_json, packed
 
 if TYPE_CHECKING:
@@ -160,15 +160,13 @@ class CheckReport:
 
     @property
     def status(self) -> int:
-        """The exit status: NOT_ALL_TRIED if a state gave no answer, else SOME_FAIL if something
-        fails that isn't accepted, on disks and in second crashes too, else NOT_ALL_TRIED if
-        is_whole is False, else NONE_FAILS."""
+        """The exit status: NOT_ALL_TRIED if a state gave no answer, else SOME_FAIL if a group isn't
+        accepted, also one of second crashes, or something fails on disks only, else NOT_ALL_TRIED
+        if is_whole is False, else NONE_FAILS."""
         if self.counts.results[NO_ANSWER]:
             return NOT_ALL_TRIED
-        further = self.disk_failures()
-        failing = self.counts.failing - states_of_accepted(self.groups()).total
-        second = any(group.accepted is None for group, _ in self.recovery_groups())
-        if failing or further or second:
+        groups = [*self.groups(), *(group for group, _ in self.recovery_groups())]
+        if self.disk_failures() or any(group.accepted is None for group in groups):
             return SOME_FAIL
         return NONE_FAILS if self.is_whole else NOT_ALL_TRIED
 
